@@ -1,0 +1,31 @@
+//! Names: of sessions, and of the leaves of a policy.
+use crate::list::{Duplicate, List};
+
+/// Whose outbox or session: a member or a switch by its number in the policy, or the audit.
+#[derive(Clone, Copy, PartialEq, Eq, Debug)]
+pub enum Who {
+    Member(u32),
+    Switch(u32),
+    Audit,
+}
+
+/// One round of a member or a switch, from its coming up to its end. The audit's round is 0.
+#[derive(Clone, Copy, PartialEq, Eq, Debug)]
+pub struct Session {
+    pub who: Who,
+    pub round: u64,
+}
+
+/// A leaf of a composed rule: a member, and of its table 0 for what lies outside its grant, 1 for
+/// a miss, or 2 and the serial number of an entry.
+#[derive(Clone, Copy, PartialEq, Eq, PartialOrd, Ord, Debug)]
+pub struct Leaf {
+    pub member: u32,
+    pub kind: u64,
+}
+
+/// What is made of leaves.
+pub trait Named: Duplicate {
+    /// The leaves that it was made of, in the order of the policy's expression.
+    fn ancestry(&self) -> &List<Leaf>;
+}
