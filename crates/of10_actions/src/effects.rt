@@ -1,0 +1,48 @@
+//! What a list of actions does: outs in order, and at most one tail.
+use crate::rewrite::Rewrite;
+use cv_io::List;
+
+/// Where an out goes.
+#[derive(Clone, Copy, PartialEq, Eq, Debug)]
+pub enum Dest {
+    /// A port of a virtual switch, which emits nothing where the packet came in by it.
+    Port { v: u32, port: u16 },
+    /// The same, of FLOOD or ALL.
+    Flood { v: u32, port: u16 },
+    /// The port by which the packet came.
+    Ingress,
+    /// The member's controller, with the reason of its PACKET_IN.
+    Tell { member: u32, reason: u8 },
+}
+
+/// A packet that leaves, with the rewrite in force.
+#[derive(PartialEq, Eq, Debug, Drop)]
+pub struct Out {
+    pub rewrite: Rewrite,
+    pub dest: Dest,
+}
+
+/// How a list of actions ends.
+#[derive(PartialEq, Eq, Debug, Drop)]
+pub enum Tail {
+    Nothing,
+    /// Goes on to the right operand of `>>`.
+    Pass(Rewrite),
+    /// Goes on at the peer of this link port.
+    Link(Rewrite, u16),
+}
+
+/// What a list of actions does.
+#[derive(PartialEq, Eq, Debug, Drop)]
+pub struct Effects {
+    pub outs: List<Out>,
+    pub tail: Tail,
+}
+
+/// The visible ports of a member at its virtual switch, in rising order.
+#[derive(PartialEq, Eq, Debug, Drop)]
+pub struct PortView {
+    pub v: u32,
+    pub outside: List<u16>,
+    pub links: List<u16>,
+}

@@ -1,0 +1,77 @@
+-- What a match holds, when two matches overlap, and what both hold.
+use Rattle.std.specs.Prelude.{ℕ, Bool, true, ◌==◌, ◌&&◌, ◌/◌, ◌^◌, ◌-◌, nat_le, Option, Some, None, if◌then◌else◌}
+use Rattle.std.specs.Option.{option_or}
+use Rattle.of10_match.specs.Fields.{HeaderOf, MatchOf}
+use Rattle.of10_match.specs.declared.header.Prefix.{Prefix}
+
+-- the first bits of an address
+abbrev pub top_bits : ℕ → ℕ → ℕ
+top_bits len addr = addr / 2 ^ (32 - len)
+
+abbrev pub fits : Option ℕ → ℕ → Bool
+fits None x = true
+fits (Some v) x = v == x
+
+abbrev pub fits_prefix : Option Prefix → ℕ → Bool
+fits_prefix None x = true
+fits_prefix (Some p) x = top_bits p.len p.addr == top_bits p.len x
+
+-- all twelve tests
+abbrev pub each : (a b c d e f g h i j k l : Bool) → Bool
+each a b c d e f g h i j k l = a && (b && (c && (d && (e && (f && (g && (h && (i && (j && (k && l))))))))))
+
+-- the match holds the header
+abbrev pub holds : MatchOf → HeaderOf → Bool
+holds m h =
+    each (fits m.in_port h.in_port) (fits m.dl_src h.dl_src) (fits m.dl_dst h.dl_dst) (fits m.dl_vlan h.dl_vlan) (fits m.dl_vlan_pcp h.dl_vlan_pcp) (fits m.dl_type h.dl_type) (fits m.nw_tos h.nw_tos) (fits m.nw_proto h.nw_proto) (fits_prefix m.nw_src h.nw_src) (fits_prefix m.nw_dst h.nw_dst) (fits m.tp_src h.tp_src) (fits m.tp_dst h.tp_dst)
+
+-- a field that both name has one value
+abbrev pub agree : Option ℕ → Option ℕ → Bool
+agree None y = true
+agree (Some v) None = true
+agree (Some v) (Some w) = v == w
+
+-- q leaves no more bits open than p
+abbrev pub is_longer : Prefix → Prefix → Bool
+is_longer q p = nat_le (32 - q.len) (32 - p.len)
+
+-- the longer of two prefixes begins with the shorter
+abbrev pub agree_prefix : Option Prefix → Option Prefix → Bool
+agree_prefix None y = true
+agree_prefix (Some p) None = true
+agree_prefix (Some p) (Some q) = if is_longer q p then (top_bits p.len p.addr == top_bits p.len q.addr) else (top_bits q.len p.addr == top_bits q.len q.addr)
+
+abbrev pub overlaps : MatchOf → MatchOf → Bool
+overlaps m n =
+    each (agree m.in_port n.in_port) (agree m.dl_src n.dl_src) (agree m.dl_dst n.dl_dst) (agree m.dl_vlan n.dl_vlan) (agree m.dl_vlan_pcp n.dl_vlan_pcp) (agree m.dl_type n.dl_type) (agree m.nw_tos n.nw_tos) (agree m.nw_proto n.nw_proto) (agree_prefix m.nw_src n.nw_src) (agree_prefix m.nw_dst n.nw_dst) (agree m.tp_src n.tp_src) (agree m.tp_dst n.tp_dst)
+
+abbrev pub either : Option ℕ → Option ℕ → Option ℕ
+either = option_or
+
+abbrev pub longer : Option Prefix → Option Prefix → Option Prefix
+longer None y = y
+longer (Some p) None = Some p
+longer (Some p) (Some q) = if is_longer q p then Some q else Some p
+
+-- the match that holds what both hold, where they overlap
+abbrev pub both : MatchOf → MatchOf → MatchOf
+both m n = record {
+  in_port = either m.in_port n.in_port;
+  dl_src = either m.dl_src n.dl_src;
+  dl_dst = either m.dl_dst n.dl_dst;
+  dl_vlan = either m.dl_vlan n.dl_vlan;
+  dl_vlan_pcp = either m.dl_vlan_pcp n.dl_vlan_pcp;
+  dl_type = either m.dl_type n.dl_type;
+  nw_tos = either m.nw_tos n.nw_tos;
+  nw_proto = either m.nw_proto n.nw_proto;
+  nw_src = longer m.nw_src n.nw_src;
+  nw_dst = longer m.nw_dst n.nw_dst;
+  tp_src = either m.tp_src n.tp_src;
+  tp_dst = either m.tp_dst n.tp_dst;
+}
+
+abbrev pub meet : MatchOf → MatchOf → Option MatchOf
+meet m n = if overlaps m n then Some (both m n) else None
+
+abbrev pub everything : MatchOf
+everything = record { in_port = None; dl_src = None; dl_dst = None; dl_vlan = None; dl_vlan_pcp = None; dl_type = None; nw_tos = None; nw_proto = None; nw_src = None; nw_dst = None; tp_src = None; tp_dst = None }

@@ -1,0 +1,44 @@
+-- From the fields of the structs to what contracts see, and back; the ranges of fields.
+use Rattle.std.specs.Prelude.{ℕ, ◌<◌, ◌≤◌, ◌^◌, ◌%◌, ◌-◌, ◌≡◌, IfSome, ◌⊎◌}
+use Rattle.of10_match.specs.Fields.{HeaderOf, MatchOf}
+use Rattle.of10_match.specs.declared.header.Prefix.{Prefix}
+use Rattle.of10_match.specs.declared.header.Header.TheInside as Header
+use Rattle.of10_match.specs.declared.header.Match.TheInside as Match
+
+abbrev pub header_view : Header.Inside → HeaderOf
+header_view a = record { in_port = a.in_port; dl_src = a.dl_src; dl_dst = a.dl_dst; dl_vlan = a.dl_vlan; dl_vlan_pcp = a.dl_vlan_pcp; dl_type = a.dl_type; nw_tos = a.nw_tos; nw_proto = a.nw_proto; nw_src = a.nw_src; nw_dst = a.nw_dst; tp_src = a.tp_src; tp_dst = a.tp_dst }
+
+abbrev pub header_inside : HeaderOf → Header.Inside
+header_inside a = record { in_port = a.in_port; dl_src = a.dl_src; dl_dst = a.dl_dst; dl_vlan = a.dl_vlan; dl_vlan_pcp = a.dl_vlan_pcp; dl_type = a.dl_type; nw_tos = a.nw_tos; nw_proto = a.nw_proto; nw_src = a.nw_src; nw_dst = a.nw_dst; tp_src = a.tp_src; tp_dst = a.tp_dst }
+
+abbrev pub match_view : Match.Inside → MatchOf
+match_view a = record { in_port = a.in_port; dl_src = a.dl_src; dl_dst = a.dl_dst; dl_vlan = a.dl_vlan; dl_vlan_pcp = a.dl_vlan_pcp; dl_type = a.dl_type; nw_tos = a.nw_tos; nw_proto = a.nw_proto; nw_src = a.nw_src; nw_dst = a.nw_dst; tp_src = a.tp_src; tp_dst = a.tp_dst }
+
+abbrev pub match_inside : MatchOf → Match.Inside
+match_inside a = record { in_port = a.in_port; dl_src = a.dl_src; dl_dst = a.dl_dst; dl_vlan = a.dl_vlan; dl_vlan_pcp = a.dl_vlan_pcp; dl_type = a.dl_type; nw_tos = a.nw_tos; nw_proto = a.nw_proto; nw_src = a.nw_src; nw_dst = a.nw_dst; tp_src = a.tp_src; tp_dst = a.tp_dst }
+
+-- a VLAN number, or 65535 for no tag
+abbrev pub IsVlan : ℕ → Type 0
+IsVlan v = (v < 4096) ⊎ (v ≡ 65535)
+
+-- the numbers of a header are in their ranges
+pub record HeaderInRange (a : Header.Inside) : Type 0 where
+  pub dl_src : a.dl_src < 2 ^ 48
+  pub dl_dst : a.dl_dst < 2 ^ 48
+  pub dl_vlan : IsVlan a.dl_vlan
+  pub dl_vlan_pcp : a.dl_vlan_pcp < 8
+  pub nw_tos : a.nw_tos % 4 ≡ 0
+
+-- 1 to 32 bits, and the further bits are zero
+abbrev pub IsPrefix : Prefix → Type 0
+IsPrefix p = (0 < p.len) × (p.len ≤ 32) × (p.addr % 2 ^ (32 - p.len) ≡ 0)
+
+-- the values of a match are in their ranges
+pub record MatchInRange (a : Match.Inside) : Type 0 where
+  pub dl_src : IfSome a.dl_src (λ v. v < 2 ^ 48)
+  pub dl_dst : IfSome a.dl_dst (λ v. v < 2 ^ 48)
+  pub dl_vlan : IfSome a.dl_vlan IsVlan
+  pub dl_vlan_pcp : IfSome a.dl_vlan_pcp (λ v. v < 8)
+  pub nw_tos : IfSome a.nw_tos (λ v. v % 4 ≡ 0)
+  pub nw_src : IfSome a.nw_src IsPrefix
+  pub nw_dst : IfSome a.nw_dst IsPrefix

@@ -1,0 +1,7 @@
+//! Headers of packets and matches of OpenFlow 1.0, and what a match holds (section 5.2.3 of the
+//! OpenFlow Switch Specification 1.0.0).
+#![tactic(auto)]
+
+pub mod header;
+
+pub use header::{Header, Match, Prefix};
