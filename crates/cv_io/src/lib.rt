@@ -2,12 +2,22 @@
 //! sessions and of the leaves of a policy, and the traits of the outside with their forms in memory.
 #![tactic(auto)]
 
+pub mod calls;
 pub mod leaf;
 pub mod list;
 pub mod memory;
+pub mod sink;
+pub mod source;
+pub mod standard;
+pub mod steps;
 pub mod text;
 
+pub use calls::Failed;
 pub use leaf::{Leaf, Named, Session, Who};
 pub use list::{Bytes, Duplicate, List};
 pub use memory::Memory;
+pub use sink::{MemSink, Sink};
+pub use source::{MemSource, Source};
+pub use standard::{Incoming, Outgoing};
+pub use steps::Steps;
 pub use text::{NotAscii, Text};

@@ -1,0 +1,84 @@
+//! Where bytes come from.
+ghost use Rattle.std.specs.Prelude.{◌≡◌, ◌<◌, ◌≤◌, ℕ, Bool, true, false, List, [], IfOk, IsOk, OnOk, OnErr, IsErr, IsTrue, ◌↔◌, Option, Some, None, length};
+ghost use Rattle.cv_io.specs.Outside.{Rose, TakesNext, is_listed, next_count};
+
+use crate::calls::{Calls, Failed};
+use crate::list::{Bytes, List};
+use std::marker::Model;
+
+/// A reader of bytes.
+pub trait Source {
+    // The bytes that reads will give from here on, where they are told.
+    ghost remaining: { Self → Option (List ℕ) };
+
+    // How many calls failed.
+    ghost faults: { Self → ℕ };
+
+    // It never fails.
+    ghost is_reliable: { Self → Bool };
+
+    /// Reads some of the next bytes into a place that isn't empty. `Ok(0)` is the end.
+    fn read(&mut self, into: &mut [u8]) -> Result<usize, Failed>
+        requires { 0 < length into.old }
+        ensures within { IfOk result (λ n. n ≤ length into.new) }
+        ensures bytes { IfOk result (λ n. TakesNext (remaining self.old) (remaining self.new) n into.new) }
+        ensures kept { OnErr result (remaining self.new ≡ remaining self.old) }
+        ensures quiet { OnOk result (faults self.new ≡ faults self.old) }
+        ensures fault { OnErr result (Rose (faults self.old) (faults self.new)) }
+        ensures never_falls { faults self.old ≤ faults self.new }
+        ensures reliable { is_reliable self.new ≡ is_reliable self.old }
+        ensures reads { is_reliable self.old ≡ true → IsOk result };
+}
+
+/// A source over bytes in memory, of which listed calls fail.
+#[derive(Drop, Debug)]
+pub struct MemSource {
+    bytes: Bytes,
+    at: usize,
+    calls: Calls,
+}
+
+impl Model for MemSource {
+    ghost use Rattle.std.specs.Prelude.{◌≤◌, drop, length};
+    ghost use Rattle.cv_io.specs.Outside.{SourceOf};
+
+    ghost Value = { SourceOf };
+
+    ghost view = { λ s. record { left = drop s.at s.bytes; fails = s.calls.fails; made = s.calls.made; faults = s.calls.faults } };
+
+    ghost invariant = { λ s. s.at ≤ length s.bytes };
+}
+
+impl MemSource {
+    /// A source of these bytes. `fails` lists the numbers of the calls that are to fail, from 1.
+    pub fn new(bytes: Bytes, fails: List<u64>) -> Self
+        ensures { result ≡ record { left = bytes; fails = fails; made = 0; faults = 0 } }
+    {
+        MemSource {
+            bytes,
+            at: 0,
+            calls: Calls::new(fails),
+        }
+    }
+}
+
+impl Source for MemSource {
+    ghost use Rattle.cv_io.specs.Outside.{lists_none};
+
+    ghost remaining = { λ s. Some s.left };
+
+    ghost faults = { λ s. s.faults };
+
+    ghost is_reliable = { λ s. lists_none s.fails };
+
+    fn read(&mut self, into: &mut [u8]) -> Result<usize, Failed> {
+        if self.calls.count() {
+            return Err(Failed);
+        }
+        let left = self.bytes.len() - self.at;
+        let taken = left.min(into.len());
+        into[..taken].copy_from_slice(&self.bytes.as_slice()[self.at..self.at + taken]);
+        self.at += taken;
+        Ok(taken)
+    }
+}
