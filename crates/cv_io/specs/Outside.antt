@@ -1,5 +1,5 @@
 -- What is told of the outside: bytes, where they are known, and counts of faults.
-use Rattle.std.specs.Prelude.{ℕ, Bool, ◌==◌, ◌+◌, ◌<◌, ◌≡◌, ◌⊎◌, ⊤, List, [], ◌∷◌, ◌++◌, Option, Some, None, take, drop, min, true, false}
+use Rattle.std.specs.Prelude.{ℕ, Bool, ◌==◌, ◌+◌, ◌<◌, ◌≡◌, ◌⊎◌, List, [], ◌∷◌, ◌++◌, Option, Some, None, take, drop, min, true, false}
 use Rattle.std.specs.List.{list_any}
 
 -- the greatest count
@@ -25,12 +25,12 @@ lists_none (call ∷ fails) = false
 
 -- a read of n bytes took the next ones of those that are left, and took none only at their end
 abbrev pub TakesNext : Option (List ℕ) → Option (List ℕ) → ℕ → List ℕ → Type 0
-TakesNext None after n into = ⊤
+TakesNext None after n into = after ≡ None
 TakesNext (Some left) after n into = (take n into ≡ take n left) × (after ≡ Some (drop n left)) × (n ≡ 0 → left ≡ [])
 
 -- a write of n bytes appended the first n of a piece to what is held
 abbrev pub AppendsFirst : Option (List ℕ) → Option (List ℕ) → ℕ → List ℕ → Type 0
-AppendsFirst None after n piece = ⊤
+AppendsFirst None after n piece = after ≡ None
 AppendsFirst (Some held) after n piece = after ≡ Some (held ++ take n piece)
 
 -- what is known of a source in memory: the bytes that are left, the calls that are to fail, how many were made and failed

@@ -21,3 +21,6 @@ pub use source::{MemSource, Source};
 pub use standard::{Incoming, Outgoing};
 pub use steps::Steps;
 pub use text::{NotAscii, Text};
+
+#[cfg(test)]
+mod tests;

@@ -1,4 +1,4 @@
-use Rattle.std.proofs.Common.{ℕ, ◌≡◌, ◌≤◌, ◌<◌, List, length, take, All, subst, refl, arith}
+use Rattle.std.proofs.Common.{ℕ, ◌≤◌, ◌<◌, List, length, take, subst, refl, arith}
 use Rattle.std.proofs.lemmas.List.{take_all}
 use Rattle.std.proofs.lemmas.List.Elements.{All-more}
 use Rattle.cv_io.specs.Text.{IsAsciiText}

@@ -1,4 +1,4 @@
-use Rattle.std.proofs.Common.{◌≡◌, take}
+use Rattle.std.proofs.Common.{take}
 use Rattle.cv_io.specs.Text.{IsAsciiText}
 use Rattle.cv_io.proofs.text.Text.from_bytes.Given as goal
 
