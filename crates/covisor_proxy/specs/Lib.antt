@@ -1,0 +1,3 @@
+pub mod Words
+pub mod Ended
+pub mod Stops

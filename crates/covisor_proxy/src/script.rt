@@ -1,0 +1,54 @@
+//! The lines of a script.
+use crate::stop::Stop;
+use cv_io::{Bytes, Memory, Session, Who};
+use hex::FromHexError;
+use hyper_core::{Event, policy};
+use std::alloc::Global;
+
+/// What a line says.
+#[derive(Drop)]
+pub(crate) enum Line {
+    /// It is empty or a comment.
+    Blank,
+    /// `up NAME`
+    Up { who: Who },
+    /// `from NAME HEX`
+    From { who: Who, bytes: Bytes },
+    /// Nothing that the program knows.
+    Unknown,
+}
+
+/// Reads a line without its line feed. Its words are separated by one blank.
+pub(crate) fn read(alloc: Global, line: &[u8]) -> Result<Line, Memory> {
+    if line.is_empty() || line.starts_with(b"#") {
+        return Ok(Line::Blank);
+    }
+    if let Some(name) = line.strip_prefix(b"up ") {
+        return Ok(match policy::named(name) {
+            Some(who) => Line::Up { who },
+            None => Line::Unknown,
+        });
+    }
+    match line.strip_prefix(b"from ") {
+        Some(words) => from(alloc, words),
+        None => Ok(Line::Unknown),
+    }
+}
+
+/// Reads what follows `from `: a name and the digits of at least one byte.
+fn from(alloc: Global, words: &[u8]) -> Result<Line, Memory> {
+    let Some(blank) = words.iter().position(|byte| *byte == b' ') else {
+        return Ok(Line::Unknown);
+    };
+    let Some(who) = policy::named(&words[..blank]) else {
+        return Ok(Line::Unknown);
+    };
+    match hex::decode(alloc, &words[blank + 1..]) {
+        Ok(bytes) if bytes.len() > 0 => Ok(Line::From {
+            who,
+            bytes: Bytes::from_vec(bytes),
+        }),
+        Err(FromHexError::OutOfMemory) => Err(Memory),
+        _ => Ok(Line::Unknown),
+    }
+}
