@@ -1,0 +1,3 @@
+pub mod Twelve
+pub mod Prefixes
+pub mod Holding
