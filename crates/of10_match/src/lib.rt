@@ -3,5 +3,8 @@
 #![tactic(auto)]
 
 pub mod header;
+mod matching;
+pub mod ofp_match;
 
 pub use header::{Header, Match, Prefix};
+pub use ofp_match::OfpMatch;

@@ -1,0 +1,15 @@
+use Rattle.std.proofs.Common.{◌<◌, ◌^◌, ◌%◌, ◌≡◌}
+use Rattle.of10_match.specs.Ranges.{IsVlan, IsPrefix}
+use Rattle.of10_match.proofs.Values.{if_some_or, if_some_longer}
+use Rattle.of10_match.proofs.header.Match.meet.Goals as goal
+
+pub invariant_of-result : goal.invariant_of-result
+invariant_of-result c = record {
+  dl_src = rw c.or-2.ensures (if_some_or (λ v. v < 2 ^ 48) _ _ c.self.invariant.dl_src c.other.invariant.dl_src);
+  dl_dst = rw c.or-3.ensures (if_some_or (λ v. v < 2 ^ 48) _ _ c.self.invariant.dl_dst c.other.invariant.dl_dst);
+  dl_vlan = rw c.or-4.ensures (if_some_or (IsVlan) _ _ c.self.invariant.dl_vlan c.other.invariant.dl_vlan);
+  dl_vlan_pcp = rw c.or-5.ensures (if_some_or (λ v. v < 8) _ _ c.self.invariant.dl_vlan_pcp c.other.invariant.dl_vlan_pcp);
+  nw_tos = rw c.or-7.ensures (if_some_or (λ v. v % 4 ≡ 0) _ _ c.self.invariant.nw_tos c.other.invariant.nw_tos);
+  nw_src = rw c.longer.ensures (if_some_longer (IsPrefix) _ _ c.self.invariant.nw_src c.other.invariant.nw_src);
+  nw_dst = rw c.longer-2.ensures (if_some_longer (IsPrefix) _ _ c.self.invariant.nw_dst c.other.invariant.nw_dst);
+}
