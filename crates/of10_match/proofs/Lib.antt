@@ -3,3 +3,7 @@ pub mod Prefixes
 pub mod Holding
 pub mod Values
 pub mod Numbers
+pub mod FieldTests
+pub mod Both
+pub mod Sample
+pub mod Overlapping

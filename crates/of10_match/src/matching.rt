@@ -1,6 +1,7 @@
 //! Which headers a match holds, and what two matches hold together.
 ghost use Rattle.std.specs.Prelude.{ℕ, ◌≡◌, ◌≤◌, ◌-◌, ◌/◌, ◌^◌, IsTrue, ◌↔◌, IsNone, IfSome, is_some};
 ghost use Rattle.of10_match.specs.Matching.{agree_by, agree_prefix as agree_prefix_of, asks_by, asks_prefix as asks_prefix_of, covers as covers_of, everything as everything_of, fits_by, fits_prefix as fits_prefix_of, holds as holds_of, is_longer as is_longer_of, longer as longer_of, meet as meet_of, overlaps as overlaps_of, top_bits as top_bits_of};
+ghost use Rattle.of10_match.specs.Sets.{Overlap};
 
 use crate::header::{Header, Match, Prefix};
 
@@ -137,7 +138,8 @@ impl Match {
 
     /// Whether some header is in both matches.
     pub fn overlaps(&self, other: &Match) -> bool
-        ensures { result ≡ overlaps_of self.now other.now }
+        ensures value { result ≡ overlaps_of self.now other.now }
+        ensures exact { IsTrue result ↔ Overlap self.now other.now }
     {
         agree(self.in_port, other.in_port)
             && agree(self.dl_src, other.dl_src)
