@@ -7,3 +7,6 @@ pub mod FieldTests
 pub mod Both
 pub mod Sample
 pub mod Overlapping
+pub mod Asking
+pub mod Covering
+pub mod Addresses

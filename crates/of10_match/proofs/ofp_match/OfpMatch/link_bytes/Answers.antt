@@ -1,5 +1,4 @@
 -- Each write leaves the bytes before and after its own as they were.
-use Rattle.std.proofs.Common.{refl}
 use Rattle.of10_match.proofs.ofp_match.OfpMatch.link_bytes.Goals as goal
 
 pub returns : goal.returns
@@ -9,4 +8,4 @@ returns c =
     let dl_src = rw (wildcards, in_port) at c.write_uint.ensures in
     let dl_dst = rw (wildcards, in_port, dl_src) at c.write_uint-2.ensures in
     let dl_vlan = rw (wildcards, in_port, dl_src, dl_dst) at c.write_u16-2.ensures in
-    rw (wildcards, in_port, dl_src, dl_dst, dl_vlan) refl
+    rw (wildcards, in_port, dl_src, dl_dst, dl_vlan)

@@ -1,5 +1,4 @@
 -- Each write leaves the bytes before and after its own as they were.
-use Rattle.std.proofs.Common.{refl}
 use Rattle.of10_match.proofs.ofp_match.OfpMatch.network_bytes.Goals as goal
 
 pub returns : goal.returns
@@ -9,4 +8,4 @@ returns c =
     let nw_dst = rw (dl_type, nw_src) at c.write_u32-2.ensures in
     let tp_src = rw (dl_type, nw_src, nw_dst) at c.write_u16-2.ensures in
     let tp_dst = rw (dl_type, nw_src, nw_dst, tp_src) at c.write_u16-3.ensures in
-    rw (dl_type, nw_src, nw_dst, tp_src, tp_dst) refl
+    rw (dl_type, nw_src, nw_dst, tp_src, tp_dst)
