@@ -10,3 +10,6 @@ pub mod Overlapping
 pub mod Asking
 pub mod Covering
 pub mod Addresses
+pub mod Commuting
+pub mod MeetSelf
+pub mod NormalMeet
