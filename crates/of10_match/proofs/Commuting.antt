@@ -85,7 +85,7 @@ pub overlaps-comm : (m n : MatchOf) → overlaps m n ≡ overlaps n m
 overlaps-comm m n =
     each-same (agree-comm m.in_port n.in_port) (agree-comm m.dl_src n.dl_src) (agree-comm m.dl_dst n.dl_dst) (agree-comm m.dl_vlan n.dl_vlan) (agree-comm m.dl_vlan_pcp n.dl_vlan_pcp) (agree-comm m.dl_type n.dl_type) (agree-comm m.nw_tos n.nw_tos) (agree-comm m.nw_proto n.nw_proto) (agree_prefix-comm m.nw_src n.nw_src) (agree_prefix-comm m.nw_dst n.nw_dst) (agree-comm m.tp_src n.tp_src) (agree-comm m.tp_dst n.tp_dst)
 
-both-comm : (m n : MatchOf) → IsMatch m → IsMatch n → Agrees m n → both m n ≡ both n m
+pub both-comm : (m n : MatchOf) → IsMatch m → IsMatch n → Agrees m n → both m n ≡ both n m
 both-comm m n p q a = λ i. record {
   in_port = either-comm m.in_port n.in_port a.in_port i;
   dl_src = either-comm m.dl_src n.dl_src a.dl_src i;

@@ -13,3 +13,4 @@ pub mod Addresses
 pub mod Commuting
 pub mod MeetSelf
 pub mod NormalMeet
+pub mod Meeting

@@ -1,7 +1,8 @@
 //! Which headers a match holds, and what two matches hold together.
-ghost use Rattle.std.specs.Prelude.{ℕ, ◌≡◌, ◌≤◌, ◌-◌, ◌/◌, ◌^◌, IsTrue, ◌↔◌, IsNone, IfSome, is_some};
-ghost use Rattle.of10_match.specs.Matching.{agree_by, agree_prefix as agree_prefix_of, asks_by, asks_prefix as asks_prefix_of, covers as covers_of, everything as everything_of, fits_by, fits_prefix as fits_prefix_of, holds as holds_of, is_longer as is_longer_of, longer as longer_of, meet as meet_of, overlaps as overlaps_of, top_bits as top_bits_of};
-ghost use Rattle.of10_match.specs.Sets.{Overlap};
+ghost use Rattle.std.specs.Prelude.{ℕ, ◌≡◌, ◌≤◌, ◌-◌, ◌/◌, ◌^◌, IsTrue, ◌↔◌, IfSome, IsSome, is_some};
+ghost use Rattle.of10_match.specs.Matching.{agree_by, agree_prefix as agree_prefix_of, asks_by, asks_prefix as asks_prefix_of, both as both_of, covers as covers_of, everything as everything_of, fits_by, fits_prefix as fits_prefix_of, holds as holds_of, is_longer as is_longer_of, longer as longer_of, meet as meet_of, overlaps as overlaps_of, top_bits as top_bits_of};
+ghost use Rattle.of10_match.specs.Sets.{Covers, IsMeet, Overlap};
+ghost use Rattle.of10_match.specs.Normal.{IsNormal};
 
 use crate::header::{Header, Match, Prefix};
 
@@ -140,6 +141,7 @@ impl Match {
     pub fn overlaps(&self, other: &Match) -> bool
         ensures value { result ≡ overlaps_of self.now other.now }
         ensures exact { IsTrue result ↔ Overlap self.now other.now }
+        ensures meets { result ≡ is_some (meet_of self.now other.now) }
     {
         agree(self.in_port, other.in_port)
             && agree(self.dl_src, other.dl_src)
@@ -157,7 +159,8 @@ impl Match {
 
     /// Whether every header of the other match is in this one.
     pub fn covers(&self, other: &Match) -> bool
-        ensures { result ≡ covers_of self.now other.now }
+        ensures value { result ≡ covers_of self.now other.now }
+        ensures exact { IsTrue result ↔ Covers self.now other.now }
     {
         asks(self.in_port, other.in_port)
             && asks(self.dl_src, other.dl_src)
@@ -175,12 +178,26 @@ impl Match {
 
     /// The match of the headers that are in both, or `None` where there is no such header.
     pub fn meet(&self, other: &Match) -> Option<Match>
-        ensures { result ≡ meet_of self.now other.now }
+        ensures value { result ≡ meet_of self.now other.now }
+        ensures some { IsSome result ↔ Overlap self.now other.now }
+        ensures headers { IfSome result (IsMeet self.now other.now) }
+        ensures normal { IsNormal self.now → IsNormal other.now → IfSome result IsNormal }
+        ensures commutes { result ≡ meet_of other.now self.now }
     {
-        if !self.overlaps(other) {
-            return None;
+        if self.overlaps(other) {
+            Some(self.both(other))
+        } else {
+            None
         }
-        Some(Match {
+    }
+
+    /// The fields that either of two matches names that overlap.
+    fn both(&self, other: &Match) -> Match
+        requires { IsTrue (overlaps_of self.now other.now) }
+        ensures value { result ≡ both_of self.now other.now }
+        ensures commutes { result ≡ both_of other.now self.now }
+    {
+        Match {
             in_port: self.in_port.or(other.in_port),
             dl_src: self.dl_src.or(other.dl_src),
             dl_dst: self.dl_dst.or(other.dl_dst),
@@ -193,6 +210,6 @@ impl Match {
             nw_dst: longer(self.nw_dst, other.nw_dst),
             tp_src: self.tp_src.or(other.tp_src),
             tp_dst: self.tp_dst.or(other.tp_dst),
-        })
+        }
     }
 }
