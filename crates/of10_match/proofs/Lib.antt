@@ -14,3 +14,4 @@ pub mod Commuting
 pub mod MeetSelf
 pub mod NormalMeet
 pub mod Meeting
+pub mod Masks

@@ -1,7 +1,7 @@
 -- Numbers in the bytes of a part of a list.
-use Rattle.std.proofs.Common.{◌≡◌, ◌≤◌, ◌+◌, ℕ, zero, suc, List, take, drop, refl, ◌∙◌, ap, arith}
+use Rattle.std.proofs.Common.{◌≡◌, ◌≤◌, ◌+◌, ℕ, zero, suc, List, take, drop, slice_index, refl, sym, subst, ◌∙◌, ap, arith}
 use Rattle.byteorder.specs.Endian.{big_from}
-use Rattle.byteorder.specs.Numbers.{big_from-take}
+use Rattle.byteorder.specs.Numbers.{big_from-lt, big_from-take}
 use Rattle.std.proofs.lemmas.List.{get_or-drop}
 
 -- the number at a place of what follows place i
@@ -18,3 +18,9 @@ pub number_at-part : (i n m : ℕ) (xs : List ℕ) → n ≤ m → big_from 0 n 
 number_at-part i n m xs fits =
     let whole : i + 0 ≡ i = omega arith in
     big_from-take 0 n m (drop i xs) (omega arith) ∙ (big_from-drop 0 n i xs ∙ ap (λ k. big_from k n xs) whole)
+
+-- a number of n bytes is below 256 ^ n
+pub number_at-fits : (i n v : ℕ) (xs : List ℕ) → ((k : ℕ) → slice_index xs k < 256) → v ≡ big_from i n xs → v < 256 ^ n
+number_at-fits i n v xs bytes e =
+    let P : ℕ → Type 0 = λ m. m < 256 ^ n in
+    subst P (sym e) (big_from-lt i n xs bytes)

@@ -1,6 +1,7 @@
 -- What holds of the values of two matches holds of those of their meet.
 use Rattle.std.proofs.Common.{Bool, true, false, Option, Some, None}
 use Rattle.std.specs.Prelude.{IfSome, if◌then◌else◌}
+use Rattle.std.specs.Bool.{then_some}
 use Rattle.std.specs.Option.{option_or}
 use Rattle.of10_match.specs.Matching.{longer, is_longer}
 use Rattle.of10_match.specs.declared.header.Prefix.{Prefix}
@@ -17,3 +18,7 @@ pub if_some_longer : (P : Prefix → Type 0) (x y : Option Prefix) → IfSome x 
 if_some_longer P None y p q = q
 if_some_longer P (Some v) None p q = p
 if_some_longer P (Some v) (Some w) p q = if_some_either P (is_longer w v) w v p q
+
+pub if_some_then : {A : Type 0} (P : A → Type 0) (b : Bool) (x : A) → P x → IfSome (then_some b x) P
+if_some_then P true x p = p
+if_some_then P false x p = tt

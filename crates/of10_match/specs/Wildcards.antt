@@ -1,14 +1,15 @@
 -- What the wildcards of an `ofp_match` leave of its fields, and what a match is written as.
 use Rattle.std.specs.Prelude.{ℕ, Bool, ◌==◌, ◌+◌, ◌-◌, ◌*◌, ◌/◌, ◌%◌, ◌^◌, nat_lt, Option, Some, None, List, unwrap_or, if◌then◌else◌}
+use Rattle.std.specs.Bool.{then_some}
 use Rattle.of10_match.specs.Fields.{MatchOf}
 use Rattle.of10_match.specs.OfpMatchFields.{fields_in, bytes_of}
 use Rattle.of10_match.specs.Normal.{normal}
 use Rattle.of10_match.specs.declared.header.Prefix.{Prefix}
 use Rattle.of10_match.specs.declared.ofp_match.OfpMatch.{OfpMatch}
 
--- the value, where the wildcard bit of the field is clear
-abbrev pub named_by : ℕ → ℕ → ℕ → Option ℕ
-named_by wildcards bit v = if (wildcards / 2 ^ bit) % 2 == 0 then Some v else None
+-- the wildcard bit at a place is clear
+abbrev pub is_clear : ℕ → ℕ → Bool
+is_clear wildcards bit = (wildcards / 2 ^ bit) % 2 == 0
 
 -- an address without its n low bits, or nothing where n is 32 or more
 abbrev pub prefix_by : ℕ → ℕ → Option Prefix
@@ -21,18 +22,18 @@ vlan_of v = if v == 65535 then v else v % 4096
 -- the fields that the wildcards name, with the bits that count
 abbrev pub named : OfpMatch → MatchOf
 named w = record {
-  in_port = named_by w.wildcards 0 w.in_port;
-  dl_src = named_by w.wildcards 2 w.dl_src;
-  dl_dst = named_by w.wildcards 3 w.dl_dst;
-  dl_vlan = named_by w.wildcards 1 (vlan_of w.dl_vlan);
-  dl_vlan_pcp = named_by w.wildcards 20 (w.dl_vlan_pcp % 8);
-  dl_type = named_by w.wildcards 4 w.dl_type;
-  nw_tos = named_by w.wildcards 21 (w.nw_tos / 4 * 4);
-  nw_proto = named_by w.wildcards 5 w.nw_proto;
+  in_port = then_some (is_clear w.wildcards 0) w.in_port;
+  dl_src = then_some (is_clear w.wildcards 2) w.dl_src;
+  dl_dst = then_some (is_clear w.wildcards 3) w.dl_dst;
+  dl_vlan = then_some (is_clear w.wildcards 1) (vlan_of w.dl_vlan);
+  dl_vlan_pcp = then_some (is_clear w.wildcards 20) (w.dl_vlan_pcp % 8);
+  dl_type = then_some (is_clear w.wildcards 4) w.dl_type;
+  nw_tos = then_some (is_clear w.wildcards 21) (w.nw_tos / 4 * 4);
+  nw_proto = then_some (is_clear w.wildcards 5) w.nw_proto;
   nw_src = prefix_by ((w.wildcards / 2 ^ 8) % 64) w.nw_src;
   nw_dst = prefix_by ((w.wildcards / 2 ^ 14) % 64) w.nw_dst;
-  tp_src = named_by w.wildcards 6 w.tp_src;
-  tp_dst = named_by w.wildcards 7 w.tp_dst;
+  tp_src = then_some (is_clear w.wildcards 6) w.tp_src;
+  tp_dst = then_some (is_clear w.wildcards 7) w.tp_dst;
 }
 
 -- all 22 wildcard bits are clear
@@ -44,7 +45,7 @@ abbrev pub normal_of : List ℕ → MatchOf
 normal_of bs = normal (named (fields_in bs))
 
 -- a wildcard bit, set where the field is absent
-abbrev pub bit_of : ℕ → Option ℕ → ℕ
+abbrev pub bit_of : {A : Type 0} → ℕ → Option A → ℕ
 bit_of bit None = 2 ^ bit
 bit_of bit (Some v) = 0
 

@@ -4,7 +4,12 @@
 
 pub mod header;
 mod matching;
+mod normal;
 pub mod ofp_match;
+mod reading;
+mod writing;
 
 pub use header::{Header, Match, Prefix};
+pub use normal::{Read, UNTAGGED};
 pub use ofp_match::OfpMatch;
+pub use reading::read;

@@ -8,7 +8,7 @@ use crate::header::{Header, Match, Prefix};
 
 impl Prefix {
     /// How many low bits of an address the prefix leaves open.
-    fn open_bits(&self) -> u32
+    pub(crate) fn open_bits(&self) -> u32
         ensures { result ≡ 32 - self.now.len }
     {
         32 - u32::from(self.len.min(32))

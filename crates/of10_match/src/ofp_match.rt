@@ -23,10 +23,44 @@ pub struct OfpMatch {
     pub tp_dst: u16,
 }
 
+/// The places of the wildcard bits, of which a set one leaves its field out.
+pub mod wildcard {
+    pub const IN_PORT: u32 = 0;
+
+    pub const DL_VLAN: u32 = 1;
+
+    pub const DL_SRC: u32 = 2;
+
+    pub const DL_DST: u32 = 3;
+
+    pub const DL_TYPE: u32 = 4;
+
+    pub const NW_PROTO: u32 = 5;
+
+    pub const TP_SRC: u32 = 6;
+
+    pub const TP_DST: u32 = 7;
+
+    /// Six bits from here count the low bits of nw_src that are left out, 32 and more for all.
+    pub const NW_SRC: u32 = 8;
+
+    /// The same of nw_dst.
+    pub const NW_DST: u32 = 14;
+
+    pub const DL_VLAN_PCP: u32 = 20;
+
+    pub const NW_TOS: u32 = 21;
+
+    /// All 22 bits.
+    pub const ALL: u32 = (1 << 22) - 1;
+}
+
 impl OfpMatch {
     /// The fields that stand in 40 bytes, whatever their padding.
     pub fn from_bytes(bytes: &[u8; 40]) -> OfpMatch
-        ensures { result ≡ fields_in bytes.now }
+        ensures value { result ≡ fields_in bytes.now }
+        ensures dl_src { result.dl_src < 2 ^ 48 }
+        ensures dl_dst { result.dl_dst < 2 ^ 48 }
     {
         OfpMatch {
             wildcards: BigEndian::read_u32(bytes),
