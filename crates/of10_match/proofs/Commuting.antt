@@ -60,7 +60,7 @@ same_address k x y mx my e =
     let quotient = ap (λ n. n * 2 ^ k) e in
     omega arith
 
-same_prefix : (p q : Prefix) → p.addr ≡ q.addr → p.len ≡ q.len → p ≡ q
+pub same_prefix : (p q : Prefix) → p.addr ≡ q.addr → p.len ≡ q.len → p ≡ q
 same_prefix p q a l = λ i. record { addr = a i; len = l i }
 
 longer-cases : (p q : Prefix) → IsPrefix p → IsPrefix q → (b c : Bool) → is_longer q p ≡ b → is_longer p q ≡ c

@@ -15,3 +15,6 @@ pub mod MeetSelf
 pub mod NormalMeet
 pub mod Meeting
 pub mod Masks
+pub mod FieldBytes
+pub mod Digits
+pub mod ReadingBack
