@@ -18,3 +18,4 @@ pub mod Masks
 pub mod FieldBytes
 pub mod Digits
 pub mod ReadingBack
+pub mod ByteOrder

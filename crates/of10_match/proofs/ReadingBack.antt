@@ -1,5 +1,5 @@
 -- Reading what was written of a match gives the match.
-use Rattle.std.proofs.Common.{◌≡◌, ◌<◌, ◌-◌, ◌*◌, ◌/◌, ◌%◌, ◌^◌, ℕ, Bool, true, false, ◌&&◌, Option, Some, None, refl, ◌∙◌, ap, sym, arith, inl, inr}
+use Rattle.std.proofs.Common.{◌≡◌, ◌<◌, ◌-◌, ◌*◌, ◌/◌, ◌%◌, ◌^◌, ℕ, Bool, true, false, ◌&&◌, List, Option, Some, None, refl, ◌∙◌, ap, sym, arith, inl, inr}
 use Rattle.std.specs.Bool.{then_some}
 use Rattle.std.specs.Prelude.{◌==◌, IfSome, OnSome, unwrap_or, nat_lt, if◌then◌else◌}
 use Rattle.std.proofs.Math.Nat.{div-add-mod', mod-eq_of_lt}
@@ -9,6 +9,7 @@ use Rattle.of10_match.specs.OfpMatchFields.{fields_in}
 use Rattle.of10_match.specs.Ranges.{IsMatch, IsVlan, IsTos, IsPrefix}
 use Rattle.of10_match.specs.Wildcards.{is_clear, prefix_by, vlan_of, named, normal_of, open_bits, address_of, wildcards_of, written, match_bytes}
 use Rattle.of10_match.specs.declared.header.Prefix.{Prefix}
+use Rattle.of10_match.specs.declared.ofp_match.OfpMatch.{OfpMatch}
 use Rattle.of10_match.proofs.Commuting.{same_prefix}
 use Rattle.of10_match.proofs.Digits.{digit, digits_of, wildcards_of-lt}
 use Rattle.of10_match.proofs.FieldBytes.{FitsBytes, fields_in-bytes_of}
@@ -125,3 +126,14 @@ normal_of-match_bytes m p q = ap normal (named-match_bytes m p) ∙ normal_same 
 pub match_bytes-injective : (m n : MatchOf) → IsMatch m → IsMatch n → match_bytes m ≡ match_bytes n → m ≡ n
 match_bytes-injective m n p q e =
     sym (named-match_bytes m p) ∙ (ap (λ bytes. named (fields_in bytes)) e ∙ named-match_bytes n q)
+
+-- the same of bytes that are known to be those of a match
+pub bytes_wildcards : (bytes : List ℕ) (m : MatchOf) → IsMatch m → bytes ≡ match_bytes m → (fields_in bytes).wildcards ≡ wildcards_of m
+bytes_wildcards bytes m p e =
+    ap (λ bs. (fields_in bs).wildcards) e ∙ ap (λ (w : OfpMatch). w.wildcards) (fields_in-match_bytes m p)
+
+pub bytes_name : (bytes : List ℕ) (m : MatchOf) → IsMatch m → bytes ≡ match_bytes m → named (fields_in bytes) ≡ m
+bytes_name bytes m p e = ap (λ bs. named (fields_in bs)) e ∙ named-match_bytes m p
+
+pub bytes_read : (bytes : List ℕ) (m : MatchOf) → IsMatch m → bytes ≡ match_bytes m → IsNormal m → normal_of bytes ≡ m
+bytes_read bytes m p e q = ap normal_of e ∙ normal_of-match_bytes m p q

@@ -5,3 +5,4 @@ pub mod Sets
 pub mod Normal
 pub mod OfpMatchFields
 pub mod Wildcards
+pub mod Order

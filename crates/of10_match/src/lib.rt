@@ -2,7 +2,9 @@
 //! OpenFlow Switch Specification 1.0.0).
 #![tactic(auto)]
 
+mod display;
 pub mod header;
+pub mod laws;
 mod matching;
 mod normal;
 pub mod ofp_match;

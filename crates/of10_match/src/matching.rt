@@ -6,6 +6,15 @@ ghost use Rattle.of10_match.specs.Normal.{IsNormal};
 
 use crate::header::{Header, Match, Prefix};
 
+/// The prefix that holds one address alone.
+impl From<u32> for Prefix {
+    ghost from_gives = { λ addr result. result ≡ record { addr = addr; len = 32 } };
+
+    fn from(addr: u32) -> Prefix {
+        Prefix { addr, len: 32 }
+    }
+}
+
 impl Prefix {
     /// How many low bits of an address the prefix leaves open.
     pub(crate) fn open_bits(&self) -> u32

@@ -1,23 +1,22 @@
 //! Writing a match as the 40 bytes of an `ofp_match`.
 ghost use Rattle.std.specs.Prelude.{◌≡◌, ◌<◌, ◌≤◌, ◌↔◌, ◌^◌, IsTrue};
-ghost use Rattle.of10_match.specs.Wildcards.{address_of, bit_of, match_bytes, open_bits as open_bits_of, wildcards_of, written as written_of};
+ghost use Rattle.of10_match.specs.Normal.{IsNormal};
+ghost use Rattle.of10_match.specs.OfpMatchFields.{fields_in};
+ghost use Rattle.of10_match.specs.Order.{by_bytes};
+ghost use Rattle.of10_match.specs.Wildcards.{address_of, bit_of, match_bytes, named, normal_of, open_bits as open_bits_of, wildcards_of};
 
 use crate::header::{Match, Prefix};
 use crate::ofp_match::{OfpMatch, wildcard};
+use std::cmp::Ordering;
 
 impl Match {
     /// The 40 bytes of the match as an `ofp_match`. Fields that it does not name have their
     /// wildcard bits set and zero bytes, and an address that it does not name has the count 32.
     pub fn write(&self) -> [u8; 40]
-        ensures { result ≡ match_bytes self.now }
-    {
-        self.written().to_bytes()
-    }
-
-    fn written(&self) -> OfpMatch
-        ensures value { result ≡ written_of self.now }
-        ensures dl_src { result.dl_src < 2 ^ 48 }
-        ensures dl_dst { result.dl_dst < 2 ^ 48 }
+        ensures value { result ≡ match_bytes self.now }
+        ensures wildcards { (fields_in result).wildcards ≡ wildcards_of self.now }
+        ensures names { named (fields_in result) ≡ self.now }
+        ensures reads_back { IsNormal self.now → normal_of result ≡ self.now }
     {
         OfpMatch {
             wildcards: self.wildcards(),
@@ -34,6 +33,15 @@ impl Match {
             tp_src: self.tp_src.unwrap_or(0),
             tp_dst: self.tp_dst.unwrap_or(0),
         }
+        .to_bytes()
+    }
+
+    /// Compares the bytes of two matches, the order in which their entries are sent.
+    pub fn cmp_bytes(&self, other: &Match) -> Ordering
+        ensures value { result ≡ by_bytes self.now other.now }
+        ensures equal { (result ≡ Ordering.Equal) ↔ (self.now ≡ other.now) }
+    {
+        self.write().cmp(&other.write())
     }
 
     fn wildcards(&self) -> u32
