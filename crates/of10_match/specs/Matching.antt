@@ -1,5 +1,5 @@
 -- What a match holds, when two matches overlap, and what both hold.
-use Rattle.std.specs.Prelude.{ℕ, Bool, true, ◌==◌, ◌&&◌, ◌/◌, ◌^◌, ◌-◌, nat_le, Option, Some, None, if◌then◌else◌}
+use Rattle.std.specs.Prelude.{ℕ, Bool, true, false, ◌==◌, ◌&&◌, ◌/◌, ◌^◌, ◌-◌, nat_le, Option, Some, None, if◌then◌else◌}
 use Rattle.std.specs.Option.{option_or}
 use Rattle.of10_match.specs.Fields.{HeaderOf, MatchOf}
 use Rattle.of10_match.specs.declared.header.Prefix.{Prefix}
@@ -8,9 +8,13 @@ use Rattle.of10_match.specs.declared.header.Prefix.{Prefix}
 abbrev pub top_bits : ℕ → ℕ → ℕ
 top_bits len addr = addr / 2 ^ (32 - len)
 
+-- nothing is asked, or a value that equals this one
+abbrev pub fits_by : {A : Type 0} → (A → A → Bool) → Option A → A → Bool
+fits_by eq None x = true
+fits_by eq (Some v) x = eq v x
+
 abbrev pub fits : Option ℕ → ℕ → Bool
-fits None x = true
-fits (Some v) x = v == x
+fits o x = fits_by ◌==◌ o x
 
 abbrev pub fits_prefix : Option Prefix → ℕ → Bool
 fits_prefix None x = true
@@ -25,11 +29,15 @@ abbrev pub holds : MatchOf → HeaderOf → Bool
 holds m h =
     each (fits m.in_port h.in_port) (fits m.dl_src h.dl_src) (fits m.dl_dst h.dl_dst) (fits m.dl_vlan h.dl_vlan) (fits m.dl_vlan_pcp h.dl_vlan_pcp) (fits m.dl_type h.dl_type) (fits m.nw_tos h.nw_tos) (fits m.nw_proto h.nw_proto) (fits_prefix m.nw_src h.nw_src) (fits_prefix m.nw_dst h.nw_dst) (fits m.tp_src h.tp_src) (fits m.tp_dst h.tp_dst)
 
+-- where both ask for a value, they are equal
+abbrev pub agree_by : {A : Type 0} → (A → A → Bool) → Option A → Option A → Bool
+agree_by eq None y = true
+agree_by eq (Some v) None = true
+agree_by eq (Some v) (Some w) = eq v w
+
 -- a field that both name has one value
 abbrev pub agree : Option ℕ → Option ℕ → Bool
-agree None y = true
-agree (Some v) None = true
-agree (Some v) (Some w) = v == w
+agree x y = agree_by ◌==◌ x y
 
 -- q leaves no more bits open than p
 abbrev pub is_longer : Prefix → Prefix → Bool
@@ -75,3 +83,24 @@ meet m n = if overlaps m n then Some (both m n) else None
 
 abbrev pub everything : MatchOf
 everything = record { in_port = None; dl_src = None; dl_dst = None; dl_vlan = None; dl_vlan_pcp = None; dl_type = None; nw_tos = None; nw_proto = None; nw_src = None; nw_dst = None; tp_src = None; tp_dst = None }
+
+-- where the first asks for a value, the second asks for an equal one
+abbrev pub asks_by : {A : Type 0} → (A → A → Bool) → Option A → Option A → Bool
+asks_by eq None y = true
+asks_by eq (Some v) None = false
+asks_by eq (Some v) (Some w) = eq v w
+
+-- the second asks for all that the first asks for
+abbrev pub asks : Option ℕ → Option ℕ → Bool
+asks x y = asks_by ◌==◌ x y
+
+-- the second prefix begins with the first
+abbrev pub asks_prefix : Option Prefix → Option Prefix → Bool
+asks_prefix None y = true
+asks_prefix (Some p) None = false
+asks_prefix (Some p) (Some q) = is_longer q p && top_bits p.len p.addr == top_bits p.len q.addr
+
+-- the first holds all that the second holds
+abbrev pub covers : MatchOf → MatchOf → Bool
+covers m n =
+    each (asks m.in_port n.in_port) (asks m.dl_src n.dl_src) (asks m.dl_dst n.dl_dst) (asks m.dl_vlan n.dl_vlan) (asks m.dl_vlan_pcp n.dl_vlan_pcp) (asks m.dl_type n.dl_type) (asks m.nw_tos n.nw_tos) (asks m.nw_proto n.nw_proto) (asks_prefix m.nw_src n.nw_src) (asks_prefix m.nw_dst n.nw_dst) (asks m.tp_src n.tp_src) (asks m.tp_dst n.tp_dst)

@@ -29,16 +29,44 @@ pub record HeaderInRange (a : Header.Inside) : Type 0 where
   pub dl_vlan_pcp : a.dl_vlan_pcp < 8
   pub nw_tos : a.nw_tos % 4 ≡ 0
 
--- 1 to 32 bits, and the further bits are zero
+-- a type of service: its upper six bits
+abbrev pub IsTos : ℕ → Type 0
+IsTos v = (v < 2 ^ 8) × (v % 4 ≡ 0)
+
+-- 1 to 32 bits of an address, and the further bits are zero
 abbrev pub IsPrefix : Prefix → Type 0
-IsPrefix p = (0 < p.len) × (p.len ≤ 32) × (p.addr % 2 ^ (32 - p.len) ≡ 0)
+IsPrefix p = (0 < p.len) × (p.len ≤ 32) × (p.addr < 2 ^ 32) × (p.addr % 2 ^ (32 - p.len) ≡ 0)
+
+-- twelve numbers that a header may have
+pub record IsHeader (h : HeaderOf) : Type 0 where
+  pub in_port : h.in_port < 2 ^ 16
+  pub dl_src : h.dl_src < 2 ^ 48
+  pub dl_dst : h.dl_dst < 2 ^ 48
+  pub dl_vlan : IsVlan h.dl_vlan
+  pub dl_vlan_pcp : h.dl_vlan_pcp < 8
+  pub dl_type : h.dl_type < 2 ^ 16
+  pub nw_tos : IsTos h.nw_tos
+  pub nw_proto : h.nw_proto < 2 ^ 8
+  pub nw_src : h.nw_src < 2 ^ 32
+  pub nw_dst : h.nw_dst < 2 ^ 32
+  pub tp_src : h.tp_src < 2 ^ 16
+  pub tp_dst : h.tp_dst < 2 ^ 16
+
+-- values that a match may ask for
+pub record IsMatch (m : MatchOf) : Type 0 where
+  pub in_port : IfSome m.in_port (λ v. v < 2 ^ 16)
+  pub dl_src : IfSome m.dl_src (λ v. v < 2 ^ 48)
+  pub dl_dst : IfSome m.dl_dst (λ v. v < 2 ^ 48)
+  pub dl_vlan : IfSome m.dl_vlan IsVlan
+  pub dl_vlan_pcp : IfSome m.dl_vlan_pcp (λ v. v < 8)
+  pub dl_type : IfSome m.dl_type (λ v. v < 2 ^ 16)
+  pub nw_tos : IfSome m.nw_tos IsTos
+  pub nw_proto : IfSome m.nw_proto (λ v. v < 2 ^ 8)
+  pub nw_src : IfSome m.nw_src IsPrefix
+  pub nw_dst : IfSome m.nw_dst IsPrefix
+  pub tp_src : IfSome m.tp_src (λ v. v < 2 ^ 16)
+  pub tp_dst : IfSome m.tp_dst (λ v. v < 2 ^ 16)
 
 -- the values of a match are in their ranges
-pub record MatchInRange (a : Match.Inside) : Type 0 where
-  pub dl_src : IfSome a.dl_src (λ v. v < 2 ^ 48)
-  pub dl_dst : IfSome a.dl_dst (λ v. v < 2 ^ 48)
-  pub dl_vlan : IfSome a.dl_vlan IsVlan
-  pub dl_vlan_pcp : IfSome a.dl_vlan_pcp (λ v. v < 8)
-  pub nw_tos : IfSome a.nw_tos (λ v. v % 4 ≡ 0)
-  pub nw_src : IfSome a.nw_src IsPrefix
-  pub nw_dst : IfSome a.nw_dst IsPrefix
+abbrev pub MatchInRange : Match.Inside → Type 0
+MatchInRange a = IsMatch (match_view a)

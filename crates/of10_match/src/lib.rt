@@ -2,6 +2,16 @@
 //! OpenFlow Switch Specification 1.0.0).
 #![tactic(auto)]
 
+mod display;
 pub mod header;
+pub mod laws;
+mod matching;
+mod normal;
+pub mod ofp_match;
+mod reading;
+mod writing;
 
 pub use header::{Header, Match, Prefix};
+pub use normal::{Read, UNTAGGED};
+pub use ofp_match::OfpMatch;
+pub use reading::read;
