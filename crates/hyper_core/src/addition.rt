@@ -13,8 +13,11 @@ const FLOW_MOD: u8 = 14;
 const FIXED: usize = 72;
 
 const ADD: u16 = 0;
+
 const NO_BUFFER: u32 = 0xffff_ffff;
+
 const EMERGENCY: u16 = 4;
+
 const MOST_ACTIONS: usize = 64;
 
 /// How many bytes an OUTPUT takes.
@@ -55,7 +58,7 @@ pub(crate) fn read(frame: &[u8]) -> Option<Addition<'_>> {
     }
     let mut written = [0u8; 40];
     written.copy_from_slice(&frame[8..48]);
-    let read = of10_match::read_it(&written);
+    let read = of10_match::read(&written);
     if !is_granted(&read.normal) {
         return None;
     }
@@ -105,9 +108,7 @@ impl Addition<'_> {
     /// The port of an output by its number.
     pub(crate) fn port(&self, number: usize) -> Option<u16> {
         if number < self.outputs() {
-            Some(port_of(
-                &self.actions[number * OUTPUT..number * OUTPUT + OUTPUT],
-            ))
+            Some(port_of(&self.actions[number * OUTPUT..number * OUTPUT + OUTPUT]))
         } else {
             None
         }

@@ -2,15 +2,15 @@
 use crate::addition::{self, Addition};
 use crate::entry::{Entry, SwitchEntry};
 use crate::event::{Event, Reply};
-use crate::messages;
 use crate::outbox::Outbox;
-use crate::placement;
 use crate::policy::{ENTRIES, PORTS};
+use crate::{messages, placement};
 use cv_io::{Bytes, List, Memory, Session, Steps, Who};
 use std::alloc::Global;
 use std::sync::ledger::Ledger;
 
 const MEMBER: Who = Who::Member(0);
+
 const SWITCH: Who = Who::Switch(0);
 
 /// The hypervisor over the built-in policy.

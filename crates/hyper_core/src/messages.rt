@@ -10,14 +10,21 @@ use std::io;
 use std::io::Write;
 
 const SET_CONFIG: u8 = 9;
+
 const FLOW_MOD: u8 = 14;
+
 const BARRIER_REQUEST: u8 = 18;
 
 const ADD: u16 = 0;
+
 const DELETE: u16 = 3;
+
 const SEND_FLOW_REM: u16 = 1;
+
 const NO_BUFFER: u32 = 0xffff_ffff;
+
 const NO_PORT: u16 = 0xffff;
+
 const NO_TIMEOUT: u16 = 0;
 
 /// How much of a packet a switch is to send: all of it.
@@ -65,7 +72,11 @@ pub(crate) fn add(
     cookie: u64,
     entry: &SwitchEntry,
 ) -> Result<Bytes, Memory> {
-    let length = entry.outputs.len().saturating_mul(OUTPUT).saturating_add(FIXED);
+    let length = entry
+        .outputs
+        .len()
+        .saturating_mul(OUTPUT)
+        .saturating_add(FIXED);
     let Ok(written_length) = u16::try_from(length) else {
         return Err(Memory);
     };
