@@ -39,10 +39,14 @@ prefix_back : (n : ℕ) (o : Option Prefix) → IfSome o IsPrefix → n ≡ open
 prefix_back n None p e = ap (λ k. prefix_by k 0) e
 prefix_back n (Some q) p e =
     let k = 32 - q.len in
+    let r : Prefix = record { addr = q.addr / 2 ^ k * 2 ^ k; len = 32 - k } in
     let fewer : nat_lt k 32 ≡ true = grind arith in
     let whole : q.addr / 2 ^ k * 2 ^ k ≡ q.addr = let split = div-add-mod' q.addr (2 ^ k) in let rest = p.3 in omega arith in
     let length : 32 - k ≡ q.len = omega arith in
-    ap (λ n. prefix_by n q.addr) e ∙ (ap (λ b. if b then Some (record { addr = q.addr / 2 ^ k * 2 ^ k; len = 32 - k }) else None) fewer ∙ ap (λ (r : Prefix). Some r) (same_prefix (record { addr = q.addr / 2 ^ k * 2 ^ k; len = 32 - k }) q whole length))
+    let counted : prefix_by n q.addr ≡ prefix_by k q.addr = ap (λ n. prefix_by n q.addr) e in
+    let some : prefix_by k q.addr ≡ Some r = ap (λ b. if b then Some r else None) fewer in
+    let same : Some r ≡ Some q = ap (λ (s : Prefix). Some s) (same_prefix r q whole length) in
+    counted ∙ (some ∙ same)
 
 pub named-written : (m : MatchOf) → IsMatch m → named (written m) ≡ m
 named-written m p =

@@ -1,5 +1,6 @@
 //! Which headers a match holds, and what two matches hold together.
 ghost use Rattle.std.specs.Prelude.{ℕ, ◌≡◌, ◌≤◌, ◌-◌, ◌/◌, ◌^◌, IsTrue, ◌↔◌, IfSome, IsSome, is_some};
+ghost use Rattle.of10_match.specs.Fields.{HeaderOf};
 ghost use Rattle.of10_match.specs.Matching.{agree_by, agree_prefix as agree_prefix_of, asks_by, asks_prefix as asks_prefix_of, both as both_of, covers as covers_of, everything as everything_of, fits_by, fits_prefix as fits_prefix_of, holds as holds_of, is_longer as is_longer_of, longer as longer_of, meet as meet_of, overlaps as overlaps_of, top_bits as top_bits_of};
 ghost use Rattle.of10_match.specs.Sets.{Covers, IsMeet, Overlap};
 ghost use Rattle.of10_match.specs.Normal.{IsNormal};
@@ -110,7 +111,8 @@ fn asks_prefix(a: Option<Prefix>, b: Option<Prefix>) -> bool
 impl Match {
     /// The match that holds every header.
     pub fn everything() -> Match
-        ensures { result ≡ everything_of }
+        ensures value { result ≡ everything_of }
+        ensures holds_all { (h : HeaderOf) → IsTrue (holds_of result h) }
     {
         Match {
             in_port: None,
