@@ -15,11 +15,10 @@ mod words;
 
 use cv_io::{Incoming, Outgoing, Steps};
 use std::alloc::Global;
-use std::env;
-use std::io;
 use std::marker::Brand;
 use std::process::ExitCode;
 use std::sync::ledger::{Blank, Ledger};
+use std::{env, io};
 
 /// The words after the program's name. Where one isn't text there are none, which is no form of
 /// the command line either.
