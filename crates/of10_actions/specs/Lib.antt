@@ -1,3 +1,9 @@
 pub mod Fields
 pub mod Ranges
 pub mod Rewriting
+pub mod Actions
+pub mod Effects
+pub mod Kinds
+pub mod Spelling
+pub mod Reading
+pub mod Worked

@@ -1,13 +1,29 @@
 -- From the fields of the struct to what contracts see, and back; the ranges of fields.
-use Rattle.std.specs.Prelude.{ℕ, ◌<◌, ◌^◌, ◌%◌, ◌≡◌, IfSome}
+use Rattle.std.specs.Prelude.{◌<◌, ◌^◌, ◌%◌, ◌≡◌, IfSome}
 use Rattle.of10_actions.specs.Fields.{RewriteOf}
 use Rattle.of10_actions.specs.declared.rewrite.Rewrite.TheInside as Rewrite
 
 abbrev pub rewrite_view : Rewrite.Inside → RewriteOf
-rewrite_view a = record { dl_src = a.dl_src; dl_dst = a.dl_dst; nw_src = a.nw_src; nw_dst = a.nw_dst; nw_tos = a.nw_tos; tp_src = a.tp_src; tp_dst = a.tp_dst }
+rewrite_view a = record {
+  dl_src = a.dl_src;
+  dl_dst = a.dl_dst;
+  nw_src = a.nw_src;
+  nw_dst = a.nw_dst;
+  nw_tos = a.nw_tos;
+  tp_src = a.tp_src;
+  tp_dst = a.tp_dst;
+}
 
 abbrev pub rewrite_inside : RewriteOf → Rewrite.Inside
-rewrite_inside a = record { dl_src = a.dl_src; dl_dst = a.dl_dst; nw_src = a.nw_src; nw_dst = a.nw_dst; nw_tos = a.nw_tos; tp_src = a.tp_src; tp_dst = a.tp_dst }
+rewrite_inside a = record {
+  dl_src = a.dl_src;
+  dl_dst = a.dl_dst;
+  nw_src = a.nw_src;
+  nw_dst = a.nw_dst;
+  nw_tos = a.nw_tos;
+  tp_src = a.tp_src;
+  tp_dst = a.tp_dst;
+}
 
 -- the values of a rewrite are in their ranges
 pub record RewriteInRange (a : Rewrite.Inside) : Type 0 where

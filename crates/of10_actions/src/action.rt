@@ -1,6 +1,14 @@
 //! Actions.
+ghost use Rattle.std.specs.Prelude.{◌≡◌};
+ghost use Rattle.of10_actions.specs.Actions.{IsInRange};
+ghost use Rattle.of10_actions.specs.Effects.{set_by};
+ghost use Rattle.of10_actions.specs.Kinds.{type_of};
 
-/// One action. An Ethernet address is below 2^48.
+use crate::kind::Kind;
+use crate::rewrite::Rewrite;
+
+/// One action (`ofp_action_header` and what follows it). A vid is below 4096, a pcp below 8, a tos a
+/// multiple of 4, and an Ethernet address below 2^48.
 #[derive(Clone, Copy, PartialEq, Eq, Debug)]
 pub enum Action {
     Output { port: u16, max_len: u16 },
@@ -15,4 +23,65 @@ pub enum Action {
     SetTpSrc { port: u16 },
     SetTpDst { port: u16 },
     Enqueue { port: u16, queue: u32 },
+}
+
+impl Action {
+    /// The type of the action.
+    pub fn kind(&self) -> Kind
+        ensures { result ≡ type_of self.now }
+    {
+        match *self {
+            Action::Output { .. } => Kind::Output,
+            Action::SetVlanVid { .. } => Kind::SetVlanVid,
+            Action::SetVlanPcp { .. } => Kind::SetVlanPcp,
+            Action::StripVlan => Kind::StripVlan,
+            Action::SetDlSrc { .. } => Kind::SetDlSrc,
+            Action::SetDlDst { .. } => Kind::SetDlDst,
+            Action::SetNwSrc { .. } => Kind::SetNwSrc,
+            Action::SetNwDst { .. } => Kind::SetNwDst,
+            Action::SetNwTos { .. } => Kind::SetNwTos,
+            Action::SetTpSrc { .. } => Kind::SetTpSrc,
+            Action::SetTpDst { .. } => Kind::SetTpDst,
+            Action::Enqueue { .. } => Kind::Enqueue,
+        }
+    }
+
+    /// The fields that the action sets. Only the seven that a rewrite has are looked at.
+    pub fn rewrite(&self) -> Rewrite
+        requires { IsInRange self.now }
+        ensures { result ≡ set_by self.now }
+    {
+        let nothing = Rewrite::new();
+        match *self {
+            Action::SetDlSrc { address } => Rewrite {
+                dl_src: Some(address),
+                ..nothing
+            },
+            Action::SetDlDst { address } => Rewrite {
+                dl_dst: Some(address),
+                ..nothing
+            },
+            Action::SetNwSrc { address } => Rewrite {
+                nw_src: Some(address),
+                ..nothing
+            },
+            Action::SetNwDst { address } => Rewrite {
+                nw_dst: Some(address),
+                ..nothing
+            },
+            Action::SetNwTos { tos } => Rewrite {
+                nw_tos: Some(tos),
+                ..nothing
+            },
+            Action::SetTpSrc { port } => Rewrite {
+                tp_src: Some(port),
+                ..nothing
+            },
+            Action::SetTpDst { port } => Rewrite {
+                tp_dst: Some(port),
+                ..nothing
+            },
+            _ => nothing,
+        }
+    }
 }

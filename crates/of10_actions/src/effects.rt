@@ -2,6 +2,9 @@
 use crate::rewrite::Rewrite;
 use cv_io::List;
 
+/// The reason of a PACKET_IN that an action makes (OFPR_ACTION).
+pub const ACTION: u8 = 1;
+
 /// Where an out goes.
 #[derive(Clone, Copy, PartialEq, Eq, Debug)]
 pub enum Dest {
@@ -16,14 +19,14 @@ pub enum Dest {
 }
 
 /// A packet that leaves, with the rewrite in force.
-#[derive(PartialEq, Eq, Debug, Drop)]
+#[derive(Clone, Copy, PartialEq, Eq, Debug)]
 pub struct Out {
     pub rewrite: Rewrite,
     pub dest: Dest,
 }
 
 /// How a list of actions ends.
-#[derive(PartialEq, Eq, Debug, Drop)]
+#[derive(Clone, Copy, PartialEq, Eq, Debug)]
 pub enum Tail {
     Nothing,
     /// Goes on to the right operand of `>>`.

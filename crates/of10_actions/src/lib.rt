@@ -4,8 +4,22 @@
 
 pub mod action;
 pub mod effects;
+pub mod fault;
+pub mod kind;
+pub mod laws;
+pub mod meaning;
+pub mod port;
+pub mod reading;
 pub mod rewrite;
+pub mod writing;
 
 pub use action::Action;
-pub use effects::{Dest, Effects, Out, PortView, Tail};
+pub use effects::{ACTION, Dest, Effects, Out, PortView, Tail};
+pub use fault::ActionFault;
+pub use kind::Kind;
+pub use reading::read_list;
 pub use rewrite::Rewrite;
+pub use writing::{list_length, write_actions, write_list};
+
+#[cfg(test)]
+mod tests;

@@ -1,21 +1,8 @@
 -- The fields that stand in the bytes of fields are those.
-use Rattle.std.proofs.Common.{◌≡◌, ◌<◌, ◌^◌, []}
+use Rattle.std.proofs.Common.{◌≡◌, []}
 use Rattle.byteorder.specs.Numbers.{big_number-reads_back}
-use Rattle.of10_match.specs.OfpMatchFields.{fields_in, bytes_of}
+use Rattle.of10_match.specs.OfpMatchFields.{FitsBytes, fields_in, bytes_of}
 use Rattle.of10_match.specs.declared.ofp_match.OfpMatch.{OfpMatch}
-
--- each number fits its bytes
-pub record FitsBytes (w : OfpMatch) : Type 0 where
-  pub wildcards : w.wildcards < 256 ^ 4
-  pub in_port : w.in_port < 256 ^ 2
-  pub dl_src : w.dl_src < 256 ^ 6
-  pub dl_dst : w.dl_dst < 256 ^ 6
-  pub dl_vlan : w.dl_vlan < 256 ^ 2
-  pub dl_type : w.dl_type < 256 ^ 2
-  pub nw_src : w.nw_src < 256 ^ 4
-  pub nw_dst : w.nw_dst < 256 ^ 4
-  pub tp_src : w.tp_src < 256 ^ 2
-  pub tp_dst : w.tp_dst < 256 ^ 2
 
 pub fields_in-bytes_of : (w : OfpMatch) → FitsBytes w → fields_in (bytes_of w) ≡ w
 fields_in-bytes_of w fit = λ i. record {

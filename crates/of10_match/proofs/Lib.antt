@@ -19,3 +19,4 @@ pub mod FieldBytes
 pub mod Digits
 pub mod ReadingBack
 pub mod ByteOrder
+pub mod Same

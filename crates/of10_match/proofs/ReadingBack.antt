@@ -5,14 +5,14 @@ use Rattle.std.specs.Prelude.{◌==◌, IfSome, OnSome, unwrap_or, nat_lt, if◌
 use Rattle.std.proofs.Math.Nat.{div-add-mod', mod-eq_of_lt}
 use Rattle.of10_match.specs.Fields.{MatchOf}
 use Rattle.of10_match.specs.Normal.{IsNormal, kept, normal, is_ip, is_ip_or_arp, is_tagged, has_ports}
-use Rattle.of10_match.specs.OfpMatchFields.{fields_in}
+use Rattle.of10_match.specs.OfpMatchFields.{FitsBytes, fields_in}
 use Rattle.of10_match.specs.Ranges.{IsMatch, IsVlan, IsTos, IsPrefix}
 use Rattle.of10_match.specs.Wildcards.{is_clear, prefix_by, vlan_of, named, normal_of, open_bits, address_of, wildcards_of, written, match_bytes}
 use Rattle.of10_match.specs.declared.header.Prefix.{Prefix}
 use Rattle.of10_match.specs.declared.ofp_match.OfpMatch.{OfpMatch}
 use Rattle.of10_match.proofs.Commuting.{same_prefix}
 use Rattle.of10_match.proofs.Digits.{digit, digits_of, wildcards_of-lt}
-use Rattle.of10_match.proofs.FieldBytes.{FitsBytes, fields_in-bytes_of}
+use Rattle.of10_match.proofs.FieldBytes.{fields_in-bytes_of}
 
 -- a field is named where its digit is zero
 value_back : (n : ℕ) (o : Option ℕ) → n ≡ digit o → then_some (n == 0) (unwrap_or o 0) ≡ o

@@ -2,7 +2,7 @@
 use Rattle.std.specs.Prelude.{ℕ, Option}
 use Rattle.of10_match.specs.declared.header.Prefix.{Prefix}
 
--- a header
+-- a header: the twelve numbers of a packet that matches look at
 pub record HeaderOf : Type 0 where
   pub in_port : ℕ
   pub dl_src : ℕ
@@ -17,7 +17,7 @@ pub record HeaderOf : Type 0 where
   pub tp_src : ℕ
   pub tp_dst : ℕ
 
--- a match
+-- a match: for each field nothing, or the value or prefix that it asks for
 pub record MatchOf : Type 0 where
   pub in_port : Option ℕ
   pub dl_src : Option ℕ

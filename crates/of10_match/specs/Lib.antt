@@ -6,3 +6,5 @@ pub mod Normal
 pub mod OfpMatchFields
 pub mod Wildcards
 pub mod Order
+pub mod Examples
+pub mod Same

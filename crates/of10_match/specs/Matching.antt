@@ -4,7 +4,7 @@ use Rattle.std.specs.Option.{option_or}
 use Rattle.of10_match.specs.Fields.{HeaderOf, MatchOf}
 use Rattle.of10_match.specs.declared.header.Prefix.{Prefix}
 
--- the first bits of an address
+-- the number of the first `len` bits of an address
 abbrev pub top_bits : ℕ → ℕ → ℕ
 top_bits len addr = addr / 2 ^ (32 - len)
 
@@ -13,9 +13,11 @@ abbrev pub fits_by : {A : Type 0} → (A → A → Bool) → Option A → A → 
 fits_by eq None x = true
 fits_by eq (Some v) x = eq v x
 
+-- a field that is absent, or has the header's value
 abbrev pub fits : Option ℕ → ℕ → Bool
 fits o x = fits_by ◌==◌ o x
 
+-- an address that is not asked for, or whose first bits are the header's
 abbrev pub fits_prefix : Option Prefix → ℕ → Bool
 fits_prefix None x = true
 fits_prefix (Some p) x = top_bits p.len p.addr == top_bits p.len x
@@ -49,13 +51,16 @@ agree_prefix None y = true
 agree_prefix (Some p) None = true
 agree_prefix (Some p) (Some q) = if is_longer q p then (top_bits p.len p.addr == top_bits p.len q.addr) else (top_bits q.len p.addr == top_bits q.len q.addr)
 
+-- no field is asked to have two values
 abbrev pub overlaps : MatchOf → MatchOf → Bool
 overlaps m n =
     each (agree m.in_port n.in_port) (agree m.dl_src n.dl_src) (agree m.dl_dst n.dl_dst) (agree m.dl_vlan n.dl_vlan) (agree m.dl_vlan_pcp n.dl_vlan_pcp) (agree m.dl_type n.dl_type) (agree m.nw_tos n.nw_tos) (agree m.nw_proto n.nw_proto) (agree_prefix m.nw_src n.nw_src) (agree_prefix m.nw_dst n.nw_dst) (agree m.tp_src n.tp_src) (agree m.tp_dst n.tp_dst)
 
+-- the value that either asks for, the first before the second
 abbrev pub either : Option ℕ → Option ℕ → Option ℕ
 either = option_or
 
+-- the longer prefix of the two
 abbrev pub longer : Option Prefix → Option Prefix → Option Prefix
 longer None y = y
 longer (Some p) None = Some p
@@ -78,9 +83,11 @@ both m n = record {
   tp_dst = either m.tp_dst n.tp_dst;
 }
 
+-- the match of the headers that are in both, where there are any
 abbrev pub meet : MatchOf → MatchOf → Option MatchOf
 meet m n = if overlaps m n then Some (both m n) else None
 
+-- the match that names no field
 abbrev pub everything : MatchOf
 everything = record { in_port = None; dl_src = None; dl_dst = None; dl_vlan = None; dl_vlan_pcp = None; dl_type = None; nw_tos = None; nw_proto = None; nw_src = None; nw_dst = None; tp_src = None; tp_dst = None }
 

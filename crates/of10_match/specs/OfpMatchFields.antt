@@ -1,5 +1,5 @@
 -- The 40 bytes of an `ofp_match`, field by field.
-use Rattle.std.specs.Prelude.{ℕ, List, [], ◌∷◌, ◌++◌, slice_index}
+use Rattle.std.specs.Prelude.{ℕ, ◌<◌, ◌^◌, List, [], ◌∷◌, ◌++◌, slice_index}
 use Rattle.byteorder.specs.Endian.{big_from, big_bytes}
 use Rattle.of10_match.specs.declared.ofp_match.OfpMatch.{OfpMatch}
 
@@ -38,3 +38,16 @@ network_bytes w =
 -- the 40 bytes of the fields, with zero padding
 abbrev pub bytes_of : OfpMatch → List ℕ
 bytes_of w = link_bytes w ++ network_bytes w
+
+-- each number fits the bytes that it has
+pub record FitsBytes (w : OfpMatch) : Type 0 where
+  pub wildcards : w.wildcards < 256 ^ 4
+  pub in_port : w.in_port < 256 ^ 2
+  pub dl_src : w.dl_src < 256 ^ 6
+  pub dl_dst : w.dl_dst < 256 ^ 6
+  pub dl_vlan : w.dl_vlan < 256 ^ 2
+  pub dl_type : w.dl_type < 256 ^ 2
+  pub nw_src : w.nw_src < 256 ^ 4
+  pub nw_dst : w.nw_dst < 256 ^ 4
+  pub tp_src : w.tp_src < 256 ^ 2
+  pub tp_dst : w.tp_dst < 256 ^ 2

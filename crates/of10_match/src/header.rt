@@ -1,9 +1,10 @@
 //! Headers and matches.
 use std::marker::Model;
 
-/// The twelve numbers of a packet that OpenFlow 1.0 matches. A packet without a tag has the
-/// dl_vlan 65535.
-#[derive(Clone, Copy, PartialEq, Eq, Debug)]
+/// The twelve numbers of a packet that OpenFlow 1.0 matches (section 3.1). Ethernet addresses are below
+/// 2^48, dl_vlan is below 4096, or 65535 for a packet without a tag, dl_vlan_pcp is below 8 and
+/// nw_tos a multiple of 4.
+#[derive(Clone, Copy, PartialEq, Eq, Hash, Debug)]
 pub struct Header {
     pub in_port: u16,
     pub dl_src: u64,
@@ -34,14 +35,15 @@ impl Model for Header {
 }
 
 /// The first `len` bits of an address; the further bits are zero.
-#[derive(Clone, Copy, PartialEq, Eq, Debug)]
+#[derive(Clone, Copy, PartialEq, Eq, Hash, Debug)]
 pub struct Prefix {
     pub addr: u32,
     pub len: u8,
 }
 
-/// A match: for each field nothing, or the value that it asks of a header.
-#[derive(Clone, Copy, PartialEq, Eq, Debug)]
+/// For each field nothing, or the value that it asks of a header, in the ranges of a header. An
+/// address is asked for by a prefix of 1 to 32 bits.
+#[derive(Clone, Copy, PartialEq, Eq, Hash, Debug)]
 pub struct Match {
     pub in_port: Option<u16>,
     pub dl_src: Option<u64>,

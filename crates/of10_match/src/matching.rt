@@ -39,6 +39,7 @@ impl Prefix {
     }
 }
 
+/// Whether a field that is asked for is the header's.
 fn fits<T: PartialEq + Copy>(asked: Option<T>, value: T) -> bool
     ensures { result ≡ fits_by T.eq asked value }
 {
@@ -48,6 +49,7 @@ fn fits<T: PartialEq + Copy>(asked: Option<T>, value: T) -> bool
     }
 }
 
+/// Whether a prefix that is asked for begins the header's address.
 fn fits_prefix(asked: Option<Prefix>, addr: u32) -> bool
     ensures { result ≡ fits_prefix_of asked addr }
 {
@@ -57,6 +59,7 @@ fn fits_prefix(asked: Option<Prefix>, addr: u32) -> bool
     }
 }
 
+/// Whether no two values are asked of one field.
 fn agree<T: PartialEq + Copy>(a: Option<T>, b: Option<T>) -> bool
     ensures { result ≡ agree_by T.eq a b }
 {
@@ -66,6 +69,7 @@ fn agree<T: PartialEq + Copy>(a: Option<T>, b: Option<T>) -> bool
     }
 }
 
+/// Whether the longer of two prefixes begins with the shorter.
 fn agree_prefix(a: Option<Prefix>, b: Option<Prefix>) -> bool
     ensures { result ≡ agree_prefix_of a b }
 {
@@ -78,6 +82,7 @@ fn agree_prefix(a: Option<Prefix>, b: Option<Prefix>) -> bool
     }
 }
 
+/// The longer of two prefixes, of which nothing is the shortest.
 fn longer(a: Option<Prefix>, b: Option<Prefix>) -> Option<Prefix>
     ensures { result ≡ longer_of a b }
 {
@@ -88,6 +93,7 @@ fn longer(a: Option<Prefix>, b: Option<Prefix>) -> Option<Prefix>
     }
 }
 
+/// Whether `b` asks for what `a` asks for.
 fn asks<T: PartialEq + Copy>(a: Option<T>, b: Option<T>) -> bool
     ensures { result ≡ asks_by T.eq a b }
 {
@@ -98,6 +104,7 @@ fn asks<T: PartialEq + Copy>(a: Option<T>, b: Option<T>) -> bool
     }
 }
 
+/// Whether `b` begins with `a`.
 fn asks_prefix(a: Option<Prefix>, b: Option<Prefix>) -> bool
     ensures { result ≡ asks_prefix_of a b }
 {
