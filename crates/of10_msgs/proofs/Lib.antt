@@ -1,0 +1,9 @@
+pub mod Ports
+pub mod Lengths
+pub mod Fields
+pub mod PortFields
+pub mod SpelledBodies
+pub mod Spelled
+pub mod FoundParts
+pub mod FoundBodies
+pub mod Found

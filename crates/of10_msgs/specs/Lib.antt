@@ -1,0 +1,5 @@
+pub mod Kinds
+pub mod Bodies
+pub mod Spelling
+pub mod Ranges
+pub mod Reading

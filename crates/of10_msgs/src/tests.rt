@@ -1,0 +1,188 @@
+ghost use Rattle.std.specs.Prelude.{IfOk};
+ghost use Rattle.of10_msgs.specs.Ranges.{CanWrite};
+
+use super::*;
+use cv_io::Bytes;
+use of10_actions::{Action, ActionFault};
+use of10_frames::{header, is_frame};
+use std::process::Abort;
+use std::test::*;
+
+mod vectors;
+
+/// The message of bytes that are one frame.
+fn read(rt: &(impl Abort + AllocGlobal), frame: &[u8]) -> Result<Message, FormFault>
+    ensures { IfOk result (λ m. CanWrite m.body) }
+{
+    assert!(rt; is_frame(frame));
+    read_message(rt.alloc(), frame)
+}
+
+#[test]
+fn another_implementation(rt: HostRuntime) -> Result<(), Fail> {
+    for (name, digits) in vectors::MESSAGES {
+        let frame = hex::decode(rt.alloc(), digits)?;
+        match read(&rt, &frame) {
+            Ok(message) => {
+                assert_eq!(rt; message.body.kind().number(), frame[1], "at {name}");
+                let written = write_message(rt.alloc(), &message)?;
+                assert_eq!(rt; written.as_slice(), &frame[..], "at {name}");
+            }
+            Err(fault) => {
+                assert_eq!(rt; fault, FormFault::BadVendor);
+                assert_eq!(rt; name, "VENDOR");
+            }
+        }
+    }
+    Ok(())
+}
+
+/// The ADD of one entry, of 80 bytes.
+const ADD: &str =
+    "010e005000000007003020ee000100000000000000000000000000000000080000000000000000000a0000010000000000000000000000000000000000008000ffffffffffff00000000000800020000";
+
+#[test]
+fn one_flow_mod(rt: HostRuntime) -> Result<(), Fail> {
+    let frame = hex::decode(rt.alloc(), ADD)?;
+    let message = read(&rt, &frame)?;
+    assert_eq!(rt; message.xid, 7);
+    let Body::FlowMod(ref f) = message.body else {
+        return Err("it is no FLOW_MOD".into());
+    };
+    assert_eq!(rt; f.m.as_slice(), &frame[8..48]);
+    assert_eq!(rt; f.cookie, 0);
+    assert_eq!(rt; (f.command, f.idle_timeout, f.hard_timeout), (0, 0, 0));
+    assert_eq!(rt; (f.priority, f.buffer_id), (0x8000, 0xffff_ffff));
+    assert_eq!(rt; (f.out_port, f.flags), (0xffff, 0));
+    assert_eq!(rt;
+        f.actions.as_slice(),
+        [Action::Output {
+            port: 2,
+            max_len: 0
+        }]
+        .as_slice()
+    );
+    let written = write_message(rt.alloc(), &message)?;
+    assert_eq!(rt; written.as_slice(), &frame[..]);
+    Ok(())
+}
+
+#[test]
+fn padding_is_free(rt: HostRuntime) -> Result<(), Fail> {
+    for (name, places) in [
+        ("FEATURES_REPLY", &[21, 22, 23][..]),
+        ("PACKET_IN", &[17]),
+        ("FLOW_REMOVED", &[29, 34, 35, 59, 70, 71]),
+        ("PORT_STATUS", &[9, 15]),
+        ("FLOW_MOD", &[29, 34, 35, 86, 87]),
+    ] {
+        for (other, digits) in vectors::MESSAGES {
+            if other != name {
+                continue;
+            }
+            let plain = hex::decode(rt.alloc(), digits)?;
+            let mut frame = plain.clone()?;
+            for place in places {
+                if let Some(byte) = frame.get_mut(*place) {
+                    *byte = 0xff;
+                }
+            }
+            let written = write_message(rt.alloc(), &read(&rt, &frame)?)?;
+            assert_eq!(rt; written.as_slice(), &plain[..], "at {name}");
+        }
+    }
+    Ok(())
+}
+
+#[test]
+fn refusals(rt: HostRuntime) -> Result<(), Fail> {
+    for (digits, want) in [
+        ("0400000800000000", None),
+        (
+            "0405000800000000",
+            Some(FormFault::BadVersion { version: 4 }),
+        ),
+        (
+            "0016000800000000",
+            Some(FormFault::BadVersion { version: 0 }),
+        ),
+        ("0116000800000000", Some(FormFault::BadType { kind: 22 })),
+        ("01ff000800000000", Some(FormFault::BadType { kind: 255 })),
+        ("0104000c0000000000002320", Some(FormFault::BadVendor)),
+        (
+            "010d001800000000ffffffffffff00090000000800010000",
+            Some(FormFault::BadLen {
+                kind: 13,
+                length: 24,
+            }),
+        ),
+    ] {
+        let frame = hex::decode(rt.alloc(), digits)?;
+        assert_eq!(rt; read(&rt, &frame).err(), want, "at {digits}");
+    }
+    let mut add = hex::decode(rt.alloc(), ADD)?;
+    for (byte, fault) in [
+        (12, ActionFault::BadType { at: 0 }),
+        (1, ActionFault::BadArgument { at: 0 }),
+        (5, ActionFault::BadLen { at: 0 }),
+    ] {
+        if let Some(kind) = add.get_mut(73) {
+            *kind = byte;
+        }
+        if let Some(vid) = add.get_mut(76) {
+            *vid = 0x10;
+        }
+        assert_eq!(rt;
+            read(&rt, &add).err(),
+            Some(FormFault::Action { fault }),
+            "at {byte}"
+        );
+    }
+    Ok(())
+}
+
+/// The least length of each type, and the step of the lengths above it; 0 where there is none.
+const LENGTHS: [(usize, usize); 22] = [
+    (8, 1),
+    (12, 1),
+    (8, 1),
+    (8, 1),
+    (12, 1),
+    (8, 0),
+    (32, 48),
+    (8, 0),
+    (12, 0),
+    (12, 0),
+    (18, 1),
+    (88, 0),
+    (64, 0),
+    (16, 1),
+    (72, 1),
+    (32, 0),
+    (12, 1),
+    (12, 1),
+    (8, 0),
+    (8, 0),
+    (12, 0),
+    (16, 1),
+];
+
+#[test]
+fn lengths(rt: HostRuntime) -> Result<(), Fail> {
+    for (number, (least, step)) in LENGTHS.into_iter().enumerate() {
+        for length in 8..130u16 {
+            let kind = number as u8;
+            let mut frame = Bytes::from_slice(rt.alloc(), &header(kind, length, 0))?;
+            for _ in 8..length {
+                frame.push(0)?;
+            }
+            let long = usize::from(length);
+            let above = long.saturating_sub(least);
+            let fits = long >= least && (above == 0 || (step > 0 && above % step == 0));
+            let refused = read(&rt, frame.as_slice()).err()
+                == Some(FormFault::BadLen { kind, length });
+            assert_eq!(rt; refused, !fits, "type {kind} at {length}");
+        }
+    }
+    Ok(())
+}

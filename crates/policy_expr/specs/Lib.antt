@@ -1,0 +1,11 @@
+pub mod Policy
+pub mod Sizes
+pub mod Signs
+pub mod Tokens
+pub mod Members
+pub mod Reading
+pub mod Operators
+pub mod Contexts
+pub mod Outcomes
+pub mod Grammar
+pub mod Accepting

@@ -1,0 +1,7 @@
+/// What composes two expressions.
+#[derive(Clone, Copy)]
+pub enum Operator {
+    Par,
+    Seq,
+    Over,
+}

@@ -1,0 +1,10 @@
+pub mod Histories
+pub mod Roster
+pub mod Stand
+pub mod Keeps
+pub mod Posts
+pub mod Splits
+pub mod Hears
+pub mod Missing
+pub mod Closes
+pub mod Opens

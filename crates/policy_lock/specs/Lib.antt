@@ -1,0 +1,10 @@
+pub mod History
+pub mod Seat
+pub mod Number
+pub mod Opening
+pub mod Post
+pub mod Close
+pub mod Locked
+pub mod View
+pub mod Rule
+pub mod Play
