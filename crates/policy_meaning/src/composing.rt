@@ -1,0 +1,189 @@
+//! The rules of pairs of rules, and rules that stand alone.
+ghost use Rattle.std.specs.Prelude.{◌≡◌, ◌<◌, ◌^◌, ◌++◌, All, IfOk, OnOk, map};
+ghost use Rattle.alg_priority.specs.Levels.{concat_level, shift_level, sum_level};
+ghost use Rattle.std.specs.Option.{option_and_then};
+ghost use Rattle.of10_match.specs.Matching.{meet};
+ghost use Rattle.of10_actions.specs.Rewriting.{pull as pull_of};
+ghost use Rattle.of10_actions.specs.declared.effects.Tail.TheVariants.{Pass};
+ghost use Rattle.policy_meaning.specs.Meaning.{out_after};
+ghost use Rattle.policy_meaning.specs.Rules.{chain_rule as chain_rule_of, chains_by, chains_with as chains_with_of, lifted as lifted_of, shifts_with as shifts_with_of, sum_rule as sum_rule_of, sums_with as sums_with_of};
+
+use crate::meaning::{append, append_after, copied, tail_after};
+use crate::pulling::pull;
+use crate::push::push_some;
+use crate::rule::Rule;
+use cv_io::{Leaf, List, Memory};
+use of10_actions::{Out, Rewrite, Tail};
+use of10_match::Match;
+use std::alloc::Global;
+
+/// The outs of one and then of another, whose rewrites stand after this one.
+fn chained_outs(
+    alloc: Global,
+    first: &List<Out>,
+    rewrite: &Rewrite,
+    second: &List<Out>,
+) -> Result<List<Out>, Memory>
+    ensures { IfOk result (λ outs. outs ≡ first.now ++ map (out_after rewrite.now) second.now) }
+{
+    let mut outs = List::new(alloc);
+    append(&mut outs, first)?;
+    append_after(&mut outs, rewrite, second)?;
+    Ok(outs)
+}
+
+fn joined_outs(alloc: Global, first: &List<Out>, second: &List<Out>) -> Result<List<Out>, Memory>
+    ensures { IfOk result (λ outs. outs ≡ first.now ++ second.now) }
+{
+    let mut outs = List::new(alloc);
+    append(&mut outs, first)?;
+    append(&mut outs, second)?;
+    Ok(outs)
+}
+
+fn joined_leaves(
+    alloc: Global,
+    first: &List<Leaf>,
+    second: &List<Leaf>,
+) -> Result<List<Leaf>, Memory>
+    ensures { IfOk result (λ leaves. leaves ≡ first.now ++ second.now) }
+{
+    let mut leaves = List::from_slice(alloc, first.as_slice())?;
+    leaves.extend_from_slice(second.as_slice())?;
+    Ok(leaves)
+}
+
+/// The rule of a pair of `+`, or none where no header is in both.
+pub fn sum_rule(alloc: Global, a: &Rule, b: &Rule) -> Result<Option<Rule>, Memory>
+    requires { sum_level a.now.level b.now.level < 2 ^ 64 }
+    ensures { IfOk result (λ rule. rule ≡ sum_rule_of a.now b.now) }
+{
+    match a.m.meet(&b.m) {
+        None => Ok(None),
+        Some(m) => Ok(Some(Rule {
+            m,
+            level: a.level + b.level,
+            touched: a.touched | b.touched,
+            outs: joined_outs(alloc, &a.outs, &b.outs)?,
+            tail: copied(&b.tail),
+            ancestry: joined_leaves(alloc, &a.ancestry, &b.ancestry)?,
+        })),
+    }
+}
+
+/// The match of a pair of `>>`.
+fn met_after(a: &Match, rewrite: &Rewrite, b: &Match) -> Option<Match>
+    ensures { result ≡ option_and_then (meet a.now) (pull_of rewrite.now b.now) }
+{
+    let pulled = pull(rewrite, b)?;
+    a.meet(&pulled)
+}
+
+/// The rule of a pair of `>>`, where the left passes packets on with this rewrite and the right has
+/// `size` levels, or none where no header of the left is in the right once it is rewritten.
+pub fn chain_rule(
+    alloc: Global,
+    size: u64,
+    rewrite: &Rewrite,
+    a: &Rule,
+    b: &Rule,
+) -> Result<Option<Rule>, Memory>
+    requires { concat_level a.now.level b.now.level size < 2 ^ 64 }
+    ensures { IfOk result (λ rule. rule ≡ chain_rule_of size rewrite.now a.now b.now) }
+{
+    match met_after(&a.m, rewrite, &b.m) {
+        None => Ok(None),
+        Some(m) => Ok(Some(Rule {
+            m,
+            level: a.level * size + b.level,
+            touched: a.touched,
+            outs: chained_outs(alloc, &a.outs, rewrite, &b.outs)?,
+            tail: tail_after(rewrite, &b.tail),
+            ancestry: joined_leaves(alloc, &a.ancestry, &b.ancestry)?,
+        })),
+    }
+}
+
+/// A rule that stands alone, at its level in the whole.
+pub fn lifted(alloc: Global, level: u64, a: &Rule) -> Result<Rule, Memory>
+    ensures { IfOk result (λ rule. rule ≡ lifted_of level a.now) }
+{
+    let mut outs = List::new(alloc);
+    append(&mut outs, &a.outs)?;
+    Ok(Rule {
+        m: a.m,
+        level,
+        touched: a.touched,
+        outs,
+        tail: copied(&a.tail),
+        ancestry: List::from_slice(alloc, a.ancestry.as_slice())?,
+    })
+}
+
+/// Appends the rules that a rule of the left of `+` makes.
+pub(crate) fn add_sums(
+    alloc: Global,
+    rules: &mut List<Rule>,
+    a: &Rule,
+    bs: &List<Rule>,
+) -> Result<(), Memory>
+    requires { All (λ (b : Rule). sum_level a.now.level b.level < 2 ^ 64) bs.now }
+    ensures { OnOk result (rules.new ≡ rules.old ++ sums_with_of bs.now a.now) }
+{
+    for b in bs.as_slice() {
+        push_some(rules, sum_rule(alloc, a, b)?)?;
+    }
+    Ok(())
+}
+
+/// Appends the rules that a rule of the left of `>>` makes which passes packets on with this rewrite.
+fn add_passed(
+    alloc: Global,
+    rules: &mut List<Rule>,
+    size: u64,
+    rewrite: &Rewrite,
+    a: &Rule,
+    bs: &List<Rule>,
+) -> Result<(), Memory>
+    requires { All (λ (b : Rule). concat_level a.now.level b.level size < 2 ^ 64) bs.now }
+    ensures { OnOk result (rules.new ≡ rules.old ++ chains_by (Pass rewrite.now) size bs.now a.now) }
+{
+    for b in bs.as_slice() {
+        push_some(rules, chain_rule(alloc, size, rewrite, a, b)?)?;
+    }
+    Ok(())
+}
+
+/// Appends the rules that a rule of the left of `>>` makes.
+pub(crate) fn add_chains(
+    alloc: Global,
+    rules: &mut List<Rule>,
+    size: u64,
+    a: &Rule,
+    bs: &List<Rule>,
+) -> Result<(), Memory>
+    requires pairs { All (λ (b : Rule). concat_level a.now.level b.level size < 2 ^ 64) bs.now }
+    requires alone { concat_level a.now.level 0 size < 2 ^ 64 }
+    ensures { OnOk result (rules.new ≡ rules.old ++ chains_with_of size bs.now a.now) }
+{
+    match &a.tail {
+        Tail::Pass(rewrite) => add_passed(alloc, rules, size, rewrite, a, bs),
+        _ => rules.push(lifted(alloc, a.level * size, a)?),
+    }
+}
+
+/// Appends the rule that a rule of the left of `|>` makes, if it is touched.
+pub(crate) fn add_shifted(
+    alloc: Global,
+    rules: &mut List<Rule>,
+    size: u64,
+    a: &Rule,
+) -> Result<(), Memory>
+    requires { shift_level a.now.level size < 2 ^ 64 }
+    ensures { OnOk result (rules.new ≡ rules.old ++ shifts_with_of size a.now) }
+{
+    if a.touched {
+        rules.push(lifted(alloc, size + a.level, a)?)?;
+    }
+    Ok(())
+}

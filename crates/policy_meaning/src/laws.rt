@@ -1,0 +1,43 @@
+//! The laws on which the hypervisor rests: each function's contract is the law.
+ghost use Rattle.policy_meaning.specs.CentralFact.{CentralFact, RulesAreSound};
+ghost use Rattle.policy_meaning.specs.EveryNode.{EveryNode};
+ghost use Rattle.policy_meaning.specs.Exact.{ImageHolds, MeetIsExact, PullIsExact};
+ghost use Rattle.policy_meaning.specs.HopFact.{HopFact};
+ghost use Rattle.policy_meaning.specs.LeafFact.{LeafFact, LeafRulesAreSound};
+ghost use Rattle.policy_meaning.specs.Order.{OrderKeepsBest};
+
+/// Meets and pulls hold exactly what they are to hold, and images hold it at least.
+pub fn exactness()
+    ensures meet { MeetIsExact }
+    ensures pull { PullIsExact }
+    ensures image { ImageHolds }
+{}
+
+/// Of the rules of a member's table that hold a header exactly one is best, and it means what the
+/// table means.
+pub fn leaf_fact()
+    ensures best { LeafFact }
+    ensures sound { LeafRulesAreSound }
+{}
+
+/// Of the rules of an expression that hold a header exactly one is best, and it means what the
+/// expression means.
+pub fn central_fact()
+    ensures best { CentralFact }
+    ensures sound { RulesAreSound }
+{}
+
+/// Of the rules of a node that hold a header exactly one is best, and its outs are those of the walk.
+pub fn hop_fact()
+    ensures { HopFact }
+{}
+
+/// The same from tables, levels, expressions and links, with nothing between.
+pub fn every_node()
+    ensures { EveryNode }
+{}
+
+/// Listing rules in the stated order keeps the best one.
+pub fn stated_order()
+    ensures { OrderKeepsBest }
+{}

@@ -1,0 +1,30 @@
+//! What a policy means for one header: of a member's table, of an expression, and on the way over
+//! virtual switches; the rules that stand for it; and the laws that tie the two.
+#![tactic(auto)]
+
+mod composing;
+pub mod evaluation;
+pub mod laws;
+pub mod leaf;
+mod leaf_rules;
+pub mod meaning;
+pub mod network;
+mod pulling;
+mod push;
+pub mod rule;
+mod scratch;
+pub mod walking;
+pub mod worked;
+
+pub use composing::{chain_rule, lifted, sum_rule};
+pub use evaluation::evaluate;
+pub use leaf::{LeafEntry, LeafTable};
+pub use meaning::Meaning;
+pub use network::{Link, Network, Onward, Place, VirtualSwitch};
+pub use pulling::pull;
+pub use rule::Rule;
+pub use scratch::{Composed, expression_rules};
+pub use walking::{PortOut, Told, Walked, walk};
+
+#[cfg(test)]
+mod tests;

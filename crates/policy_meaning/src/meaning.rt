@@ -1,0 +1,124 @@
+//! What is done to a packet.
+ghost use Rattle.std.specs.Prelude.{◌≡◌, ◌++◌, IfOk, OnOk, OnErr, map};
+ghost use Rattle.policy_meaning.specs.Leaf.{outside as outside_of};
+ghost use Rattle.policy_meaning.specs.Meaning.{both_act as both_act_of, first_touched as first_touched_of, out_after, passed_on, tail_after as tail_after_of};
+ghost use Rattle.of10_actions.specs.declared.effects.Tail.TheVariants.{Pass};
+
+use cv_io::{List, Memory};
+use of10_actions::{Out, Rewrite, Tail};
+use std::alloc::Global;
+
+/// What a table or an expression does to a packet.
+#[derive(PartialEq, Eq, Debug, Drop)]
+pub struct Meaning {
+    /// Whether it acts on the packet, in the sense of `|>`.
+    pub touched: bool,
+    pub outs: List<Out>,
+    pub tail: Tail,
+}
+
+/// Nothing is done.
+pub(crate) fn outside(alloc: Global) -> Meaning
+    ensures { result ≡ outside_of }
+{
+    Meaning {
+        touched: false,
+        outs: List::new(alloc),
+        tail: Tail::Nothing,
+    }
+}
+
+/// Appends outs.
+pub(crate) fn append(outs: &mut List<Out>, more: &List<Out>) -> Result<(), Memory>
+    ensures { OnOk result (outs.new ≡ outs.old ++ more.now) }
+{
+    for out in more.as_slice() {
+        outs.push(Out {
+            rewrite: out.rewrite,
+            dest: out.dest,
+        })?;
+    }
+    Ok(())
+}
+
+/// Appends outs whose rewrites stand after another.
+pub(crate) fn append_after(
+    outs: &mut List<Out>,
+    rewrite: &Rewrite,
+    more: &List<Out>,
+) -> Result<(), Memory>
+    ensures { OnOk result (outs.new ≡ outs.old ++ map (out_after rewrite.now) more.now) }
+{
+    for out in more.as_slice() {
+        outs.push(Out {
+            rewrite: rewrite.then(&out.rewrite),
+            dest: out.dest,
+        })?;
+    }
+    Ok(())
+}
+
+/// A copy of a tail.
+pub(crate) fn copied(tail: &Tail) -> Tail
+    ensures { result ≡ tail.now }
+{
+    match tail {
+        Tail::Nothing => Tail::Nothing,
+        Tail::Pass(rewrite) => Tail::Pass(*rewrite),
+        Tail::Link(rewrite, port) => Tail::Link(*rewrite, *port),
+    }
+}
+
+/// A tail whose rewrite stands after another.
+pub(crate) fn tail_after(rewrite: &Rewrite, tail: &Tail) -> Tail
+    ensures { result ≡ tail_after_of rewrite.now tail.now }
+{
+    match tail {
+        Tail::Nothing => Tail::Nothing,
+        Tail::Pass(next) => Tail::Pass(rewrite.then(next)),
+        Tail::Link(next, port) => Tail::Link(rewrite.then(next), *port),
+    }
+}
+
+pub(crate) fn both_act(left: Meaning, right: &Meaning) -> Result<Meaning, Memory>
+    ensures { IfOk result (λ meaning. meaning ≡ both_act_of left right.now) }
+{
+    let Meaning {
+        touched,
+        mut outs,
+        ..
+    } = left;
+    append(&mut outs, &right.outs)?;
+    Ok(Meaning {
+        touched: touched | right.touched,
+        outs,
+        tail: copied(&right.tail),
+    })
+}
+
+/// What is done where the left passes a packet on with this rewrite.
+pub(crate) fn passes_on(
+    left: Meaning,
+    rewrite: &Rewrite,
+    right: &Meaning,
+) -> Result<Meaning, Memory>
+    ensures { IfOk result (λ meaning. meaning ≡ passed_on (Pass rewrite.now) left (λ r. right.now)) }
+{
+    let Meaning {
+        touched,
+        mut outs,
+        ..
+    } = left;
+    append_after(&mut outs, rewrite, &right.outs)?;
+    Ok(Meaning {
+        touched,
+        outs,
+        tail: tail_after(rewrite, &right.tail),
+    })
+}
+
+pub(crate) fn first_touched(left: Meaning, right: Meaning) -> Meaning
+    ensures { result ≡ first_touched_of left right }
+{
+    if left.touched { left } else { right }
+}

@@ -1,0 +1,156 @@
+//! The rules of an expression, from scratch.
+ghost use Rattle.std.specs.Prelude.{◌≡◌, ◌<◌, ◌^◌, ◌++◌, All, IfOk, OnOk, flat_map, slice_get};
+ghost use Rattle.alg_priority.specs.Levels.{concat_level, shift_level, sum_level};
+ghost use Rattle.policy_expr.specs.Policy.{policy_of};
+ghost use Rattle.alg_priority.specs.Sizes.{concat_size, shift_size, sum_size};
+ghost use Rattle.policy_meaning.specs.Fitting.{ChainFits, Fits, HasFittingTable, ShiftFits, SumFits, composed_of};
+ghost use Rattle.policy_meaning.specs.Networks.{table_rules, table_size};
+ghost use Rattle.policy_meaning.specs.Rules.{chains_with, shifts_with, sums_with};
+
+use crate::composing::{add_chains, add_shifted, add_sums};
+use crate::leaf::LeafTable;
+use crate::rule::Rule;
+use cv_io::{List, Memory};
+use policy_expr::Expr;
+use std::alloc::Global;
+
+/// The rules of all pairs of `+`.
+fn sums(alloc: Global, xs: &List<Rule>, bs: &List<Rule>) -> Result<List<Rule>, Memory>
+    requires { All (λ (a : Rule). All (λ (b : Rule). sum_level a.level b.level < 2 ^ 64) bs.now) xs.now }
+    ensures { IfOk result (λ rules. rules ≡ flat_map (sums_with bs.now) xs.now) }
+{
+    let mut rules = List::new(alloc);
+    for a in xs.as_slice() {
+        add_sums(alloc, &mut rules, a, bs)?;
+    }
+    Ok(rules)
+}
+
+/// The rules of all pairs of `>>`, and those of the left that stand alone.
+fn chains(alloc: Global, size: u64, xs: &List<Rule>, bs: &List<Rule>) -> Result<List<Rule>, Memory>
+    requires pairs { All (λ (a : Rule). All (λ (b : Rule). concat_level a.level b.level size < 2 ^ 64) bs.now) xs.now }
+    requires alone { All (λ (a : Rule). concat_level a.level 0 size < 2 ^ 64) xs.now }
+    ensures { IfOk result (λ rules. rules ≡ flat_map (chains_with size bs.now) xs.now) }
+{
+    let mut rules = List::new(alloc);
+    for a in xs.as_slice() {
+        add_chains(alloc, &mut rules, size, a, bs)?;
+    }
+    Ok(rules)
+}
+
+/// The touched rules of the left of `|>`, and then those of the right.
+fn shifts(alloc: Global, size: u64, xs: &List<Rule>, bs: List<Rule>) -> Result<List<Rule>, Memory>
+    requires { All (λ (a : Rule). shift_level a.level size < 2 ^ 64) xs.now }
+    ensures { IfOk result (λ rules. rules ≡ flat_map (shifts_with size) xs.now ++ bs) }
+{
+    let mut rules = List::new(alloc);
+    for a in xs.as_slice() {
+        add_shifted(alloc, &mut rules, size, a)?;
+    }
+    for b in bs.into_vec() {
+        rules.push(b)?;
+    }
+    Ok(rules)
+}
+
+/// How many levels a member has; one without a table has one.
+fn member_size(tables: &List<LeafTable>, index: u32) -> u64
+    ensures { result ≡ table_size (slice_get tables.now index) }
+{
+    match tables.get(index as usize) {
+        Some(table) => table.size,
+        None => 1,
+    }
+}
+
+/// The rules of a member; one without a table has none.
+fn member_rules(
+    alloc: Global,
+    tables: &List<LeafTable>,
+    ports: &List<u16>,
+    index: u32,
+) -> Result<List<Rule>, Memory>
+    requires { HasFittingTable (slice_get tables.now index) }
+    ensures { IfOk result (λ rules. rules ≡ table_rules ports.now (slice_get tables.now index)) }
+{
+    match tables.get(index as usize) {
+        Some(table) => table.rules(alloc, ports),
+        None => Ok(List::new(alloc)),
+    }
+}
+
+/// The rules of an expression, and how many levels they have.
+#[derive(PartialEq, Eq, Debug, Drop)]
+pub struct Composed {
+    pub rules: List<Rule>,
+    pub size: u64,
+}
+
+/// The rules of `a + b`.
+fn composed_sum(alloc: Global, left: &Composed, right: &Composed) -> Result<Composed, Memory>
+    requires { SumFits left.now.size right.now.size left.now.rules right.now.rules }
+    ensures { IfOk result (λ composed. composed ≡ record { rules = flat_map (sums_with right.now.rules) left.now.rules; size = sum_size left.now.size right.now.size }) }
+{
+    Ok(Composed {
+        rules: sums(alloc, &left.rules, &right.rules)?,
+        size: (left.size + right.size).saturating_sub(1),
+    })
+}
+
+/// The rules of `a >> b`.
+fn composed_chain(alloc: Global, left: &Composed, right: &Composed) -> Result<Composed, Memory>
+    requires { ChainFits left.now.size right.now.size left.now.rules right.now.rules }
+    ensures { IfOk result (λ composed. composed ≡ record { rules = flat_map (chains_with right.now.size right.now.rules) left.now.rules; size = concat_size left.now.size right.now.size }) }
+{
+    Ok(Composed {
+        rules: chains(alloc, right.size, &left.rules, &right.rules)?,
+        size: left.size * right.size,
+    })
+}
+
+/// The rules of `a |> b`.
+fn composed_shift(alloc: Global, left: &Composed, right: Composed) -> Result<Composed, Memory>
+    requires { ShiftFits left.now.size right.size left.now.rules }
+    ensures { IfOk result (λ composed. composed ≡ record { rules = flat_map (shifts_with right.size) left.now.rules ++ right.rules; size = shift_size left.now.size right.size }) }
+{
+    let Composed { rules, size } = right;
+    Ok(Composed {
+        rules: shifts(alloc, size, &left.rules, rules)?,
+        size: left.size + size,
+    })
+}
+
+/// The rules of an expression, by those of its members: all pairs that meet, and all that stand alone,
+/// in no order that counts.
+pub fn expression_rules(
+    alloc: Global,
+    tables: &List<LeafTable>,
+    ports: &List<u16>,
+    expr: &Expr,
+) -> Result<Composed, Memory>
+    requires { Fits tables.now ports.now (policy_of expr.now) }
+    ensures { IfOk result (λ composed. composed ≡ composed_of tables.now ports.now (policy_of expr.now)) }
+{
+    match expr {
+        Expr::Member { index } => Ok(Composed {
+            rules: member_rules(alloc, tables, ports, *index)?,
+            size: member_size(tables, *index),
+        }),
+        Expr::Par { left, right } => {
+            let first = expression_rules(alloc, tables, ports, left)?;
+            let second = expression_rules(alloc, tables, ports, right)?;
+            composed_sum(alloc, &first, &second)
+        }
+        Expr::Seq { left, right } => {
+            let first = expression_rules(alloc, tables, ports, left)?;
+            let second = expression_rules(alloc, tables, ports, right)?;
+            composed_chain(alloc, &first, &second)
+        }
+        Expr::Over { left, right } => {
+            let first = expression_rules(alloc, tables, ports, left)?;
+            let second = expression_rules(alloc, tables, ports, right)?;
+            composed_shift(alloc, &first, second)
+        }
+    }
+}
