@@ -1,3 +1,4 @@
 pub mod Words
 pub mod Ended
 pub mod Stops
+pub mod Written

@@ -1,6 +1,7 @@
 //! The report of a replay, written as it comes.
 ghost use Rattle.std.specs.Prelude.{◌≡◌, ◌≤◌, OnOk, OnErr};
 ghost use Rattle.cv_io.specs.Outside.{Rose};
+ghost use Rattle.covisor_proxy.specs.Written.{Appends};
 
 use cv_io::{Bytes, Failed, Memory, Sink};
 use std::alloc::Global;
@@ -56,6 +57,7 @@ impl Report {
 
 /// Writes all bytes.
 pub(crate) fn write_all<K: Sink>(out: &mut K, bytes: &[u8]) -> Result<(), Failed>
+    ensures written { OnOk result (Appends (K.held out.old) (K.held out.new) bytes.now) }
     ensures quiet { OnOk result (K.faults out.new ≡ K.faults out.old) }
     ensures fault { OnErr result (Rose (K.faults out.old) (K.faults out.new)) }
 {

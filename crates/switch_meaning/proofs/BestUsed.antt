@@ -12,7 +12,7 @@ use Rattle.switch_meaning.specs.Same.{same_match}
 use Rattle.switch_meaning.specs.declared.entry.FlowEntry.{FlowEntry}
 use Rattle.switch_meaning.specs.declared.entry.PhysEntry.{PhysEntry}
 use Rattle.switch_meaning.proofs.Equal.{ancestry_cmp-self, match_decides}
-use Rattle.switch_meaning.proofs.Tests.{all-filter, all-map, fails, split_and}
+use Rattle.switch_meaning.proofs.Items.{all-filter, all-map, fails, split_and}
 
 -- the best item passes the test
 pub best-passes : {A : Type 0} {passes : A → Bool} {by : A → ℕ} {xs : List A} {x : A} → IsBest passes by xs x → passes x ≡ true

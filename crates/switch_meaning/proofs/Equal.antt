@@ -12,7 +12,7 @@ use Rattle.of10_match.specs.Fields.{MatchOf}
 use Rattle.of10_match.specs.declared.header.Prefix.{Prefix}
 use Rattle.switch_meaning.specs.Keys.{ancestry_cmp, leaf_cmp}
 use Rattle.switch_meaning.specs.Same.{same_leaf, same_match, same_prefix}
-use Rattle.switch_meaning.proofs.Tests.{some_injective}
+use Rattle.switch_meaning.proofs.Items.{some_injective}
 
 option_decides : {A : Type 0} (E : A → A → Bool) → ((x y : A) → Decides (E x y) (x ≡ y)) → (o p : Option A) → Decides (option_eq E o p) (o ≡ p)
 option_decides E d None None = (λ _. refl, λ _. refl)

@@ -14,7 +14,7 @@ use Rattle.switch_meaning.specs.Keys.{installed, passes_over, passing}
 use Rattle.switch_meaning.specs.MayUse.{is_address, is_exact}
 use Rattle.switch_meaning.specs.declared.entry.PhysEntry.{PhysEntry}
 use Rattle.switch_meaning.proofs.BestUsed.{best-at, best-filter, best-is-used, best-passes, or_false}
-use Rattle.switch_meaning.proofs.Tests.{all-filter, all-map, fails, join_and, split_and}
+use Rattle.switch_meaning.proofs.Items.{all-filter, all-map, fails, join_and, split_and}
 
 -- a field that fits the one value that another names asks for no more than it
 asks-named : (x y : Option ℕ) (v : ℕ) → is_some y ≡ true → fits y v ≡ true → fits x v ≡ true → asks x y ≡ true

@@ -9,7 +9,7 @@ use Rattle.switch_meaning.specs.MayUse.{IsIn, IsTop, IsUsable, MayUse, here, pri
 use Rattle.switch_meaning.specs.declared.entry.FlowEntry.{FlowEntry}
 use Rattle.switch_meaning.specs.declared.choosing.Reading.{Reading}
 use Rattle.switch_meaning.specs.declared.choosing.Reading.TheVariants.{ExactFirst, PriorityAlone}
-use Rattle.switch_meaning.proofs.Tests.{some_injective}
+use Rattle.switch_meaning.proofs.Items.{some_injective}
 
 never : {A : Type 0} {x : FlowEntry} → Some x ≡ None → A
 never e = cc

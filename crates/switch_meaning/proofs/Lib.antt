@@ -1,6 +1,6 @@
 pub mod Setting
 pub mod Going
-pub mod Tests
+pub mod Items
 pub mod Placed
 pub mod Equal
 pub mod BestUsed

@@ -25,7 +25,7 @@ use Rattle.switch_meaning.specs.declared.wiring.Outside.{Outside}
 use Rattle.switch_meaning.specs.declared.placing.Way.{Way}
 use Rattle.switch_meaning.specs.declared.wiring.Wiring.{Wiring}
 use Rattle.switch_meaning.proofs.Going.{GoesWell, IsGood, by_way, extends-before, fire-actions_of, goes, leaves}
-use Rattle.switch_meaning.proofs.Tests.{Mapped, all-filter, all-map, apart, fails, filter-all, filter_map-agree, filter_map-filter, list_any-filter, mapped, some_injective, split_and, join_and}
+use Rattle.switch_meaning.proofs.Items.{Mapped, all-filter, all-map, apart, fails, filter-all, filter_map-agree, filter_map-filter, list_any-filter, mapped, some_injective, split_and, join_and}
 
 -- the way to a port of the same switch
 way_to-here : (w : Wiring) (switch : ℕ) (ingress : Option ℕ) (o : Outside) → o.at.switch ≡ switch → way_to w switch ingress o ≡ Some (record { tag = None; port = written_port ingress o.at.port })

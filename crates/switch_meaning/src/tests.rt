@@ -1,3 +1,5 @@
+ghost use Rattle.of10_match.specs.Ranges.{IsVlan};
+
 use super::*;
 use cv_io::{Leaf, List};
 use of10_actions::{Action, Dest, Out, Rewrite};
@@ -27,7 +29,9 @@ fn by_port(port: u16) -> Match {
     }
 }
 
-fn by_tag(port: u16, tag: u16) -> Match {
+fn by_tag(port: u16, tag: u16) -> Match
+    requires { IsVlan tag }
+{
     Match {
         in_port: Some(port),
         dl_vlan: Some(tag),

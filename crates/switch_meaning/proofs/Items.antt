@@ -1,4 +1,4 @@
--- Tests of numbers, options and lists.
+-- Items of lists and options, and tests of them.
 use Rattle.std.proofs.Common.{◌≡◌, ◌≢◌, ℕ, ◌<◌, Bool, true, false, ◌&&◌, ◌||◌, Option, Some, None, List, [], ◌∷◌, refl, ap, ◌∙◌, sym, eqb-true, eq-eqb, arith}
 use Rattle.std.specs.Prelude.{◌==◌, not, if◌then◌else◌, filter, filter_map, option_map}
 use Rattle.std.specs.List.{AllByRecursion, cons_option, list_any}
