@@ -1,0 +1,10 @@
+pub mod Setting
+pub mod Going
+pub mod Items
+pub mod Placed
+pub mod Equal
+pub mod BestUsed
+pub mod Gate
+pub mod Highest
+pub mod Followed
+pub mod Writing

@@ -1,0 +1,52 @@
+-- Steps of writing a list of actions.
+use Rattle.std.proofs.Common.{◌≡◌, ℕ, ◌+◌, ◌<◌, List, [], ◌∷◌, ◌++◌, Option, Some, None, length, get_or, drop, refl, ap, sym, ◌∙◌, append_assoc}
+use Rattle.std.specs.Prelude.{option_map, MatchOption, IsSomeAnd, filter, if◌then◌else◌, Bool, true, false}
+use Rattle.std.proofs.lemmas.List.{at_drop_more}
+use Rattle.of10_actions.specs.declared.action.Action.{Action}
+use Rattle.of10_actions.specs.Fields.{RewriteOf}
+use Rattle.of10_actions.specs.declared.effects.Out.{Out}
+use Rattle.switch_meaning.specs.Placing.{actions_from, going, set_unless, sets_after, way_of}
+use Rattle.switch_meaning.specs.declared.wiring.Wiring.{Wiring}
+
+-- what a map of an option made
+pub mapped_by : (P : ℕ → Action → Type 0) (act : ℕ → Action) (o : Option ℕ) (r : Option Action) → ((x : ℕ) (y : Action) → P x y → y ≡ act x) → MatchOption o (r ≡ None) (λ x. IsSomeAnd r (P x)) → r ≡ option_map act o
+mapped_by P act None r says e = e
+mapped_by P act (Some x) None says e = absurd e
+mapped_by P act (Some x) (Some y) says e = ap Some (says x y e)
+
+-- one field more is set
+pub set_more : (done set : List (Option Action)) (i : ℕ) (old new all : List Action) → i < length done → i < length set →
+    new ≡ old ++ set_unless (get_or done i None) (get_or set i None) → old ++ sets_after (drop i done) (drop i set) ≡ all → new ++ sets_after (drop (i + 1) done) (drop (i + 1) set) ≡ all
+set_more done set i old new all lt lt' added e =
+    let one = set_unless (get_or done i None) (get_or set i None) in
+    let rest = sets_after (drop (i + 1) done) (drop (i + 1) set) in
+    let split : sets_after (drop i done) (drop i set) ≡ one ++ rest =
+    at_drop_more (λ xs. sets_after xs (drop i set)) done i None lt ∙ at_drop_more (λ ys. sets_after (get_or done i None ∷ drop (i + 1) done) ys) set i None lt' in
+    ap (λ xs. xs ++ rest) added ∙ (append_assoc old one rest ∙ (ap (λ xs. old ++ xs) (sym split) ∙ e))
+
+-- an out is written by a way
+pub written : (old sets_done tagged new rest : List Action) (s r : List Action) (o : Action) → sets_done ≡ old ++ s → tagged ≡ sets_done ++ r → new ≡ tagged ++ o ∷ [] → new ++ rest ≡ old ++ (s ++ (r ++ (o ∷ rest)))
+written old sets_done tagged new rest s r o e f g =
+    rw (g, f, e) (append_assoc ((old ++ s) ++ r) (o ∷ []) rest ∙ (append_assoc (old ++ s) r (o ∷ rest) ∙ append_assoc old s (r ++ (o ∷ rest))))
+
+-- one out more is written
+pub out_more : (w : Wiring) (switch : ℕ) (ingress : Option ℕ) (outs : List Out) (i : ℕ) (out : Out) (old new all : List Action) (now now' : RewriteOf) (tag tag' : Option ℕ) →
+    i < length outs → out ≡ get_or outs i out →
+    ((later : RewriteOf → Option ℕ → List Action) → new ++ later now' tag' ≡ old ++ going (way_of w switch ingress out.dest) now tag out.rewrite later) →
+    old ++ actions_from w switch ingress now tag (drop i outs) ≡ all → new ++ actions_from w switch ingress now' tag' (drop (i + 1) outs) ≡ all
+out_more w switch ingress outs i out old new all now now' tag tag' lt is added e =
+    added (λ now tag. actions_from w switch ingress now tag (drop (i + 1) outs))
+    ∙ (ap (λ xs. old ++ xs) (sym (at_drop_more (actions_from w switch ingress now tag) outs i out lt
+    ∙ (λ j. actions_from w switch ingress now tag ((sym is) j ∷ drop (i + 1) outs)))) ∙ e)
+
+one_kept : {A : Type 0} (b : Bool) (y : A) (ys : List A) → (if b then y ∷ [] else []) ++ ys ≡ (if b then y ∷ ys else ys)
+one_kept true y ys = refl
+one_kept false y ys = refl
+
+-- one item more is kept, if it passes
+pub kept_more : {A : Type 0} (p : A → Bool) (xs : List A) (i : ℕ) (x : A) (old new all : List A) → i < length xs → x ≡ get_or xs i x →
+    new ≡ old ++ (if p x then x ∷ [] else []) → old ++ filter p (drop i xs) ≡ all → new ++ filter p (drop (i + 1) xs) ≡ all
+kept_more p xs i x old new all lt is added e =
+    let rest = filter p (drop (i + 1) xs) in
+    ap (λ ys. ys ++ rest) added ∙ (append_assoc old (if p x then x ∷ [] else []) rest
+    ∙ (ap (λ ys. old ++ ys) (one_kept (p x) x rest ∙ sym (at_drop_more (filter p) xs i x lt ∙ (λ j. filter p ((sym is) j ∷ drop (i + 1) xs)))) ∙ e))

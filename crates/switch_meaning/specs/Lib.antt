@@ -1,0 +1,16 @@
+pub mod Same
+pub mod Tables
+pub mod MayUse
+pub mod Firing
+pub mod Wirings
+pub mod Following
+pub mod Choosing
+pub mod Placing
+pub mod Fixed
+pub mod Keys
+pub mod Batches
+pub mod WorkedFlood
+pub mod WorkedEntries
+pub mod WorkedKeys
+pub mod FiringLaw
+pub mod BestLaw

@@ -1,0 +1,41 @@
+-- Equality as tests.
+use Rattle.std.specs.Prelude.{Bool, true, false, ◌==◌, ◌&&◌}
+use Rattle.std.specs.Option.{option_eq}
+use Rattle.std.specs.Cmp.Lexicographic.{pointwise}
+use Rattle.cv_io.specs.declared.leaf.Leaf.{Leaf}
+use Rattle.of10_match.specs.Fields.{MatchOf}
+use Rattle.of10_match.specs.Matching.{each}
+use Rattle.of10_match.specs.declared.header.Prefix.{Prefix}
+use Rattle.of10_actions.specs.declared.action.Action.{Action}
+use Rattle.of10_actions.specs.declared.action.Action.TheVariants.{Output, SetVlanVid, SetVlanPcp, StripVlan, SetDlSrc, SetDlDst, SetNwSrc, SetNwDst, SetNwTos, SetTpSrc, SetTpDst, Enqueue}
+use Rattle.switch_meaning.specs.declared.entry.PhysEntry.{PhysEntry}
+
+abbrev pub same_prefix : Prefix → Prefix → Bool
+same_prefix p q = (p.addr == q.addr) && (p.len == q.len)
+
+-- two matches ask for the same
+abbrev pub same_match : MatchOf → MatchOf → Bool
+same_match m n =
+    each (option_eq ◌==◌ m.in_port n.in_port) (option_eq ◌==◌ m.dl_src n.dl_src) (option_eq ◌==◌ m.dl_dst n.dl_dst) (option_eq ◌==◌ m.dl_vlan n.dl_vlan) (option_eq ◌==◌ m.dl_vlan_pcp n.dl_vlan_pcp) (option_eq ◌==◌ m.dl_type n.dl_type) (option_eq ◌==◌ m.nw_tos n.nw_tos) (option_eq ◌==◌ m.nw_proto n.nw_proto) (option_eq same_prefix m.nw_src n.nw_src) (option_eq same_prefix m.nw_dst n.nw_dst) (option_eq ◌==◌ m.tp_src n.tp_src) (option_eq ◌==◌ m.tp_dst n.tp_dst)
+
+abbrev pub same_action : Action → Action → Bool
+same_action (Output p n) (Output q m) = (p == q) && (n == m)
+same_action (SetVlanVid v) (SetVlanVid w) = v == w
+same_action (SetVlanPcp v) (SetVlanPcp w) = v == w
+same_action StripVlan StripVlan = true
+same_action (SetDlSrc v) (SetDlSrc w) = v == w
+same_action (SetDlDst v) (SetDlDst w) = v == w
+same_action (SetNwSrc v) (SetNwSrc w) = v == w
+same_action (SetNwDst v) (SetNwDst w) = v == w
+same_action (SetNwTos v) (SetNwTos w) = v == w
+same_action (SetTpSrc v) (SetTpSrc w) = v == w
+same_action (SetTpDst v) (SetTpDst w) = v == w
+same_action (Enqueue p n) (Enqueue q m) = (p == q) && (n == m)
+same_action _ _ = false
+
+abbrev pub same_leaf : Leaf → Leaf → Bool
+same_leaf a b = (a.member == b.member) && (a.kind == b.kind)
+
+-- two entries are the same in every part
+abbrev pub same_entry : PhysEntry → PhysEntry → Bool
+same_entry d e = same_match d.m e.m && ((d.priority == e.priority) && (pointwise same_action d.actions e.actions && pointwise same_leaf d.ancestry e.ancestry))

@@ -1,0 +1,26 @@
+//! Laws of switches and of what is put on them: each function's contract is the law.
+ghost use Rattle.std.specs.Prelude.{List};
+ghost use Rattle.switch_meaning.specs.BestLaw.{BestIsInstalled, BestIsUsed};
+ghost use Rattle.switch_meaning.specs.Choosing.{chosen, table_at};
+ghost use Rattle.switch_meaning.specs.Following.{IsAllowed};
+ghost use Rattle.switch_meaning.specs.FiringLaw.{FiringGivesOuts};
+ghost use Rattle.switch_meaning.specs.declared.choosing.Reading.{Reading};
+ghost use Rattle.switch_meaning.specs.declared.entry.FlowEntry.{FlowEntry};
+
+/// A switch that uses the entry of a rule sends each packet exactly as the rule's outs say, and makes
+/// one copy for the controller where a member is told.
+pub fn firing()
+    ensures { FiringGivesOuts }
+{}
+
+/// Of entries that are one for each key, with the smallest ancestry, a switch uses the one of the
+/// best rule, whether it puts entries without wildcards first or goes by priority alone.
+pub fn using()
+    ensures one_per_key { BestIsUsed }
+    ensures installed { BestIsInstalled }
+{}
+
+/// Whatever the tables have, each switch has something that it may use, by either reading.
+pub fn choosing()
+    ensures { (tables : List (List FlowEntry)) (reading : Reading) → IsAllowed (table_at tables) (chosen tables reading) }
+{}

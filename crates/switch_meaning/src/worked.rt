@@ -1,0 +1,27 @@
+//! Worked examples, each computed by the checker.
+ghost use Rattle.switch_meaning.specs.WorkedEntries.{BalancerIsPlaced, IngressIsWritten, OneCopyFirst, TableIsChanged, WholeIsPlaced};
+ghost use Rattle.switch_meaning.specs.WorkedFlood.{FloodIsFollowed, FloodIsPlaced, TagsAreCarried};
+ghost use Rattle.switch_meaning.specs.WorkedKeys.{LevelsMove, NetGoes, SixAreInstalled};
+
+/// FLOOD over three switches: its entry, the fixed entries, and the way of a packet.
+pub fn worked_flood()
+    ensures flood_is_placed { FloodIsPlaced }
+    ensures tags_are_carried { TagsAreCarried }
+    ensures flood_is_followed { FloodIsFollowed }
+{}
+
+/// Entries of rules, and a table after changes.
+pub fn worked_entries()
+    ensures balancer_is_placed { BalancerIsPlaced }
+    ensures ingress_is_written { IngressIsWritten }
+    ensures one_copy_first { OneCopyFirst }
+    ensures whole_is_placed { WholeIsPlaced }
+    ensures table_is_changed { TableIsChanged }
+{}
+
+/// Pairs that share a key, and changes from table to table.
+pub fn worked_keys()
+    ensures six_are_installed { SixAreInstalled }
+    ensures net_goes { NetGoes }
+    ensures levels_move { LevelsMove }
+{}
