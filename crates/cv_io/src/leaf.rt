@@ -1,5 +1,6 @@
 //! Names: of sessions, and of the leaves of a policy.
 use crate::list::{Duplicate, List};
+use crate::memory::Memory;
 
 /// Whose outbox or session: a member or a switch by its number in the policy, or the audit.
 #[derive(Clone, Copy, PartialEq, Eq, Debug)]
@@ -22,6 +23,12 @@ pub struct Session {
 pub struct Leaf {
     pub member: u32,
     pub kind: u64,
+}
+
+impl Duplicate for Leaf {
+    fn copy(&self) -> Result<Leaf, Memory> {
+        Ok(*self)
+    }
 }
 
 /// What is made of leaves.

@@ -173,3 +173,21 @@ impl Duplicate for u8 {
         Ok(*self)
     }
 }
+
+impl Duplicate for u16 {
+    fn copy(&self) -> Result<u16, Memory> {
+        Ok(*self)
+    }
+}
+
+impl Duplicate for u32 {
+    fn copy(&self) -> Result<u32, Memory> {
+        Ok(*self)
+    }
+}
+
+impl Duplicate for u64 {
+    fn copy(&self) -> Result<u64, Memory> {
+        Ok(*self)
+    }
+}

@@ -6,6 +6,7 @@ ghost use Rattle.of10_actions.specs.Kinds.{type_of};
 
 use crate::kind::Kind;
 use crate::rewrite::Rewrite;
+use cv_io::{Duplicate, Memory};
 
 /// One action (`ofp_action_header` and what follows it). A vid is below 4096, a pcp below 8, a tos a
 /// multiple of 4, and an Ethernet address below 2^48.
@@ -23,6 +24,12 @@ pub enum Action {
     SetTpSrc { port: u16 },
     SetTpDst { port: u16 },
     Enqueue { port: u16, queue: u32 },
+}
+
+impl Duplicate for Action {
+    fn copy(&self) -> Result<Action, Memory> {
+        Ok(*self)
+    }
 }
 
 impl Action {

@@ -1,6 +1,6 @@
 //! What a list of actions does: outs in order, and at most one tail.
 use crate::rewrite::Rewrite;
-use cv_io::List;
+use cv_io::{Duplicate, List, Memory};
 
 /// The reason of a PACKET_IN that an action makes (OFPR_ACTION).
 pub const ACTION: u8 = 1;
@@ -25,6 +25,15 @@ pub struct Out {
     pub dest: Dest,
 }
 
+impl Duplicate for Out {
+    fn copy(&self) -> Result<Out, Memory> {
+        Ok(Out {
+            rewrite: self.rewrite,
+            dest: self.dest,
+        })
+    }
+}
+
 /// How a list of actions ends.
 #[derive(Clone, Copy, PartialEq, Eq, Debug)]
 pub enum Tail {
@@ -33,6 +42,16 @@ pub enum Tail {
     Pass(Rewrite),
     /// Goes on at the peer of this link port.
     Link(Rewrite, u16),
+}
+
+impl Duplicate for Tail {
+    fn copy(&self) -> Result<Tail, Memory> {
+        Ok(match self {
+            Tail::Nothing => Tail::Nothing,
+            Tail::Pass(rewrite) => Tail::Pass(*rewrite),
+            Tail::Link(rewrite, port) => Tail::Link(*rewrite, *port),
+        })
+    }
 }
 
 /// What a list of actions does.
