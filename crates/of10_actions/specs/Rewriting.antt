@@ -97,12 +97,12 @@ abbrev pub sets_tp : MatchOf → Bool
 sets_tp m = names m.dl_type is_ip && names m.nw_proto is_tcp_udp
 
 -- the value that a rewrite sets fits what the match asks of the field
-abbrev pub set_fits : {A : Type 0} → (Option A → ℕ → Bool) → Bool → Option ℕ → Option A → Bool
+abbrev pub set_fits : {A B : Type 0} → (Option A → B → Bool) → Bool → Option B → Option A → Bool
 set_fits fit b None m = true
 set_fits fit b (Some v) m = if b then fit m v else true
 
 -- what is asked of the field before the rewrite
-abbrev pub unset : {A : Type 0} → Bool → Option ℕ → Option A → Option A
+abbrev pub unset : {A B : Type 0} → Bool → Option B → Option A → Option A
 unset b None m = m
 unset b (Some v) m = if b then None else m
 
@@ -147,7 +147,7 @@ abbrev pub pull : RewriteOf → MatchOf → Option MatchOf
 pull r m = if can_pull r m then Some (pulled r m) else None
 
 -- what is known of a field after the rewrite
-abbrev pub set_in : {A : Type 0} → (ℕ → A) → Bool → Option ℕ → Option A → Option A
+abbrev pub set_in : {A B : Type 0} → (B → A) → Bool → Option B → Option A → Option A
 set_in whole b None m = m
 set_in whole b (Some v) m = if b then Some (whole v) else m
 

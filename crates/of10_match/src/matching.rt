@@ -1,5 +1,5 @@
 //! Which headers a match holds, and what two matches hold together.
-ghost use Rattle.std.specs.Prelude.{ℕ, ◌≡◌, ◌≤◌, ◌-◌, ◌/◌, ◌^◌, IsTrue, ◌↔◌, IfSome, IsSome, is_some};
+ghost use Rattle.std.specs.Prelude.{ℕ, ◌≡◌, ◌≤◌, ◌-◌, ◌/◌, ◌^◌, IsTrue, ◌↔◌, IfSome, IsSome, Some, is_some};
 ghost use Rattle.of10_match.specs.Fields.{HeaderOf};
 ghost use Rattle.of10_match.specs.Matching.{agree_by, agree_prefix as agree_prefix_of, asks_by, asks_prefix as asks_prefix_of, both as both_of, covers as covers_of, everything as everything_of, fits_by, fits_prefix as fits_prefix_of, holds as holds_of, is_longer as is_longer_of, longer as longer_of, meet as meet_of, overlaps as overlaps_of, top_bits as top_bits_of};
 ghost use Rattle.of10_match.specs.Sets.{Covers, IsMeet, Overlap};
@@ -31,6 +31,13 @@ impl Prefix {
         addr.checked_shr(self.open_bits()).unwrap_or(0)
     }
 
+    /// Whether the address begins with the prefix.
+    pub fn holds(&self, addr: u32) -> bool
+        ensures { result ≡ fits_prefix_of (Some self.now) addr }
+    {
+        self.top_bits(self.addr) == self.top_bits(addr)
+    }
+
     /// Whether it names as many bits as the other, or more.
     fn is_longer(&self, other: &Prefix) -> bool
         ensures { result ≡ is_longer_of self.now other.now }
@@ -54,7 +61,7 @@ fn fits_prefix(asked: Option<Prefix>, addr: u32) -> bool
     ensures { result ≡ fits_prefix_of asked addr }
 {
     match asked {
-        Some(p) => p.top_bits(p.addr) == p.top_bits(addr),
+        Some(p) => p.holds(addr),
         None => true,
     }
 }
