@@ -30,7 +30,7 @@ longer_self : (x : Option Prefix) → longer x x ≡ x
 longer_self None = refl
 longer_self (Some p) = longer-cases p (is_longer p p)
 
-overlaps_self : (m : MatchOf) → overlaps m m ≡ true
+pub overlaps_self : (m : MatchOf) → overlaps m m ≡ true
 overlaps_self m = overlaps-intro m m (record {
   in_port = agree_self m.in_port;
   dl_src = agree_self m.dl_src;
