@@ -55,18 +55,18 @@ module _ (sizes : ℕ → ℕ) (rules : ℕ → List Rule) where
   all-normal (parallel a b) p =
       each-sum HasNormal HasNormal HasNormal (λ x y nx ny o. normal-both x.m y.m o nx ny) (rules_of sizes rules a) (rules_of sizes rules b) (all-normal a p.0) (all-normal b p.1)
   all-normal (sequential a b) p =
-      each-chain HasNormal HasNormal HasNormal (size_of sizes b) (λ x level n. n) (λ x y r t nx ny o. normal-both x.m (pulled r y.m) o nx (normal-pulled r y.m ny)) (rules_of sizes rules a) (rules_of sizes rules b) (all-normal a p.0) (all-normal b p.1)
+      each-chain HasNormal HasNormal HasNormal (size_of sizes b) (λ x n. n) (λ x y r t nx ny o. normal-both x.m (pulled r y.m) o nx (normal-pulled r y.m ny)) (rules_of sizes rules a) (rules_of sizes rules b) (all-normal a p.0) (all-normal b p.1)
   all-normal (override a b) p =
-      each-shift HasNormal HasNormal HasNormal (size_of sizes b) (λ x level n. n) (rules_of sizes rules a) (rules_of sizes rules b) (all-normal a p.0) (all-normal b p.1)
+      each-shift HasNormal HasNormal HasNormal (size_of sizes b) (λ x n. n) (rules_of sizes rules a) (rules_of sizes rules b) (all-normal a p.0) (all-normal b p.1)
 
   all-plain : (e : Policy) → EachMember (OfLeaf IsPlainRule) e → Of IsPlainRule e
   all-plain (member i) p = p
   all-plain (parallel a b) p =
       each-sum IsPlainRule IsPlainRule IsPlainRule (λ x y px py o. record { sets = all-append (λ (o : Out). o.rewrite ≡ no_rewrite) x.outs y.outs px.sets py.sets; ends = py.ends }) (rules_of sizes rules a) (rules_of sizes rules b) (all-plain a p.0) (all-plain b p.1)
   all-plain (sequential a b) p =
-      each-chain IsPlainRule IsPlainRule IsPlainRule (size_of sizes b) (λ x level n. record { sets = n.sets; ends = n.ends }) (λ x y r t px py o. absurd (not-passing x.tail r px.ends t)) (rules_of sizes rules a) (rules_of sizes rules b) (all-plain a p.0) (all-plain b p.1)
+      each-chain IsPlainRule IsPlainRule IsPlainRule (size_of sizes b) (λ x n. record { sets = n.sets; ends = n.ends }) (λ x y r t px py o. absurd (not-passing x.tail r px.ends t)) (rules_of sizes rules a) (rules_of sizes rules b) (all-plain a p.0) (all-plain b p.1)
   all-plain (override a b) p =
-      each-shift IsPlainRule IsPlainRule IsPlainRule (size_of sizes b) (λ x level n. record { sets = n.sets; ends = n.ends }) (rules_of sizes rules a) (rules_of sizes rules b) (all-plain a p.0) (all-plain b p.1)
+      each-shift IsPlainRule IsPlainRule IsPlainRule (size_of sizes b) (λ x n. record { sets = n.sets; ends = n.ends }) (rules_of sizes rules a) (rules_of sizes rules b) (all-plain a p.0) (all-plain b p.1)
 
   all-builds : (e : Policy) → EachMember (OfLeaf Builds) e → EachLeft (IsPlainLeaf rules) e → Of Builds e
   all-builds (member i) p l = p
@@ -74,11 +74,11 @@ module _ (sizes : ℕ → ℕ) (rules : ℕ → List Rule) where
       each-sum PlainBuilds Builds Builds (λ x y px py o. sum-builds x y px py) (rules_of sizes rules a) (rules_of sizes rules b)
       (all-zip IsPlainRule Builds (rules_of sizes rules a) (all-plain a l.0) (all-builds a p.0 l.1)) (all-builds b p.1 l.2)
   all-builds (sequential a b) p l =
-      each-chain Builds Builds Builds (size_of sizes b) (λ x level n. n)
+      each-chain Builds Builds Builds (size_of sizes b) (λ x n. n)
       (λ x y r t px py o. builds _ _ (rises-then no_rewrite x.outs r y.outs y.tail (let q : Rises no_rewrite x.outs x.tail = rises x.outs x.tail px in rw t at q) (rises y.outs y.tail py)))
       (rules_of sizes rules a) (rules_of sizes rules b) (all-builds a p.0 l.0) (all-builds b p.1 l.1)
   all-builds (override a b) p l =
-      each-shift Builds Builds Builds (size_of sizes b) (λ x level n. n) (rules_of sizes rules a) (rules_of sizes rules b) (all-builds a p.0 l.0) (all-builds b p.1 l.1)
+      each-shift Builds Builds Builds (size_of sizes b) (λ x n. n) (rules_of sizes rules a) (rules_of sizes rules b) (all-builds a p.0 l.0) (all-builds b p.1 l.1)
 
 pub rules-are-sound : RulesAreSound
 rules-are-sound sizes rules e p l =

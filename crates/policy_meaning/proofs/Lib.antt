@@ -23,3 +23,4 @@ pub mod Evaluating
 pub mod Steps
 pub mod Stepping
 pub mod Ordered
+pub mod LevelsBelow

@@ -11,7 +11,7 @@ use Rattle.of10_actions.specs.declared.effects.Tail.{Tail}
 use Rattle.of10_actions.specs.declared.effects.Tail.TheVariants.{Nothing, Pass, Link}
 use Rattle.alg_priority.specs.Levels.{concat_level}
 use Rattle.policy_meaning.specs.LeafRules.{rule_met, at_port}
-use Rattle.policy_meaning.specs.Hops.{Fabric, node, hop_size, peer_of, peers_size, greatest, outs_at, ended, linked, link_rule, leads, hops_on, without_port, last_rule}
+use Rattle.policy_meaning.specs.Hops.{Fabric, node, hop_size, peer_of, peers_size, outs_at, at_node, hop_lone, hopped, hop_rule, leads, hops_on, without_port, last_rule}
 use Rattle.policy_meaning.specs.Walk.{Ground, walk, what_follows, here, nowhere, both_walked, walked_after, arriving, takes}
 use Rattle.policy_meaning.specs.Best.{EachAt, Below, IsBest, first, IsSound, BuildUp, Says}
 use Rattle.policy_meaning.specs.HopFact.{AreThose, HopSays, IsSoundFabric, HopFact}
@@ -42,8 +42,8 @@ port-holds : (m : MatchOf) (h : HeaderOf) (port : ℕ) → fits m.in_port port �
 port-holds m h port e = rw e
 
 -- the rule of two
-abbrev link_of : ℕ → ℕ → ℕ → RewriteOf → Rule → Rule → Rule
-link_of v port size r a b = linked v port size r a b (both a.m (pulled r (without_port b.m)))
+abbrev link_of : ℕ → RewriteOf → Rule → Rule → Rule
+link_of size r a b = hopped size r a b (both a.m (pulled r (without_port b.m)))
 
 -- what is known of a rule of two that holds a header
 pub record Linked (h : HeaderOf) (size : ℕ) (r : RewriteOf) (to : ℕ) (a x y : Rule) : Type 0 where
@@ -51,22 +51,22 @@ pub record Linked (h : HeaderOf) (size : ℕ) (r : RewriteOf) (to : ℕ) (a x y 
   pub right : holds x.m (arriving r to h) ≡ true
   pub level : y.level ≡ concat_level a.level x.level size
 
-linked-holds : (h : HeaderOf) (v port k : ℕ) (r : RewriteOf) (to : ℕ) (a x y : Rule) → AtPort to x → link_rule v port k r a x ≡ Some y → holds y.m h ≡ true → Linked h k r to a x y
-linked-holds h v port k r to a x y g e t =
+linked-holds : (h : HeaderOf) (k : ℕ) (r : RewriteOf) (to : ℕ) (a x y : Rule) → AtPort to x → hop_rule k r a x ≡ Some y → holds y.m h ≡ true → Linked h k r to a x y
+linked-holds h k r to a x y g e t =
     let n = without_port x.m in
-    let s : (can_pull r n ≡ true) × (overlaps a.m (pulled r n) ≡ true) × (link_of v port k r a x ≡ y) = some_pulled (linked v port k r a x) a.m n r y e in
+    let s : (can_pull r n ≡ true) × (overlaps a.m (pulled r n) ≡ true) × (link_of k r a x ≡ y) = some_pulled (hopped k r a x) a.m n r y e in
     let u : holds (both a.m (pulled r n)) h ≡ true = ap (λ (z : Rule). holds z.m h) s.2 ∙ t in
     let w = meet_holds a.m (pulled r n) h u s.1 in
     let pull = holds-pulled r n h (normal-guarded n (normal-without_port x.m g.sound.is_normal)) in
     record { left = w.0; right = port-holds x.m (apply r h) to g.port ∙ (sym pull ∙ join_and _ _ w.1 s.0); level = sym (ap (λ (z : Rule). z.level) s.2) }
 
-link-there : (h : HeaderOf) (v port k : ℕ) (r : RewriteOf) (to : ℕ) (a b : Rule) → AtPort to b → holds a.m h ≡ true → holds b.m (arriving r to h) ≡ true → (link_rule v port k r a b ≡ Some (link_of v port k r a b)) × (holds (both a.m (pulled r (without_port b.m))) h ≡ true)
-link-there h v port k r to a b g p q =
+link-there : (h : HeaderOf) (k : ℕ) (r : RewriteOf) (to : ℕ) (a b : Rule) → AtPort to b → holds a.m h ≡ true → holds b.m (arriving r to h) ≡ true → (hop_rule k r a b ≡ Some (link_of k r a b)) × (holds (both a.m (pulled r (without_port b.m))) h ≡ true)
+link-there h k r to a b g p q =
     let n = without_port b.m in
     let pull = holds-pulled r n h (normal-guarded n (normal-without_port b.m g.sound.is_normal)) in
     let s = split_and (holds (pulled r n) h) (can_pull r n) (pull ∙ (sym (port-holds b.m (apply r h) to g.port) ∙ q)) in
     let m = meet_there a.m (pulled r n) h p s.0 in
-    (is_pulled (linked v port k r a b) a.m n r s.1 m.1, m.0)
+    (is_pulled (hopped k r a b) a.m n r s.1 m.1, m.0)
 
 -- the rules with the port written
 at_port-holds : (h : HeaderOf) → holds (at_port h.in_port) h ≡ true
@@ -106,22 +106,29 @@ met-at port x y u g =
     } in
     subst (λ (z : Rule). AtPort port z) s.1 a
 
-ended-at : (v port k : ℕ) (a : Rule) → AtPort port a → AtPort port (ended v port k a)
-ended-at v port k a g = record {
-  sound = record { is_normal = g.sound.is_normal; builds = builds (outs_at v port a.outs) Nothing (rises-ended no_rewrite (outs_at v port a.outs) a.tail (rises-at v port no_rewrite a.outs a.tail (rises a.outs a.tail g.sound.builds))) };
+-- a rule as it stands at the node
+stands-at : (v port : ℕ) (a : Rule) → AtPort port a → AtPort port (at_node v port a)
+stands-at v port a g = record {
+  sound = record { is_normal = g.sound.is_normal; builds = builds (outs_at v port a.outs) a.tail (rises-at v port no_rewrite a.outs a.tail (rises a.outs a.tail g.sound.builds)) };
   port = g.port;
 }
 
-linked-at : (v port k : ℕ) (r : RewriteOf) (p : ℕ) (to : ℕ) (a x y : Rule) → a.tail ≡ Link r p → AtPort port a → AtPort to x → link_rule v port k r a x ≡ Some y → AtPort port y
-linked-at v port k r p to a x y t ga gx e =
+lone-at : (port k : ℕ) (a : Rule) → AtPort port a → AtPort port (hop_lone k a)
+lone-at port k a g = record {
+  sound = record { is_normal = g.sound.is_normal; builds = builds a.outs Nothing (rises-ended no_rewrite a.outs a.tail (rises a.outs a.tail g.sound.builds)) };
+  port = g.port;
+}
+
+linked-at : (port k : ℕ) (r : RewriteOf) (p : ℕ) (to : ℕ) (a x y : Rule) → a.tail ≡ Link r p → AtPort port a → AtPort to x → hop_rule k r a x ≡ Some y → AtPort port y
+linked-at port k r p to a x y t ga gx e =
     let n = without_port x.m in
-    let s : (can_pull r n ≡ true) × (overlaps a.m (pulled r n) ≡ true) × (link_of v port k r a x ≡ y) = some_pulled (linked v port k r a x) a.m n r y e in
-    let up : Rises no_rewrite (outs_at v port a.outs) a.tail = rises-at v port no_rewrite a.outs a.tail (rises a.outs a.tail ga.sound.builds) in
-    let up' : Rises no_rewrite (outs_at v port a.outs) (Link r p) = rw t at up in
-    let b : AtPort port (link_of v port k r a x) = record {
+    let s : (can_pull r n ≡ true) × (overlaps a.m (pulled r n) ≡ true) × (link_of k r a x ≡ y) = some_pulled (hopped k r a x) a.m n r y e in
+    let up : Rises no_rewrite a.outs a.tail = rises a.outs a.tail ga.sound.builds in
+    let up' : Rises no_rewrite a.outs (Link r p) = rw t at up in
+    let b : AtPort port (link_of k r a x) = record {
       sound = record {
         is_normal = normal-both a.m (pulled r n) s.1 ga.sound.is_normal (normal-pulled r n (normal-without_port x.m gx.sound.is_normal));
-        builds = builds _ Nothing (rises-then no_rewrite (outs_at v port a.outs) r x.outs Nothing (rises-link no_rewrite (outs_at v port a.outs) r p up') (rises-ended no_rewrite x.outs x.tail (rises x.outs x.tail gx.sound.builds)));
+        builds = builds _ Nothing (rises-then no_rewrite a.outs r x.outs Nothing (rises-link no_rewrite a.outs r p up') (rises-ended no_rewrite x.outs x.tail (rises x.outs x.tail gx.sound.builds)));
       };
       port = fits-open a.m.in_port port ga.port;
     } in
@@ -132,20 +139,20 @@ module _ (f : Fabric) (means : ℕ → HeaderOf → Meaning) (spread : ℕ → B
   ground = record { means = means; links = f.links; spread = spread }
 
   module _ (n v : ℕ) (nodes : (u port : ℕ) → AllByRecursion (AtPort port) (node f n u port)) where
-    on-at : (port : ℕ) (x : Rule) → AtPort port x → (k : ℕ) (o : Option Onward) → leads x.tail (f.links v) port ≡ o → AllByRecursion (AtPort port) (hops_on o (node f n) v port k x)
-    on-at port x g k None e = (ended-at v port k x g, tt)
+    on-at : (port : ℕ) (x : Rule) → AtPort port x → (k : ℕ) (o : Option Onward) → leads x.tail (f.links v) port ≡ o → AllByRecursion (AtPort port) (hops_on o (node f n) k x)
+    on-at port x g k None e = (lone-at port k x g, tt)
     on-at port x g k (Some on) e =
         let l = leading x.tail (f.links v) port on e in
-        all-filter_map (AtPort on.place.port) (AtPort port) (link_rule v port k on.rewrite x) (node f n on.place.v on.place.port)
-        (λ b y e gb. linked-at v port k on.rewrite l.by on.place.port x b y l.tail g gb e) (nodes on.place.v on.place.port)
+        all-filter_map (AtPort on.place.port) (AtPort port) (hop_rule k on.rewrite x) (node f n on.place.v on.place.port)
+        (λ b y e gb. linked-at port k on.rewrite l.by on.place.port x b y l.tail g gb e) (nodes on.place.v on.place.port)
 
   -- each rule of a node is sound, and fits its port
   pub node-at : (n u port : ℕ) → AllByRecursion (AtPort port) (node f n u port)
   node-at zero u port = (record { sound = record { is_normal = normal-everything; builds = record { outs = tt; tail = tt } }; port = refl }, tt)
   node-at (suc n) u port =
-      all-flat_map (AtPort port) (AtPort port) (λ (a : Rule). hops_on (leads a.tail (f.links u) port) (node f n) u port (peers_size (hop_size f n) (f.links u)) a)
+      all-flat_map (AtPort port) (AtPort port) (λ (a : Rule). hops_on (leads a.tail (f.links u) port) (node f n) (peers_size (hop_size f n) (f.links u)) (at_node u port a))
       (filter_map (met_at port) (f.rules u))
-      (λ x g. on-at n u (node-at n) port x g (peers_size (hop_size f n) (f.links u)) (leads x.tail (f.links u) port) refl)
+      (λ x g. on-at n u (node-at n) port (at_node u port x) (stands-at u port x g) (peers_size (hop_size f n) (f.links u)) (leads x.tail (f.links u) port) refl)
       (all-filter_map IsSound (AtPort port) (met_at port) (f.rules u) (λ x y e g. met-at port x y e g) (good.sound u))
 
   module _ (n v : ℕ) (h : HeaderOf) (before : (u : ℕ) (k : HeaderOf) → has u k.in_port ≡ true → takes (spread u) k ≡ true → HopSays k (node f n u k.in_port) (hop_size f n u) (walk ground n u k)) where
@@ -167,25 +174,25 @@ module _ (f : Fabric) (means : ℕ → HeaderOf → Meaning) (spread : ℕ → B
         let s = at-peer t on e in let k = arriving on.rewrite on.place.port h in
         at-below k (hop_size f n on.place.v) over (node f n on.place.v on.place.port) (peer-below t on e) (best_most k s.best (hop_size f n on.place.v) s.below)
 
-    module _ (x : Rule) (P : Rule → Type 0) (lone : holds x.m h ≡ true → P (ended v h.in_port over x))
+    module _ (x : Rule) (P : Rule → Type 0) (lone : holds x.m h ≡ true → P (hop_lone over x))
         (chain : (r : RewriteOf) (to : ℕ) (b y : Rule) → Linked h over r to x b y → b.level < over → P y) where
-      hop-part : (o : Option Onward) → leads x.tail (f.links v) h.in_port ≡ o → EachAt h P (hops_on o (node f n) v h.in_port over x)
+      hop-part : (o : Option Onward) → leads x.tail (f.links v) h.in_port ≡ o → EachAt h P (hops_on o (node f n) over x)
       hop-part None e = (lone, tt)
       hop-part (Some on) e =
-          at-filter_map h (arriving on.rewrite on.place.port h) (link_rule v h.in_port over on.rewrite x) (AtPort on.place.port) (Below over) P (node f n on.place.v on.place.port)
-          (λ b y gb u t low. let c = linked-holds h v h.in_port over on.rewrite on.place.port x b y gb u t in chain on.rewrite on.place.port b y c (low c.right))
+          at-filter_map h (arriving on.rewrite on.place.port h) (hop_rule over on.rewrite x) (AtPort on.place.port) (Below over) P (node f n on.place.v on.place.port)
+          (λ b y gb u t low. let c = linked-holds h over on.rewrite on.place.port x b y gb u t in chain on.rewrite on.place.port b y c (low c.right))
           (node-at n on.place.v on.place.port) (bounded x.tail on e)
 
     -- what a rule makes
     abbrev makes : Rule → List Rule
-    makes a = hops_on (leads a.tail (f.links v) h.in_port) (node f n) v h.in_port over a
+    makes a = hops_on (leads a.tail (f.links v) h.in_port) (node f n) over (at_node v h.in_port a)
 
     over-positive : 0 < over
     over-positive = positive _
 
     lower : (k : ℕ) (x : Rule) → (holds x.m h ≡ true → x.level < k) → EachAt h (Below (k * over)) (makes x)
     lower k x lt =
-        hop-part x (Below (k * over)) (λ e. high x.level k over 0 (lt e) over-positive)
+        hop-part (at_node v h.in_port x) (Below (k * over)) (λ e. high x.level k over 0 (lt e) over-positive)
         (λ r to b y c l. let at = c.level in let up = high x.level k over b.level (lt c.left) l in omega arith) (leads x.tail (f.links v) h.in_port) refl
 
     module _ (ok : has v h.in_port ≡ true) (in_ : takes (spread v) h ≡ true) where
@@ -211,39 +218,43 @@ module _ (f : Fabric) (means : ℕ → HeaderOf → Meaning) (spread : ℕ → B
       goes-on : (on : Onward) → leads base.tail (f.links v) h.in_port ≡ Some on → both_walked own (walked_after on.rewrite (walk ground n on.place.v (arriving on.rewrite on.place.port h))) ≡ walk ground (suc n) v h
       goes-on on e = rw (in_, ← (good.says v h ok).means, e)
 
-      linked-lower : (r : RewriteOf) (to : ℕ) (b x y : Rule) → AtPort to x → link_rule v h.in_port over r base x ≡ Some y → holds y.m h ≡ true → (holds x.m (arriving r to h) ≡ true → x.level < b.level) → y.level < concat_level base.level b.level over
+      -- the same as it stands at the node
+      abbrev stood : Rule
+      stood = at_node v h.in_port base
+
+      linked-lower : (r : RewriteOf) (to : ℕ) (b x y : Rule) → AtPort to x → hop_rule over r stood x ≡ Some y → holds y.m h ≡ true → (holds x.m (arriving r to h) ≡ true → x.level < b.level) → y.level < concat_level base.level b.level over
       linked-lower r to b x y gx z w low =
-          let c = linked-holds h v h.in_port over r to base x y gx z w in
+          let c = linked-holds h over r to stood x y gx z w in
           let l : x.level < b.level = low c.right in
           let at = c.level in
           omega arith
 
       step : (o : Option Onward) → leads base.tail (f.links v) h.in_port ≡ o → Said
       step None e = record {
-        rule = ended v h.in_port over base;
-        best = best-flat_map h makes (ended v h.in_port over base) (rw e (first (best_holds h base-best) tt))
+        rule = hop_lone over stood;
+        best = best-flat_map h makes (hop_lone over stood) (rw e (first (best_holds h base-best) tt))
             (λ x lt. at-below h (base.level * over) (concat_level base.level 0 over) (makes x) (omega arith) (lower base.level x lt)) base-best;
         below = high base.level (f.sizes v) over 0 (good.says v h ok).below over-positive;
-        outs = subst (AreThose (outs_at v h.in_port base.outs)) (ends e) (those-ended (outs_at v h.in_port base.outs) own (those-here v h.in_port base.outs));
-        sound = (ended-at v h.in_port over base base-at).sound;
+        outs = subst (AreThose stood.outs) (ends e) (those-ended stood.outs own (those-here v h.in_port base.outs));
+        sound = (lone-at h.in_port over stood (stands-at v h.in_port base base-at)).sound;
       }
       step (Some on) e =
           let l = leading base.tail (f.links v) h.in_port on e in
           let k = arriving on.rewrite on.place.port h in
           let s = at-peer base.tail on e in
           let gs = best_each k (AtPort on.place.port) s.best (node-at n on.place.v on.place.port) in
-          let there = link-there h v h.in_port over on.rewrite on.place.port base s.rule gs (best_holds h base-best) (best_holds k s.best) in
+          let there = link-there h over on.rewrite on.place.port stood s.rule gs (best_holds h base-best) (best_holds k s.best) in
           let bound : s.rule.level < over = let low = s.below in let le = peer-below base.tail on e in omega arith in
           record {
-            rule = link_of v h.in_port over on.rewrite base s.rule;
-            best = best-flat_map h makes (link_of v h.in_port over on.rewrite base s.rule)
-                (rw e (best-filter_map h k (link_rule v h.in_port over on.rewrite base) (AtPort on.place.port) (link_of v h.in_port over on.rewrite base s.rule) there.0 there.1
+            rule = link_of over on.rewrite stood s.rule;
+            best = best-flat_map h makes (link_of over on.rewrite stood s.rule)
+                (rw e (best-filter_map h k (hop_rule over on.rewrite stood) (AtPort on.place.port) (link_of over on.rewrite stood s.rule) there.0 there.1
                 (λ x y gx z w low. linked-lower on.rewrite on.place.port s.rule x y gx z w low) (node-at n on.place.v on.place.port) s.best))
                 (λ x lt. at-below h (base.level * over) (concat_level base.level s.rule.level over) (makes x) (omega arith) (lower base.level x lt)) base-best;
             below = high base.level (f.sizes v) over s.rule.level (good.says v h ok).below bound;
-            outs = subst (AreThose (link_of v h.in_port over on.rewrite base s.rule).outs) (goes-on on e)
-                (those-both (outs_at v h.in_port base.outs) _ own (walked_after on.rewrite (walk ground n on.place.v k)) (those-here v h.in_port base.outs) (those-after on.rewrite s.rule.outs (walk ground n on.place.v k) s.outs));
-            sound = (linked-at v h.in_port over on.rewrite l.by on.place.port base s.rule (link_of v h.in_port over on.rewrite base s.rule) l.tail base-at gs there.0).sound;
+            outs = subst (AreThose (link_of over on.rewrite stood s.rule).outs) (goes-on on e)
+                (those-both stood.outs _ own (walked_after on.rewrite (walk ground n on.place.v k)) (those-here v h.in_port base.outs) (those-after on.rewrite s.rule.outs (walk ground n on.place.v k) s.outs));
+            sound = (linked-at h.in_port over on.rewrite l.by on.place.port stood s.rule (link_of over on.rewrite stood s.rule) l.tail (stands-at v h.in_port base base-at) gs there.0).sound;
           }
 
   pub hop-says : (n v : ℕ) (h : HeaderOf) → has v h.in_port ≡ true → takes (spread v) h ≡ true → HopSays h (node f n v h.in_port) (hop_size f n v) (walk ground n v h)

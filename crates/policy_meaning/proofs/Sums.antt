@@ -48,7 +48,7 @@ lower' h n k a x y e t p q =
     let at = j.level in
     omega arith
 
-below-size : (a b n k : ℕ) → a < n → b < k → a + b < sum_size n k
+pub below-size : (a b n k : ℕ) → a < n → b < k → a + b < sum_size n k
 below-size a b n k p q = omega arith
 
 module _ (h : HeaderOf) (xs bs : List Rule) where

@@ -1,52 +1,52 @@
 -- Numbers that fit the 64 bits in which levels and kinds of leaves are kept.
-use Rattle.std.specs.Prelude.{ℕ, ◌+◌, ◌*◌, ◌<◌, ◌^◌, Option, Some, None, List, All, slice_get}
-use Rattle.alg_priority.specs.Levels.{sum_level, concat_level, shift_level}
-use Rattle.policy_expr.specs.Policy.{Policy, member, parallel, sequential, override}
+use Rattle.std.specs.Prelude.{ℕ, ◌+◌, ◌<◌, ◌^◌, List, All, slice_get}
+use Rattle.policy_expr.specs.Policy.{Policy}
 use Rattle.policy_expr.specs.Sizes.{size_of}
-use Rattle.policy_meaning.specs.Networks.{table_rules, table_size}
+use Rattle.policy_meaning.specs.Best.{Below}
+use Rattle.policy_meaning.specs.Hops.{node, hop_size}
+use Rattle.policy_meaning.specs.LeafFact.{IsSoundTable}
+use Rattle.policy_meaning.specs.Networks.{fabric_of, table_rules, table_size}
 use Rattle.policy_meaning.specs.Rules.{rules_of}
 use Rattle.policy_meaning.specs.declared.leaf.LeafEntry.{LeafEntry}
 use Rattle.policy_meaning.specs.declared.leaf.LeafTable.{LeafTable}
-use Rattle.policy_meaning.specs.declared.rule.Rule.{Rule}
+use Rattle.policy_meaning.specs.declared.network.Network.{Network}
 use Rattle.policy_meaning.specs.declared.scratch.Composed.{Composed}
+
+-- the serial of each entry leaves room for the kind of its leaf
+abbrev pub SerialsFit : LeafTable → Type 0
+SerialsFit t = All (λ (e : LeafEntry). 2 + e.serial < 2 ^ 64) t.entries
+
+-- a table has a level for a miss above that for outside, its entries' levels are below its size, and its serials fit
+pub record IsFittingTable (t : LeafTable) : Type 0 where
+  pub room : 1 < t.size
+  pub levels : All (λ (e : LeafEntry). e.level < t.size) t.entries
+  pub serials : SerialsFit t
+
+-- how many levels the rules of an expression over these tables have
+abbrev pub levels_of : List LeafTable → Policy → ℕ
+levels_of tables e = size_of (λ i. table_size (slice_get tables i)) e
 
 -- the rules of an expression over these tables, and how many levels they have
 abbrev pub composed_of : List LeafTable → List ℕ → Policy → Composed
 composed_of tables ports e = record {
   rules = rules_of (λ i. table_size (slice_get tables i)) (λ i. table_rules ports (slice_get tables i)) e;
-  size = size_of (λ i. table_size (slice_get tables i)) e;
+  size = levels_of tables e;
 }
 
--- the serial of each entry of the member's table leaves room for the kind of its leaf
-abbrev pub HasFittingTable : Option LeafTable → Type 0
-HasFittingTable None = Unit {0}
-HasFittingTable (Some t) = All (λ (e : LeafEntry). 2 + e.serial < 2 ^ 64) t.entries
+-- each rule's level is below the number of levels
+abbrev pub AreBelow : Composed → Type 0
+AreBelow c = All (Below c.size) c.rules
 
--- the size of `a + b` and the levels of its rules fit
-pub record SumFits (n k : ℕ) (xs bs : List Rule) : Type 0 where
-  pub size : n + k < 2 ^ 64
-  pub pairs : All (λ (a : Rule). All (λ (b : Rule). sum_level a.level b.level < 2 ^ 64) bs) xs
+-- over tables that fit, the levels of an expression's rules are below its size
+abbrev pub RulesAreBelow : Type 0
+RulesAreBelow = (tables : List LeafTable) (ports : List ℕ) (e : Policy) → All IsFittingTable tables → AreBelow (composed_of tables ports e)
 
--- the same of `a >> b`
-pub record ChainFits (n k : ℕ) (xs bs : List Rule) : Type 0 where
-  pub size : n * k < 2 ^ 64
-  pub pairs : All (λ (a : Rule). All (λ (b : Rule). concat_level a.level b.level k < 2 ^ 64) bs) xs
-  pub alone : All (λ (a : Rule). concat_level a.level 0 k < 2 ^ 64) xs
+-- and those of a node's rules below the node's
+abbrev pub NodesAreBelow : Type 0
+NodesAreBelow =
+    (net : Network) → All IsFittingTable net.tables
+    → (n v port : ℕ) → All (Below (hop_size (fabric_of net) n v)) (node (fabric_of net) n v port)
 
--- the same of `a |> b`
-pub record ShiftFits (n k : ℕ) (xs : List Rule) : Type 0 where
-  pub size : n + k < 2 ^ 64
-  pub alone : All (λ (a : Rule). shift_level a.level k < 2 ^ 64) xs
-
--- the numbers of an expression over these tables fit, in each of its parts
-abbrev pub Fits : List LeafTable → List ℕ → Policy → Type 0
-Fits tables ports (member i) = HasFittingTable (slice_get tables i)
-Fits tables ports (parallel a b) =
-    Fits tables ports a × Fits tables ports b
-    × SumFits (composed_of tables ports a).size (composed_of tables ports b).size (composed_of tables ports a).rules (composed_of tables ports b).rules
-Fits tables ports (sequential a b) =
-    Fits tables ports a × Fits tables ports b
-    × ChainFits (composed_of tables ports a).size (composed_of tables ports b).size (composed_of tables ports a).rules (composed_of tables ports b).rules
-Fits tables ports (override a b) =
-    Fits tables ports a × Fits tables ports b
-    × ShiftFits (composed_of tables ports a).size (composed_of tables ports b).size (composed_of tables ports a).rules
+-- a sound table fits if its serials do
+abbrev pub SoundTablesFit : Type 0
+SoundTablesFit = (t : LeafTable) → IsSoundTable t → SerialsFit t → IsFittingTable t

@@ -64,22 +64,26 @@ outs_at v port outs = filter_map (λ (o : Out). out_at v port o.rewrite o.dest) 
 abbrev pub without_port : MatchOf → MatchOf
 without_port m = record m { in_port = None }
 
--- a rule that ends at the node
-abbrev pub ended : ℕ → ℕ → ℕ → Rule → Rule
-ended v port size a = record { m = a.m; level = concat_level a.level 0 size; touched = true; outs = outs_at v port a.outs; tail = Tail.Nothing; ancestry = a.ancestry }
+-- a rule as it stands at the node of a port
+abbrev pub at_node : ℕ → ℕ → Rule → Rule
+at_node v port a = record a { outs = outs_at v port a.outs }
 
--- a rule that goes on over a link with the rewrite r, and a rule of the node there, where it holds m
-abbrev pub linked : ℕ → ℕ → ℕ → RewriteOf → Rule → Rule → MatchOf → Rule
-linked v port size r a b m = record { m = m; level = concat_level a.level b.level size; touched = true; outs = outs_at v port a.outs ++ map (out_after r) b.outs; tail = Tail.Nothing; ancestry = a.ancestry ++ b.ancestry }
+-- a rule, as it stands at its node, that goes on nowhere; the rules of its peers have `size` levels
+abbrev pub hop_lone : ℕ → Rule → Rule
+hop_lone size a = record { m = a.m; level = concat_level a.level 0 size; touched = true; outs = a.outs; tail = Tail.Nothing; ancestry = a.ancestry }
+
+-- such a rule that goes on with the rewrite r, and a rule of the node where it comes to, where both hold m
+abbrev pub hopped : ℕ → RewriteOf → Rule → Rule → MatchOf → Rule
+hopped size r a b m = record { m = m; level = concat_level a.level b.level size; touched = true; outs = a.outs ++ map (out_after r) b.outs; tail = Tail.Nothing; ancestry = a.ancestry ++ b.ancestry }
 
 -- the rule of such a pair, or none where no header of a is in b, at the peer's port and after r
-abbrev pub link_rule : ℕ → ℕ → ℕ → RewriteOf → Rule → Rule → Option Rule
-link_rule v port size r a b = option_map (linked v port size r a b) (option_and_then (meet a.m) (pull r (without_port b.m)))
+abbrev pub hop_rule : ℕ → RewriteOf → Rule → Rule → Option Rule
+hop_rule size r a b = option_map (hopped size r a b) (option_and_then (meet a.m) (pull r (without_port b.m)))
 
--- the rules that a rule makes which goes on so, or ends
-abbrev pub hops_on : Option Onward → (ℕ → ℕ → List Rule) → ℕ → ℕ → ℕ → Rule → List Rule
-hops_on None there v port size a = ended v port size a ∷ []
-hops_on (Some on) there v port size a = filter_map (link_rule v port size on.rewrite a) (there on.place.v on.place.port)
+-- the rules that a rule at its node makes which goes on so, or ends
+abbrev pub hops_on : Option Onward → (ℕ → ℕ → List Rule) → ℕ → Rule → List Rule
+hops_on None there size a = hop_lone size a ∷ []
+hops_on (Some on) there size a = filter_map (hop_rule size on.rewrite a) (there on.place.v on.place.port)
 
 -- the rule of a packet that has no hop left
 abbrev pub last_rule : Rule
@@ -89,5 +93,5 @@ last_rule = record { m = everything; level = 0; touched = true; outs = []; tail 
 abbrev pub node : Fabric → ℕ → ℕ → ℕ → List Rule
 node f zero v port = last_rule ∷ []
 node f (suc n) v port =
-    flat_map (λ (a : Rule). hops_on (leads a.tail (f.links v) port) (node f n) v port (peers_size (hop_size f n) (f.links v)) a)
+    flat_map (λ (a : Rule). hops_on (leads a.tail (f.links v) port) (node f n) (peers_size (hop_size f n) (f.links v)) (at_node v port a))
     (filter_map (λ a. rule_met a (at_port port)) (f.rules v))

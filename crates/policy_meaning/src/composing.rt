@@ -8,17 +8,17 @@ ghost use Rattle.of10_actions.specs.declared.effects.Tail.TheVariants.{Pass};
 ghost use Rattle.policy_meaning.specs.Meaning.{out_after};
 ghost use Rattle.policy_meaning.specs.Rules.{chain_rule as chain_rule_of, chains_by, chains_with as chains_with_of, lifted as lifted_of, shifts_with as shifts_with_of, sum_rule as sum_rule_of, sums_with as sums_with_of};
 
-use crate::meaning::{append, append_after, copied, tail_after};
+use crate::meaning::{append_after, tail_after};
 use crate::pulling::pull;
-use crate::push::push_some;
+use crate::push::{append, joined, push_some};
 use crate::rule::Rule;
-use cv_io::{Leaf, List, Memory};
+use cv_io::{Duplicate, List, Memory};
 use of10_actions::{Out, Rewrite, Tail};
 use of10_match::Match;
 use std::alloc::Global;
 
 /// The outs of one and then of another, whose rewrites stand after this one.
-fn chained_outs(
+pub(crate) fn chained_outs(
     alloc: Global,
     first: &List<Out>,
     rewrite: &Rewrite,
@@ -26,31 +26,10 @@ fn chained_outs(
 ) -> Result<List<Out>, Memory>
     ensures { IfOk result (λ outs. outs ≡ first.now ++ map (out_after rewrite.now) second.now) }
 {
-    let mut outs = List::new(alloc);
+    let mut outs = List::with_capacity(alloc, first.len().saturating_add(second.len()))?;
     append(&mut outs, first)?;
     append_after(&mut outs, rewrite, second)?;
     Ok(outs)
-}
-
-fn joined_outs(alloc: Global, first: &List<Out>, second: &List<Out>) -> Result<List<Out>, Memory>
-    ensures { IfOk result (λ outs. outs ≡ first.now ++ second.now) }
-{
-    let mut outs = List::new(alloc);
-    append(&mut outs, first)?;
-    append(&mut outs, second)?;
-    Ok(outs)
-}
-
-fn joined_leaves(
-    alloc: Global,
-    first: &List<Leaf>,
-    second: &List<Leaf>,
-) -> Result<List<Leaf>, Memory>
-    ensures { IfOk result (λ leaves. leaves ≡ first.now ++ second.now) }
-{
-    let mut leaves = List::from_slice(alloc, first.as_slice())?;
-    leaves.extend_from_slice(second.as_slice())?;
-    Ok(leaves)
 }
 
 /// The rule of a pair of `+`, or none where no header is in both.
@@ -64,15 +43,15 @@ pub fn sum_rule(alloc: Global, a: &Rule, b: &Rule) -> Result<Option<Rule>, Memor
             m,
             level: a.level + b.level,
             touched: a.touched | b.touched,
-            outs: joined_outs(alloc, &a.outs, &b.outs)?,
-            tail: copied(&b.tail),
-            ancestry: joined_leaves(alloc, &a.ancestry, &b.ancestry)?,
+            outs: joined(alloc, &a.outs, &b.outs)?,
+            tail: b.tail.copy()?,
+            ancestry: joined(alloc, &a.ancestry, &b.ancestry)?,
         })),
     }
 }
 
 /// The match of a pair of `>>`.
-fn met_after(a: &Match, rewrite: &Rewrite, b: &Match) -> Option<Match>
+pub(crate) fn met_after(a: &Match, rewrite: &Rewrite, b: &Match) -> Option<Match>
     ensures { result ≡ option_and_then (meet a.now) (pull_of rewrite.now b.now) }
 {
     let pulled = pull(rewrite, b)?;
@@ -99,25 +78,18 @@ pub fn chain_rule(
             touched: a.touched,
             outs: chained_outs(alloc, &a.outs, rewrite, &b.outs)?,
             tail: tail_after(rewrite, &b.tail),
-            ancestry: joined_leaves(alloc, &a.ancestry, &b.ancestry)?,
+            ancestry: joined(alloc, &a.ancestry, &b.ancestry)?,
         })),
     }
 }
 
 /// A rule that stands alone, at its level in the whole.
-pub fn lifted(alloc: Global, level: u64, a: &Rule) -> Result<Rule, Memory>
+pub fn lifted(level: u64, a: &Rule) -> Result<Rule, Memory>
     ensures { IfOk result (λ rule. rule ≡ lifted_of level a.now) }
 {
-    let mut outs = List::new(alloc);
-    append(&mut outs, &a.outs)?;
-    Ok(Rule {
-        m: a.m,
-        level,
-        touched: a.touched,
-        outs,
-        tail: copied(&a.tail),
-        ancestry: List::from_slice(alloc, a.ancestry.as_slice())?,
-    })
+    let mut rule = a.copy()?;
+    rule.level = level;
+    Ok(rule)
 }
 
 /// Appends the rules that a rule of the left of `+` makes.
@@ -168,22 +140,17 @@ pub(crate) fn add_chains(
 {
     match &a.tail {
         Tail::Pass(rewrite) => add_passed(alloc, rules, size, rewrite, a, bs),
-        _ => rules.push(lifted(alloc, a.level * size, a)?),
+        _ => rules.push(lifted(a.level * size, a)?),
     }
 }
 
 /// Appends the rule that a rule of the left of `|>` makes, if it is touched.
-pub(crate) fn add_shifted(
-    alloc: Global,
-    rules: &mut List<Rule>,
-    size: u64,
-    a: &Rule,
-) -> Result<(), Memory>
+pub(crate) fn add_shifted(rules: &mut List<Rule>, size: u64, a: &Rule) -> Result<(), Memory>
     requires { shift_level a.now.level size < 2 ^ 64 }
     ensures { OnOk result (rules.new ≡ rules.old ++ shifts_with_of size a.now) }
 {
     if a.touched {
-        rules.push(lifted(alloc, size + a.level, a)?)?;
+        rules.push(lifted(size + a.level, a)?)?;
     }
     Ok(())
 }

@@ -2,6 +2,7 @@
 ghost use Rattle.policy_meaning.specs.CentralFact.{CentralFact, RulesAreSound};
 ghost use Rattle.policy_meaning.specs.EveryNode.{EveryNode};
 ghost use Rattle.policy_meaning.specs.Exact.{ImageHolds, MeetIsExact, PullIsExact};
+ghost use Rattle.policy_meaning.specs.Fitting.{NodesAreBelow, RulesAreBelow, SoundTablesFit};
 ghost use Rattle.policy_meaning.specs.HopFact.{HopFact};
 ghost use Rattle.policy_meaning.specs.LeafFact.{LeafFact, LeafRulesAreSound};
 ghost use Rattle.policy_meaning.specs.Order.{OrderKeepsBest};
@@ -40,4 +41,12 @@ pub fn every_node()
 /// Listing rules in the stated order keeps the best one.
 pub fn stated_order()
     ensures { OrderKeepsBest }
+{}
+
+/// Over tables that fit, and sound tables do, the levels of rules are below their expression's or
+/// node's size: where that fits a u64, so do they.
+pub fn levels_are_below()
+    ensures rules { RulesAreBelow }
+    ensures nodes { NodesAreBelow }
+    ensures sound { SoundTablesFit }
 {}

@@ -5,8 +5,8 @@ ghost use Rattle.std.specs.List.{list_any};
 ghost use Rattle.of10_match.specs.Matching.{holds as holds_of};
 ghost use Rattle.policy_meaning.specs.Leaf.{best_entry as best_entry_of, has_port as has_port_of, is_inside as is_inside_of, leaf_meaning as leaf_meaning_of, miss_outs as miss_outs_of, pick as pick_of};
 
-use crate::meaning::{Meaning, append, copied, outside};
-use cv_io::{List, Memory};
+use crate::meaning::{Meaning, outside};
+use cv_io::{Duplicate, List, Memory};
 use of10_actions::{Dest, Effects, Out, Rewrite, Tail};
 use of10_match::{Header, Match};
 use std::alloc::Global;
@@ -121,15 +121,11 @@ impl LeafTable {
                 outs: self.miss_outs(alloc)?,
                 tail: Tail::Nothing,
             }),
-            Some(entry) => {
-                let mut outs = List::new(alloc);
-                append(&mut outs, &entry.effects.outs)?;
-                Ok(Meaning {
-                    touched: true,
-                    outs,
-                    tail: copied(&entry.effects.tail),
-                })
-            }
+            Some(entry) => Ok(Meaning {
+                touched: true,
+                outs: entry.effects.outs.copy()?,
+                tail: entry.effects.tail.copy()?,
+            }),
         }
     }
 }

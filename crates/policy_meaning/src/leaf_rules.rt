@@ -1,14 +1,14 @@
 //! The rules of a member's table.
 ghost use Rattle.std.specs.Prelude.{◌≡◌, [], ◌∷◌, ◌+◌, ◌<◌, ◌^◌, ◌++◌, All, IfOk, OnOk, flat_map, map};
 ghost use Rattle.std.specs.List.{list_any};
+ghost use Rattle.policy_meaning.specs.Fitting.{SerialsFit};
 ghost use Rattle.policy_meaning.specs.LeafRules.{at_port as at_port_of, cells as cells_of, cut as cut_of, entry_rule as entry_rule_of, has_outside as has_outside_of, hides as hides_of, in_cells, is_everything as is_everything_of, is_open as is_open_of, leaf_rules as leaf_rules_of, miss_rule as miss_rule_of, outside_rule as outside_rule_of, rule_met as rule_met_of};
 
 use crate::leaf::{LeafEntry, LeafTable, has_port};
-use crate::meaning::{append, copied};
 use crate::push::push_some;
 use crate::rule::Rule;
-use cv_io::{Leaf, List, Memory};
-use of10_actions::{Out, Tail};
+use cv_io::{Duplicate, Leaf, List, Memory};
+use of10_actions::Tail;
 use of10_match::Match;
 use std::alloc::Global;
 
@@ -47,37 +47,25 @@ fn is_everything(m: &Match) -> bool
 }
 
 /// The rule, narrowed to what the match holds too, or none where no header is in both.
-pub(crate) fn rule_met(alloc: Global, a: &Rule, n: &Match) -> Result<Option<Rule>, Memory>
+pub fn rule_met(a: &Rule, n: &Match) -> Result<Option<Rule>, Memory>
     ensures { IfOk result (λ rule. rule ≡ rule_met_of a.now n.now) }
 {
     match a.m.meet(n) {
         None => Ok(None),
         Some(m) => {
-            let mut outs = List::new(alloc);
-            append(&mut outs, &a.outs)?;
-            Ok(Some(Rule {
-                m,
-                level: a.level,
-                touched: a.touched,
-                outs,
-                tail: copied(&a.tail),
-                ancestry: List::from_slice(alloc, a.ancestry.as_slice())?,
-            }))
+            let mut rule = a.copy()?;
+            rule.m = m;
+            Ok(Some(rule))
         }
     }
 }
 
 /// Appends the rule in each cell that it meets.
-fn add_in_cells(
-    alloc: Global,
-    rules: &mut List<Rule>,
-    cells: &List<Match>,
-    a: &Rule,
-) -> Result<(), Memory>
+fn add_in_cells(rules: &mut List<Rule>, cells: &List<Match>, a: &Rule) -> Result<(), Memory>
     ensures { OnOk result (rules.new ≡ rules.old ++ in_cells cells.now a.now) }
 {
     for cell in cells.as_slice() {
-        push_some(rules, rule_met(alloc, a, cell)?)?;
+        push_some(rules, rule_met(a, cell)?)?;
     }
     Ok(())
 }
@@ -177,14 +165,12 @@ impl LeafTable {
         requires { 2 + entry.now.serial < 2 ^ 64 }
         ensures { IfOk result (λ rule. rule ≡ entry_rule_of self.now entry.now) }
     {
-        let mut outs = List::new(alloc);
-        append(&mut outs, &entry.effects.outs)?;
         Ok(Rule {
             m: entry.m,
             level: entry.level,
             touched: true,
-            outs,
-            tail: copied(&entry.effects.tail),
+            outs: entry.effects.outs.copy()?,
+            tail: entry.effects.tail.copy()?,
             ancestry: leaf(alloc, self.member, 2 + entry.serial)?,
         })
     }
@@ -196,19 +182,19 @@ impl LeafTable {
         rules: &mut List<Rule>,
         cells: &List<Match>,
     ) -> Result<(), Memory>
-        requires { All (λ (e : LeafEntry). 2 + e.serial < 2 ^ 64) self.now.entries }
+        requires { SerialsFit self.now }
         ensures { OnOk result (rules.new ≡ rules.old ++ flat_map (in_cells cells.now) (map (entry_rule_of self.now) self.now.entries)) }
     {
         for entry in self.entries.as_slice() {
             let rule = self.entry_rule(alloc, entry)?;
-            add_in_cells(alloc, rules, cells, &rule)?;
+            add_in_cells(rules, cells, &rule)?;
         }
         Ok(())
     }
 
     /// The rules of the table at a virtual switch of these ports, in no order that counts.
     pub fn rules(&self, alloc: Global, ports: &List<u16>) -> Result<List<Rule>, Memory>
-        requires { All (λ (e : LeafEntry). 2 + e.serial < 2 ^ 64) self.now.entries }
+        requires { SerialsFit self.now }
         ensures { IfOk result (λ rules. rules ≡ leaf_rules_of ports.now self.now) }
     {
         let mut rules = List::new(alloc);
@@ -216,7 +202,7 @@ impl LeafTable {
             rules.push(self.outside_rule(alloc)?)?;
         }
         let cells = self.cells(alloc, ports)?;
-        add_in_cells(alloc, &mut rules, &cells, &self.miss_rule(alloc)?)?;
+        add_in_cells(&mut rules, &cells, &self.miss_rule(alloc)?)?;
         self.add_entries(alloc, &mut rules, &cells)?;
         Ok(rules)
     }

@@ -4,6 +4,8 @@
 
 mod composing;
 pub mod evaluation;
+mod fabric;
+mod hops;
 pub mod laws;
 pub mod leaf;
 mod leaf_rules;
@@ -18,7 +20,10 @@ pub mod worked;
 
 pub use composing::{chain_rule, lifted, sum_rule};
 pub use evaluation::evaluate;
+pub use fabric::{hop_size, node_rules, switch_rules};
+pub use hops::{at_node, hop_lone, hop_rule};
 pub use leaf::{LeafEntry, LeafTable};
+pub use leaf_rules::rule_met;
 pub use meaning::Meaning;
 pub use network::{Link, Network, Onward, Place, VirtualSwitch};
 pub use pulling::pull;

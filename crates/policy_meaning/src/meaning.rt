@@ -1,10 +1,11 @@
 //! What is done to a packet.
-ghost use Rattle.std.specs.Prelude.{◌≡◌, ◌++◌, IfOk, OnOk, OnErr, map};
+ghost use Rattle.std.specs.Prelude.{◌≡◌, ◌++◌, IfOk, OnOk, map};
 ghost use Rattle.policy_meaning.specs.Leaf.{outside as outside_of};
 ghost use Rattle.policy_meaning.specs.Meaning.{both_act as both_act_of, first_touched as first_touched_of, out_after, passed_on, tail_after as tail_after_of};
 ghost use Rattle.of10_actions.specs.declared.effects.Tail.TheVariants.{Pass};
 
-use cv_io::{List, Memory};
+use crate::push::append;
+use cv_io::{Duplicate, List, Memory};
 use of10_actions::{Out, Rewrite, Tail};
 use std::alloc::Global;
 
@@ -28,19 +29,6 @@ pub(crate) fn outside(alloc: Global) -> Meaning
     }
 }
 
-/// Appends outs.
-pub(crate) fn append(outs: &mut List<Out>, more: &List<Out>) -> Result<(), Memory>
-    ensures { OnOk result (outs.new ≡ outs.old ++ more.now) }
-{
-    for out in more.as_slice() {
-        outs.push(Out {
-            rewrite: out.rewrite,
-            dest: out.dest,
-        })?;
-    }
-    Ok(())
-}
-
 /// Appends outs whose rewrites stand after another.
 pub(crate) fn append_after(
     outs: &mut List<Out>,
@@ -58,17 +46,6 @@ pub(crate) fn append_after(
     Ok(())
 }
 
-/// A copy of a tail.
-pub(crate) fn copied(tail: &Tail) -> Tail
-    ensures { result ≡ tail.now }
-{
-    match tail {
-        Tail::Nothing => Tail::Nothing,
-        Tail::Pass(rewrite) => Tail::Pass(*rewrite),
-        Tail::Link(rewrite, port) => Tail::Link(*rewrite, *port),
-    }
-}
-
 /// A tail whose rewrite stands after another.
 pub(crate) fn tail_after(rewrite: &Rewrite, tail: &Tail) -> Tail
     ensures { result ≡ tail_after_of rewrite.now tail.now }
@@ -80,6 +57,7 @@ pub(crate) fn tail_after(rewrite: &Rewrite, tail: &Tail) -> Tail
     }
 }
 
+/// What is done where both act.
 pub(crate) fn both_act(left: Meaning, right: &Meaning) -> Result<Meaning, Memory>
     ensures { IfOk result (λ meaning. meaning ≡ both_act_of left right.now) }
 {
@@ -92,7 +70,7 @@ pub(crate) fn both_act(left: Meaning, right: &Meaning) -> Result<Meaning, Memory
     Ok(Meaning {
         touched: touched | right.touched,
         outs,
-        tail: copied(&right.tail),
+        tail: right.tail.copy()?,
     })
 }
 
@@ -117,6 +95,7 @@ pub(crate) fn passes_on(
     })
 }
 
+/// What is done where the left acts if it is touched, else the right.
 pub(crate) fn first_touched(left: Meaning, right: Meaning) -> Meaning
     ensures { result ≡ first_touched_of left right }
 {

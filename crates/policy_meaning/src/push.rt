@@ -1,7 +1,8 @@
 //! Appending to lists.
-ghost use Rattle.std.specs.Prelude.{◌≡◌, ◌++◌, OnErr, OnOk, option_to_list};
+ghost use Rattle.std.specs.Prelude.{◌≡◌, ◌++◌, IfOk, OnOk, option_to_list};
 
-use cv_io::{List, Memory};
+use cv_io::{Duplicate, List, Memory};
+use std::alloc::Global;
 
 /// Appends an item, if there is one.
 pub(crate) fn push_some<T: Drop>(list: &mut List<T>, item: Option<T>) -> Result<(), Memory>
@@ -11,4 +12,28 @@ pub(crate) fn push_some<T: Drop>(list: &mut List<T>, item: Option<T>) -> Result<
         list.push(item)?;
     }
     Ok(())
+}
+
+/// Appends copies of items.
+pub(crate) fn append<T: Duplicate + Drop>(list: &mut List<T>, more: &List<T>) -> Result<(), Memory>
+    ensures { OnOk result (list.new ≡ list.old ++ more.now) }
+{
+    for item in more.as_slice() {
+        list.push(item.copy()?)?;
+    }
+    Ok(())
+}
+
+/// Copies of the items of one list and then of another.
+pub(crate) fn joined<T: Duplicate + Drop>(
+    alloc: Global,
+    first: &List<T>,
+    second: &List<T>,
+) -> Result<List<T>, Memory>
+    ensures { IfOk result (λ list. list ≡ first.now ++ second.now) }
+{
+    let mut list = List::with_capacity(alloc, first.len().saturating_add(second.len()))?;
+    append(&mut list, first)?;
+    append(&mut list, second)?;
+    Ok(list)
 }

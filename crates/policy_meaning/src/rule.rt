@@ -1,5 +1,7 @@
 //! Rules: of the table of a member, and of those that composition makes of them.
-use cv_io::{Leaf, List};
+ghost use Rattle.std.specs.Prelude.{◌≡◌};
+
+use cv_io::{Duplicate, Leaf, List, Memory, Named};
 use of10_actions::{Out, Tail};
 use of10_match::Match;
 
@@ -16,4 +18,25 @@ pub struct Rule {
     pub tail: Tail,
     /// The leaves that the rule is made of, in the order of the expression.
     pub ancestry: List<Leaf>,
+}
+
+impl Duplicate for Rule {
+    fn copy(&self) -> Result<Rule, Memory> {
+        Ok(Rule {
+            m: self.m,
+            level: self.level,
+            touched: self.touched,
+            outs: self.outs.copy()?,
+            tail: self.tail.copy()?,
+            ancestry: self.ancestry.copy()?,
+        })
+    }
+}
+
+impl Named for Rule {
+    fn ancestry(&self) -> &List<Leaf>
+        ensures { result.now ≡ self.now.ancestry }
+    {
+        &self.ancestry
+    }
 }

@@ -1,15 +1,16 @@
 //! The rules of an expression, from scratch.
 ghost use Rattle.std.specs.Prelude.{◌≡◌, ◌<◌, ◌^◌, ◌++◌, All, IfOk, OnOk, flat_map, slice_get};
-ghost use Rattle.alg_priority.specs.Levels.{concat_level, shift_level, sum_level};
+ghost use Rattle.alg_priority.specs.Levels.{capped, concat_level, shift_level, sum_level};
 ghost use Rattle.policy_expr.specs.Policy.{policy_of};
 ghost use Rattle.alg_priority.specs.Sizes.{concat_size, shift_size, sum_size};
-ghost use Rattle.policy_meaning.specs.Fitting.{ChainFits, Fits, HasFittingTable, ShiftFits, SumFits, composed_of};
+ghost use Rattle.policy_meaning.specs.Fitting.{AreBelow, IsFittingTable, composed_of, levels_of};
 ghost use Rattle.policy_meaning.specs.Networks.{table_rules, table_size};
 ghost use Rattle.policy_meaning.specs.Rules.{chains_with, shifts_with, sums_with};
 
 use crate::composing::{add_chains, add_shifted, add_sums};
 use crate::leaf::LeafTable;
 use crate::rule::Rule;
+use alg_priority::{size_concat, size_shift, size_sum};
 use cv_io::{List, Memory};
 use policy_expr::Expr;
 use std::alloc::Global;
@@ -46,7 +47,7 @@ fn shifts(alloc: Global, size: u64, xs: &List<Rule>, bs: List<Rule>) -> Result<L
 {
     let mut rules = List::new(alloc);
     for a in xs.as_slice() {
-        add_shifted(alloc, &mut rules, size, a)?;
+        add_shifted(&mut rules, size, a)?;
     }
     for b in bs.into_vec() {
         rules.push(b)?;
@@ -64,6 +65,28 @@ fn member_size(tables: &List<LeafTable>, index: u32) -> u64
     }
 }
 
+/// How many levels the rules of an expression have, at most the greatest u64.
+pub(crate) fn expression_size(tables: &List<LeafTable>, expr: &Expr) -> u64
+    requires { All IsFittingTable tables.now }
+    ensures { result ≡ capped (levels_of tables.now (policy_of expr.now)) }
+{
+    match expr {
+        Expr::Member { index } => member_size(tables, *index),
+        Expr::Par { left, right } => size_sum(
+            expression_size(tables, left),
+            expression_size(tables, right),
+        ),
+        Expr::Seq { left, right } => size_concat(
+            expression_size(tables, left),
+            expression_size(tables, right),
+        ),
+        Expr::Over { left, right } => size_shift(
+            expression_size(tables, left),
+            expression_size(tables, right),
+        ),
+    }
+}
+
 /// The rules of a member; one without a table has none.
 fn member_rules(
     alloc: Global,
@@ -71,7 +94,7 @@ fn member_rules(
     ports: &List<u16>,
     index: u32,
 ) -> Result<List<Rule>, Memory>
-    requires { HasFittingTable (slice_get tables.now index) }
+    requires { All IsFittingTable tables.now }
     ensures { IfOk result (λ rules. rules ≡ table_rules ports.now (slice_get tables.now index)) }
 {
     match tables.get(index as usize) {
@@ -89,35 +112,40 @@ pub struct Composed {
 
 /// The rules of `a + b`.
 fn composed_sum(alloc: Global, left: &Composed, right: &Composed) -> Result<Composed, Memory>
-    requires { SumFits left.now.size right.now.size left.now.rules right.now.rules }
+    requires left { AreBelow left.now }
+    requires right { AreBelow right.now }
+    requires size { sum_size left.now.size right.now.size < 2 ^ 64 }
     ensures { IfOk result (λ composed. composed ≡ record { rules = flat_map (sums_with right.now.rules) left.now.rules; size = sum_size left.now.size right.now.size }) }
 {
     Ok(Composed {
         rules: sums(alloc, &left.rules, &right.rules)?,
-        size: (left.size + right.size).saturating_sub(1),
+        size: size_sum(left.size, right.size),
     })
 }
 
 /// The rules of `a >> b`.
 fn composed_chain(alloc: Global, left: &Composed, right: &Composed) -> Result<Composed, Memory>
-    requires { ChainFits left.now.size right.now.size left.now.rules right.now.rules }
+    requires left { AreBelow left.now }
+    requires right { AreBelow right.now }
+    requires size { concat_size left.now.size right.now.size < 2 ^ 64 }
     ensures { IfOk result (λ composed. composed ≡ record { rules = flat_map (chains_with right.now.size right.now.rules) left.now.rules; size = concat_size left.now.size right.now.size }) }
 {
     Ok(Composed {
         rules: chains(alloc, right.size, &left.rules, &right.rules)?,
-        size: left.size * right.size,
+        size: size_concat(left.size, right.size),
     })
 }
 
 /// The rules of `a |> b`.
 fn composed_shift(alloc: Global, left: &Composed, right: Composed) -> Result<Composed, Memory>
-    requires { ShiftFits left.now.size right.size left.now.rules }
+    requires left { AreBelow left.now }
+    requires size { shift_size left.now.size right.size < 2 ^ 64 }
     ensures { IfOk result (λ composed. composed ≡ record { rules = flat_map (shifts_with right.size) left.now.rules ++ right.rules; size = shift_size left.now.size right.size }) }
 {
     let Composed { rules, size } = right;
     Ok(Composed {
         rules: shifts(alloc, size, &left.rules, rules)?,
-        size: left.size + size,
+        size: size_shift(left.size, size),
     })
 }
 
@@ -129,7 +157,8 @@ pub fn expression_rules(
     ports: &List<u16>,
     expr: &Expr,
 ) -> Result<Composed, Memory>
-    requires { Fits tables.now ports.now (policy_of expr.now) }
+    requires tables { All IsFittingTable tables.now }
+    requires size { levels_of tables.now (policy_of expr.now) < 2 ^ 64 }
     ensures { IfOk result (λ composed. composed ≡ composed_of tables.now ports.now (policy_of expr.now)) }
 {
     match expr {

@@ -230,7 +230,7 @@ fn levels_of_pairs(rt: HostRuntime) -> Result<(), Fail> {
         (sum_rule(rt.alloc(), &miss, &high)?, 7),
         (chain_rule(rt.alloc(), 8, &to_server(), &low, &low)?, 36),
         (chain_rule(rt.alloc(), 8, &to_server(), &low, &miss)?, 33),
-        (Some(lifted(rt.alloc(), 12, &low)?), 12),
+        (Some(lifted(12, &low)?), 12),
     ] {
         assert_eq!(rt; sum.map(|rule| rule.level), Some(want));
     }

@@ -1,0 +1,150 @@
+//! The rules of virtual switches and of the nodes of their ports, from scratch.
+ghost use Rattle.std.specs.Prelude.{◌≡◌, ◌+◌, ◌*◌, ◌<◌, ◌≤◌, ◌^◌, ◌++◌, All, IfOk, OnOk, IfSome, filter_map, slice_get};
+ghost use Rattle.alg_priority.specs.Levels.{capped};
+ghost use Rattle.policy_expr.specs.Policy.{policy_of};
+ghost use Rattle.policy_meaning.specs.Fitting.{IsFittingTable, levels_of};
+ghost use Rattle.policy_meaning.specs.Hops.{hop_size as hop_size_of, hops_on, last_rule as last_rule_of, node, peers_size as peers_size_of};
+ghost use Rattle.policy_meaning.specs.LeafRules.{at_port as at_port_of, rule_met as rule_met_of};
+ghost use Rattle.policy_meaning.specs.Networks.{fabric_of, switch_rules as switch_rules_of, switch_size};
+
+use crate::hops::{add_hops, at_node, hop_lone};
+use crate::leaf::LeafTable;
+use crate::leaf_rules::{at_port, rule_met};
+use crate::network::{Link, Network, Onward, VirtualSwitch, leads};
+use crate::push::push_some;
+use crate::rule::Rule;
+use crate::scratch::{expression_rules, expression_size};
+use alg_priority::size_concat;
+use cv_io::{List, Memory};
+use of10_actions::Tail;
+use of10_match::Match;
+use std::alloc::Global;
+
+/// The rules of a virtual switch, whatever the port: those of its expression.
+pub fn switch_rules(
+    alloc: Global,
+    tables: &List<LeafTable>,
+    switch: &VirtualSwitch,
+) -> Result<List<Rule>, Memory>
+    requires tables { All IsFittingTable tables.now }
+    requires size { levels_of tables.now (policy_of switch.now.expr) < 2 ^ 64 }
+    ensures { IfOk result (λ rules. rules ≡ switch_rules_of tables.now (Some switch.now)) }
+{
+    let ports = switch.ports(alloc)?;
+    Ok(expression_rules(alloc, tables, &ports, &switch.expr)?.rules)
+}
+
+/// How many levels the rules of a node have, at most the greatest u64; those of a virtual switch that
+/// isn't there have one.
+#[cycle(sizes)]
+pub fn hop_size(network: &Network, hops: u32, v: u32) -> u64
+    requires { All IsFittingTable network.now.tables }
+    ensures { result ≡ capped (hop_size_of (fabric_of network.now) hops v) }
+{
+    if hops == 0 {
+        return 1;
+    }
+    match network.switches.get(v as usize) {
+        None => 1,
+        Some(switch) => size_concat(
+            expression_size(&network.tables, &switch.expr),
+            peers_size(network, hops - 1, &switch.links),
+        ),
+    }
+}
+
+/// The greatest of the sizes of the nodes to which links lead, and at least 1, at most the greatest u64.
+#[cycle(sizes)]
+fn peers_size(network: &Network, hops: u32, links: &List<Link>) -> u64
+    requires { All IsFittingTable network.now.tables }
+    ensures { result ≡ capped (peers_size_of (hop_size_of (fabric_of network.now) hops) links.now) }
+{
+    let mut greatest = 1;
+    for link in links.as_slice() {
+        greatest = hop_size(network, hops, link.peer.v).max(greatest);
+    }
+    greatest
+}
+
+/// The rule of a packet that has no hop left.
+fn last_rule(alloc: Global) -> Rule
+    ensures { result ≡ last_rule_of }
+{
+    Rule {
+        m: Match::everything(),
+        level: 0,
+        touched: true,
+        outs: List::new(alloc),
+        tail: Tail::Nothing,
+        ancestry: List::new(alloc),
+    }
+}
+
+/// Rules, narrowed to a port.
+fn met_at(alloc: Global, port: u16, rules: &List<Rule>) -> Result<List<Rule>, Memory>
+    ensures { IfOk result (λ met. met ≡ filter_map (λ a. rule_met_of a (at_port_of port)) rules.now) }
+{
+    let here = at_port(port);
+    let mut met = List::new(alloc);
+    for rule in rules.as_slice() {
+        push_some(&mut met, rule_met(rule, &here)?)?;
+    }
+    Ok(met)
+}
+
+/// Appends the rules that a rule at its node makes which goes on so, or ends.
+#[cycle(nodes)]
+fn add_onward(
+    alloc: Global,
+    network: &Network,
+    hops: u32,
+    size: u64,
+    rules: &mut List<Rule>,
+    onward: &Option<Onward>,
+    here: &Rule,
+) -> Result<(), Memory>
+    requires tables { All IsFittingTable network.now.tables }
+    requires peer { IfSome onward.now (λ (on : Onward). hop_size_of (fabric_of network.now) hops on.place.v ≤ size) }
+    requires room { (here.now.level + 1) * size < 2 ^ 64 }
+    ensures { OnOk result (rules.new ≡ rules.old ++ hops_on onward.now (node (fabric_of network.now) hops) size here.now) }
+{
+    match onward {
+        None => rules.push(hop_lone(size, here)?),
+        Some(on) => {
+            let there = node_rules(alloc, network, hops, on.place.v, on.place.port)?;
+            add_hops(alloc, rules, size, &on.rewrite, here, &there)
+        }
+    }
+}
+
+/// The rules of the node of a port of a virtual switch, for so many hops: of the switch's rules at the
+/// port, those that go on over a link joined with those of the node there, and those that end.
+#[cycle(nodes)]
+pub fn node_rules(
+    alloc: Global,
+    network: &Network,
+    hops: u32,
+    v: u32,
+    port: u16,
+) -> Result<List<Rule>, Memory>
+    requires tables { All IsFittingTable network.now.tables }
+    requires size { hop_size_of (fabric_of network.now) hops v < 2 ^ 64 }
+    ensures { IfOk result (λ rules. rules ≡ node (fabric_of network.now) hops v port) }
+{
+    let mut rules = List::new(alloc);
+    if hops == 0 {
+        rules.push(last_rule(alloc))?;
+        return Ok(rules);
+    }
+    let Some(switch) = network.switches.get(v as usize) else {
+        return Ok(rules);
+    };
+    let size = peers_size(network, hops - 1, &switch.links);
+    let all = switch_rules(alloc, &network.tables, switch)?;
+    for met in met_at(alloc, port, &all)?.into_vec() {
+        let onward = leads(&met.tail, &switch.links, port);
+        let here = at_node(alloc, v, port, met)?;
+        add_onward(alloc, network, hops - 1, size, &mut rules, &onward, &here)?;
+    }
+    Ok(rules)
+}
