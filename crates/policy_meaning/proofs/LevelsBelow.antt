@@ -30,7 +30,7 @@ use Rattle.policy_meaning.proofs.Peers.{Leading, leading, peer-size, positive}
 use Rattle.policy_meaning.proofs.Sums.{below-size}
 
 -- a narrowed rule keeps its level
-met-below : (n : ℕ) (a y : Rule) (m : MatchOf) → rule_met a m ≡ Some y → a.level < n → y.level < n
+pub met-below : (n : ℕ) (a y : Rule) (m : MatchOf) → rule_met a m ≡ Some y → a.level < n → y.level < n
 met-below n a y m e low = let s = some_met (narrowed a) a.m m y e in subst (λ (z : Rule). Below n z) s.1 low
 
 in-cells-below : (n : ℕ) (boxes : List MatchOf) (a : Rule) → a.level < n → AllByRecursion (Below n) (in_cells boxes a)

@@ -24,3 +24,4 @@ pub mod Steps
 pub mod Stepping
 pub mod Ordered
 pub mod LevelsBelow
+pub mod NodeSteps

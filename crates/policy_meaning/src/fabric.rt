@@ -84,10 +84,9 @@ fn last_rule(alloc: Global) -> Rule
 fn met_at(alloc: Global, port: u16, rules: &List<Rule>) -> Result<List<Rule>, Memory>
     ensures { IfOk result (λ met. met ≡ filter_map (λ a. rule_met_of a (at_port_of port)) rules.now) }
 {
-    let here = at_port(port);
     let mut met = List::new(alloc);
     for rule in rules.as_slice() {
-        push_some(&mut met, rule_met(rule, &here)?)?;
+        push_some(&mut met, rule_met(rule, &at_port(port))?)?;
     }
     Ok(met)
 }
@@ -141,9 +140,10 @@ pub fn node_rules(
     };
     let size = peers_size(network, hops - 1, &switch.links);
     let all = switch_rules(alloc, &network.tables, switch)?;
-    for met in met_at(alloc, port, &all)?.into_vec() {
-        let onward = leads(&met.tail, &switch.links, port);
-        let here = at_node(alloc, v, port, met)?;
+    let met = met_at(alloc, port, &all)?;
+    for rule in met.as_slice() {
+        let onward = leads(&rule.tail, &switch.links, port);
+        let here = at_node(alloc, v, port, rule)?;
         add_onward(alloc, network, hops - 1, size, &mut rules, &onward, &here)?;
     }
     Ok(rules)

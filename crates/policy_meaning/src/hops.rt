@@ -51,11 +51,17 @@ fn outs_at(alloc: Global, v: u32, port: u16, outs: &List<Out>) -> Result<List<Ou
 
 /// A rule as it stands at the node of a port: silent outs are left out, and those to the ingress go
 /// to the port.
-pub fn at_node(alloc: Global, v: u32, port: u16, mut rule: Rule) -> Result<Rule, Memory>
-    ensures { IfOk result (λ stood. stood ≡ at_node_of v port rule) }
+pub fn at_node(alloc: Global, v: u32, port: u16, rule: &Rule) -> Result<Rule, Memory>
+    ensures { IfOk result (λ stood. stood ≡ at_node_of v port rule.now) }
 {
-    rule.outs = outs_at(alloc, v, port, &rule.outs)?;
-    Ok(rule)
+    Ok(Rule {
+        m: rule.m,
+        level: rule.level,
+        touched: rule.touched,
+        outs: outs_at(alloc, v, port, &rule.outs)?,
+        tail: rule.tail.copy()?,
+        ancestry: rule.ancestry.copy()?,
+    })
 }
 
 /// A rule, as it stands at its node, that goes on nowhere; the rules of its peers have `size` levels.
