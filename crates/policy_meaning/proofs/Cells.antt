@@ -17,7 +17,8 @@ use Rattle.policy_meaning.proofs.Booleans.{true_not_false, split_and, join_and, 
 use Rattle.policy_meaning.proofs.Lists.{all-map, all-each, all-append, all-cons_option, all-flat_map, all-filter_map}
 use Rattle.policy_meaning.proofs.BestLemmas.{Never, At, at-never, best-cons_option}
 use Rattle.policy_meaning.proofs.Meeting.{meet_there, meet_holds, some_meet, some_met, is_met}
-use Rattle.policy_meaning.proofs.Normality.{normal-both, normal-at_port}
+use Rattle.of10_match.proofs.NormalMeet.{IsNormal-both}
+use Rattle.policy_meaning.proofs.Normality.{normal-at_port}
 
 -- the rule, narrowed to a match
 abbrev pub narrowed : Rule → MatchOf → Rule
@@ -195,7 +196,7 @@ module _ (ports : List ℕ) (t : LeafTable) where
   cells-normal true n =
       all-flat_map IsNormal IsNormal (cut t.visible) t.region
       (λ box m. all-filter_map (λ p. Unit {0}) IsNormal (λ p. meet box (at_port p)) t.visible
-      (λ p y e _. let s = some_meet box (at_port p) y e in subst IsNormal s.1 (normal-both box (at_port p) s.0 m (normal-at_port p))) (all-each (λ p. Unit {0}) t.visible (λ p. tt))) n
+      (λ p y e _. let s = some_meet box (at_port p) y e in subst IsNormal s.1 (IsNormal-both box (at_port p) s.0 m (normal-at_port p))) (all-each (λ p. Unit {0}) t.visible (λ p. tt))) n
   cells-normal false n = n
 
   -- the cells are normal

@@ -16,7 +16,8 @@ use Rattle.policy_meaning.specs.CentralFact.{ArePlain, IsPlainRule, EachMember, 
 use Rattle.policy_meaning.specs.declared.meaning.Meaning.{Meaning}
 use Rattle.policy_meaning.specs.declared.rule.Rule.{Rule}
 use Rattle.policy_meaning.proofs.Lists.{all-map, all-zip, all-append}
-use Rattle.policy_meaning.proofs.Normality.{normal-both, normal-pulled}
+use Rattle.of10_match.proofs.NormalMeet.{IsNormal-both}
+use Rattle.pull_back.proofs.Normality.{normal-pulled}
 use Rattle.policy_meaning.proofs.Building.{Rises, rises, builds, rises-then, rises-plain}
 use Rattle.policy_meaning.proofs.Pairs.{each-sum, each-chain, each-shift}
 use Rattle.policy_meaning.proofs.Sums.{sum-says}
@@ -53,9 +54,9 @@ module _ (sizes : ℕ → ℕ) (rules : ℕ → List Rule) where
   pub all-normal : (e : Policy) → EachMember (OfLeaf HasNormal) e → Of HasNormal e
   all-normal (member i) p = p
   all-normal (parallel a b) p =
-      each-sum HasNormal HasNormal HasNormal (λ x y nx ny o. normal-both x.m y.m o nx ny) (rules_of sizes rules a) (rules_of sizes rules b) (all-normal a p.0) (all-normal b p.1)
+      each-sum HasNormal HasNormal HasNormal (λ x y nx ny o. IsNormal-both x.m y.m o nx ny) (rules_of sizes rules a) (rules_of sizes rules b) (all-normal a p.0) (all-normal b p.1)
   all-normal (sequential a b) p =
-      each-chain HasNormal HasNormal HasNormal (size_of sizes b) (λ x n. n) (λ x y r t nx ny o. normal-both x.m (pulled r y.m) o nx (normal-pulled r y.m ny)) (rules_of sizes rules a) (rules_of sizes rules b) (all-normal a p.0) (all-normal b p.1)
+      each-chain HasNormal HasNormal HasNormal (size_of sizes b) (λ x n. n) (λ x y r t nx ny o. IsNormal-both x.m (pulled r y.m) o nx (normal-pulled r y.m ny)) (rules_of sizes rules a) (rules_of sizes rules b) (all-normal a p.0) (all-normal b p.1)
   all-normal (override a b) p =
       each-shift HasNormal HasNormal HasNormal (size_of sizes b) (λ x n. n) (rules_of sizes rules a) (rules_of sizes rules b) (all-normal a p.0) (all-normal b p.1)
 

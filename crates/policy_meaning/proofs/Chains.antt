@@ -20,8 +20,8 @@ use Rattle.policy_meaning.specs.declared.rule.Rule.{Rule}
 use Rattle.policy_meaning.proofs.Booleans.{split_and, join_and}
 use Rattle.policy_meaning.proofs.BestLemmas.{best_holds, best_most, best_each, at-flat_map, at-filter_map, at-below, best-flat_map, best-filter_map}
 use Rattle.policy_meaning.proofs.Meeting.{meet_there, meet_holds, some_pulled, is_pulled}
-use Rattle.policy_meaning.proofs.PulledMatches.{holds-pulled}
-use Rattle.policy_meaning.proofs.Normality.{normal-guarded}
+use Rattle.pull_back.proofs.PulledMatches.{holds-pulled}
+use Rattle.pull_back.proofs.Normality.{normal-guarded}
 
 -- the rule's match is normal
 abbrev pub HasNormal : Rule → Type 0

@@ -18,7 +18,8 @@ use Rattle.policy_meaning.proofs.Booleans.{true_not_false}
 use Rattle.policy_meaning.proofs.Lists.{all-append, all-mapped, all-flat_map, all-filter_map}
 use Rattle.policy_meaning.proofs.BestLemmas.{Any, Never, at-any, best_holds, best_most, at-never, at-append, at-flat_map, best-flat_map, best-append_right}
 use Rattle.policy_meaning.proofs.Meeting.{meet_there, some_met}
-use Rattle.policy_meaning.proofs.Normality.{normal-both, normal-everything}
+use Rattle.of10_match.proofs.NormalMeet.{IsNormal-both}
+use Rattle.policy_meaning.proofs.Normality.{normal-everything}
 use Rattle.policy_meaning.proofs.Building.{extends-nothing}
 use Rattle.policy_meaning.proofs.Cells.{narrowed, IsOnly, cell-part, none-in_cells, best-in_cells, only-holds, normal-cells, outside-misses, inside-only, none-outside}
 
@@ -125,7 +126,7 @@ module _ (ports : List ℕ) (t : LeafTable) (good : IsSoundTable t) where
   placed-sound : (a : Rule) → IsSound a → AllByRecursion IsSound (in_cells (cells ports t) a)
   placed-sound a s =
       all-filter_map IsNormal IsSound (rule_met a) (cells ports t)
-      (λ n y e m. let q = some_met (narrowed a) a.m n y e in subst IsSound q.1 (record { is_normal = normal-both a.m n q.0 s.is_normal m; builds = s.builds }))
+      (λ n y e m. let q = some_met (narrowed a) a.m n y e in subst IsSound q.1 (record { is_normal = IsNormal-both a.m n q.0 s.is_normal m; builds = s.builds }))
       (normal-cells ports t good.boxes)
 
   miss-sound : (b : Bool) → t.misses ≡ b → IsSound (miss_rule t)

@@ -2,7 +2,6 @@ pub mod Booleans
 pub mod Lists
 pub mod BestLemmas
 pub mod Meeting
-pub mod PulledMatches
 pub mod Normality
 pub mod Building
 pub mod Pairs
@@ -16,7 +15,6 @@ pub mod Peers
 pub mod Walks
 pub mod Nodes
 pub mod Plain
-pub mod ExactLaws
 pub mod Everywhere
 pub mod Entries
 pub mod Evaluating

@@ -24,8 +24,10 @@ use Rattle.policy_meaning.proofs.Booleans.{split_and, join_and, true_not_false}
 use Rattle.policy_meaning.proofs.Lists.{all-map, all-flat_map, all-filter_map}
 use Rattle.policy_meaning.proofs.BestLemmas.{best_holds, best_most, best_each, at-filter_map, at-below, best-flat_map, best-filter_map}
 use Rattle.policy_meaning.proofs.Meeting.{meet_there, meet_holds, some_met, is_met, some_pulled, is_pulled}
-use Rattle.policy_meaning.proofs.PulledMatches.{holds-pulled}
-use Rattle.policy_meaning.proofs.Normality.{normal-guarded, normal-both, normal-pulled, normal-everything, normal-at_port, normal-without_port}
+use Rattle.pull_back.proofs.PulledMatches.{holds-pulled}
+use Rattle.of10_match.proofs.NormalMeet.{IsNormal-both}
+use Rattle.pull_back.proofs.Normality.{normal-guarded, normal-pulled}
+use Rattle.policy_meaning.proofs.Normality.{normal-everything, normal-at_port, normal-without_port}
 use Rattle.policy_meaning.proofs.Building.{Rises, rises, builds, rises-at, rises-then, rises-link, rises-ended}
 use Rattle.policy_meaning.proofs.Chains.{HasNormal, high}
 use Rattle.policy_meaning.proofs.Cells.{narrowed}
@@ -101,7 +103,7 @@ met-at : (port : ℕ) (x y : Rule) → rule_met x (at_port port) ≡ Some y → 
 met-at port x y u g =
     let s = some_met (narrowed x) x.m (at_port port) y u in
     let a : AtPort port (narrowed x (both x.m (at_port port))) = record {
-      sound = record { is_normal = normal-both x.m (at_port port) s.0 g.is_normal (normal-at_port port); builds = g.builds };
+      sound = record { is_normal = IsNormal-both x.m (at_port port) s.0 g.is_normal (normal-at_port port); builds = g.builds };
       port = fits-met x.m.in_port port (split_and _ _ s.0).0;
     } in
     subst (λ (z : Rule). AtPort port z) s.1 a
@@ -127,7 +129,7 @@ linked-at port k r p to a x y t ga gx e =
     let up' : Rises no_rewrite a.outs (Link r p) = rw t at up in
     let b : AtPort port (link_of k r a x) = record {
       sound = record {
-        is_normal = normal-both a.m (pulled r n) s.1 ga.sound.is_normal (normal-pulled r n (normal-without_port x.m gx.sound.is_normal));
+        is_normal = IsNormal-both a.m (pulled r n) s.1 ga.sound.is_normal (normal-pulled r n (normal-without_port x.m gx.sound.is_normal));
         builds = builds _ Nothing (rises-then no_rewrite a.outs r x.outs Nothing (rises-link no_rewrite a.outs r p up') (rises-ended no_rewrite x.outs x.tail (rises x.outs x.tail gx.sound.builds)));
       };
       port = fits-open a.m.in_port port ga.port;

@@ -11,7 +11,6 @@ pub mod CentralFact
 pub mod HopFact
 pub mod EveryNode
 pub mod Order
-pub mod Exact
 pub mod Fitting
 pub mod WorkedTables
 pub mod WorkedRules

@@ -9,12 +9,12 @@ ghost use Rattle.policy_meaning.specs.Meaning.{out_after};
 ghost use Rattle.policy_meaning.specs.Rules.{chain_rule as chain_rule_of, chains_by, chains_with as chains_with_of, lifted as lifted_of, shifts_with as shifts_with_of, sum_rule as sum_rule_of, sums_with as sums_with_of};
 
 use crate::meaning::{append_after, tail_after};
-use crate::pulling::pull;
 use crate::push::{append, joined, push_some};
 use crate::rule::Rule;
 use cv_io::{Duplicate, List, Memory};
 use of10_actions::{Out, Rewrite, Tail};
 use of10_match::Match;
+use pull_back::pull;
 use std::alloc::Global;
 
 /// The outs of one and then of another, whose rewrites stand after this one.

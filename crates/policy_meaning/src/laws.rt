@@ -1,18 +1,10 @@
 //! The laws on which the hypervisor rests: each function's contract is the law.
 ghost use Rattle.policy_meaning.specs.CentralFact.{CentralFact, RulesAreSound};
 ghost use Rattle.policy_meaning.specs.EveryNode.{EveryNode};
-ghost use Rattle.policy_meaning.specs.Exact.{ImageHolds, MeetIsExact, PullIsExact};
 ghost use Rattle.policy_meaning.specs.Fitting.{NodesAreBelow, RulesAreBelow, SoundTablesFit};
 ghost use Rattle.policy_meaning.specs.HopFact.{HopFact};
 ghost use Rattle.policy_meaning.specs.LeafFact.{LeafFact, LeafRulesAreSound};
 ghost use Rattle.policy_meaning.specs.Order.{OrderKeepsBest};
-
-/// Meets and pulls hold exactly what they are to hold, and images hold it at least.
-pub fn exactness()
-    ensures meet { MeetIsExact }
-    ensures pull { PullIsExact }
-    ensures image { ImageHolds }
-{}
 
 /// Of the rules of a member's table that hold a header exactly one is best, and it means what the
 /// table means.

@@ -1,0 +1,3 @@
+pub mod PulledMatches
+pub mod Normality
+pub mod Exactness

@@ -1,0 +1,8 @@
+//! Laws of pulls and images, for every header and every normal match.
+ghost use Rattle.pull_back.specs.Pulls.{ImageHolds, PullIsExact};
+
+/// A pull holds exactly what it is to hold, and an image holds it at least.
+pub fn exactness()
+    ensures pull { PullIsExact }
+    ensures image { ImageHolds }
+{}
