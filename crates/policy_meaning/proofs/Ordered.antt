@@ -1,41 +1,112 @@
--- Listing rules in order keeps the best one.
-use Rattle.std.proofs.Common.{◌≡◌, ◌<◌, Bool, true, false, List, [], ◌∷◌}
-use Rattle.std.specs.Prelude.{if◌then◌else◌}
-use Rattle.std.specs.Ordering.{is_le}
+-- The best rule in any order, and the order in which rules are listed.
+use Rattle.std.proofs.Common.{◌≡◌, ℕ, zero, suc, ◌+◌, ◌<◌, ◌≤◌, Bool, true, false, ◌&&◌, List, [], ◌∷◌, arith, ap, length, get_or, ltb-false, ltb-true, refl, subst, sym, ◌∙◌}
+use Rattle.std.specs.Prelude.{Contains, IsPermutation, if◌then◌else◌, nat_lt, not, sum_by}
+use Rattle.std.specs.Cmp.{IsStrictWeakOrder, IsTotalOrder}
+use Rattle.std.specs.Cmp.Lexicographic.{options_total, slice_cmp}
+use Rattle.std.specs.Option.{option_cmp}
+use Rattle.std.specs.Ordering.{is_lt, nat_cmp, on, then_cmp}
+use Rattle.std.proofs.lemmas.Cmp.{lists_total, nat_cmp_total, on_total, then_total}
+use Rattle.std.proofs.lemmas.List.Sorted.{Contains-permutation, ranks_by, sum_by-IsPermutation}
+use Rattle.std.proofs.lemmas.List.Sums.{sum_by-cons}
+use Rattle.cv_io.specs.declared.leaf.Leaf.{Leaf}
 use Rattle.of10_match.specs.Fields.{HeaderOf}
 use Rattle.of10_match.specs.Matching.{holds}
+use Rattle.of10_match.specs.Order.{by_bytes}
+use Rattle.of10_match.proofs.ByteOrder.{by_bytes_total}
 use Rattle.policy_meaning.specs.Best.{EachAt, Below, IsBest, first, later}
-use Rattle.policy_meaning.specs.Order.{by_ancestry, placed_in, in_order, OrderKeepsBest}
+use Rattle.policy_meaning.specs.Order.{by_ancestry, by_leaf, OrderKeepsBest}
 use Rattle.policy_meaning.specs.declared.rule.Rule.{Rule}
+use Rattle.policy_meaning.proofs.Booleans.{true_not_false}
 
 module _ (h : HeaderOf) where
-  either_each : (P : Rule → Type 0) (b : Bool) (xs ys : List Rule) → EachAt h P xs → EachAt h P ys → EachAt h P (if b then xs else ys)
-  either_each P true xs ys p q = p
-  either_each P false xs ys p q = q
+  abbrev weight_by : Bool → Bool → ℕ
+  weight_by true false = 1
+  weight_by true true = 0
+  weight_by false below = 0
 
-  either_best : (r : Rule) (b : Bool) (xs ys : List Rule) → IsBest h xs r → IsBest h ys r → IsBest h (if b then xs else ys) r
-  either_best r true xs ys p q = p
-  either_best r false xs ys p q = q
+  -- 1 for a rule that holds the header and isn't below r
+  abbrev weight : Rule → Rule → ℕ
+  weight r x = weight_by (holds x.m h) (nat_lt x.level r.level)
 
-  placed_each : (P : Rule → Type 0) (a : Rule) (xs : List Rule) → (holds a.m h ≡ true → P a) → EachAt h P xs → EachAt h P (placed_in a xs)
-  placed_each P a [] p q = (p, tt)
-  placed_each P a (x ∷ xs) p q = either_each P (is_le (by_ancestry a x)) (a ∷ x ∷ xs) (x ∷ placed_in a xs) (p, q) (q.0, placed_each P a xs p q.1)
+  low-by : (b c : Bool) (P : Type 0) → (c ≡ false → P → ⊥) → (b ≡ true → P) → weight_by b c ≡ 0
+  low-by true true P against low = refl
+  low-by true false P against low = absurd (against refl (low refl))
+  low-by false c P against low = refl
 
-  placed_first : (a : Rule) (xs : List Rule) → holds a.m h ≡ true → EachAt h (Below a.level) xs → IsBest h (placed_in a xs) a
-  placed_first a [] t q = first t tt
-  placed_first a (x ∷ xs) t q = either_best a (is_le (by_ancestry a x)) (a ∷ x ∷ xs) (x ∷ placed_in a xs) (first t q) (later q.0 (placed_first a xs t q.1))
+  by-low : (b c : Bool) (P : Type 0) → (c ≡ true → P) → weight_by b c ≡ 0 → b ≡ true → P
+  by-low true true P low e t = low refl
+  by-low true false P low e t = absurd (omega arith)
+  by-low false c P low e t = absurd (true_not_false (sym t))
 
-  placed_later : (a : Rule) {xs : List Rule} {r : Rule} → (holds a.m h ≡ true → a.level < r.level) → IsBest h xs r → IsBest h (placed_in a xs) r
-  placed_later a lt (first {r = r} {rs = xs} t b) = either_best r (is_le (by_ancestry a r)) (a ∷ r ∷ xs) (r ∷ placed_in a xs) (later lt (first t b)) (first t (placed_each (Below r.level) a xs lt b))
-  placed_later a lt (later {r = r} {x = x} {rs = xs} l b) = either_best r (is_le (by_ancestry a x)) (a ∷ x ∷ xs) (x ∷ placed_in a xs) (later lt (later l b)) (later l (placed_later a lt b))
+  lower-weighs : (r x : Rule) → (holds x.m h ≡ true → x.level < r.level) → weight r x ≡ 0
+  lower-weighs r x low = low-by (holds x.m h) (nat_lt x.level r.level) (x.level < r.level) (λ e l. let m : r.level ≤ x.level = ltb-false x.level r.level e in omega arith) low
 
-  ordered_each : (P : Rule → Type 0) (xs : List Rule) → EachAt h P xs → EachAt h P (in_order xs)
-  ordered_each P [] q = tt
-  ordered_each P (x ∷ xs) q = placed_each P x (in_order xs) q.0 (ordered_each P xs q.1)
+  weighs-lower : (r x : Rule) → weight r x ≡ 0 → holds x.m h ≡ true → x.level < r.level
+  weighs-lower r x = by-low (holds x.m h) (nat_lt x.level r.level) (x.level < r.level) (λ e. ltb-true x.level r.level e)
 
-  ordered_best : {xs : List Rule} {r : Rule} → IsBest h xs r → IsBest h (in_order xs) r
-  ordered_best (first {r = r} {rs = xs} t b) = placed_first r (in_order xs) t (ordered_each (Below r.level) xs b)
-  ordered_best (later {x = x} lt b) = placed_later x lt (ordered_best b)
+  weighs-itself : (r : Rule) (b c : Bool) → b ≡ true → nat_lt r.level r.level ≡ c → weight_by b c ≡ 1
+  weighs-itself r true false t e = refl
+  weighs-itself r true true t e = let l : r.level < r.level = ltb-true r.level r.level e in absurd (omega arith)
+  weighs-itself r false c t e = absurd (true_not_false (sym t))
+
+  lower-weigh : (r : Rule) (xs : List Rule) → EachAt h (Below r.level) xs → sum_by (weight r) xs ≡ 0
+  lower-weigh r [] p = refl
+  lower-weigh r (x ∷ xs) p = let a = lower-weighs r x p.0 in let b = lower-weigh r xs p.1 in omega (arith, sum_by-cons (weight r) x xs)
+
+  weigh-lower : (r : Rule) (xs : List Rule) → sum_by (weight r) xs ≡ 0 → EachAt h (Below r.level) xs
+  weigh-lower r [] e = tt
+  weigh-lower r (x ∷ xs) e =
+      let a : weight r x ≡ 0 = omega (arith, sum_by-cons (weight r) x xs) in
+      let b : sum_by (weight r) xs ≡ 0 = omega (arith, sum_by-cons (weight r) x xs) in
+      (weighs-lower r x a, weigh-lower r xs b)
+
+  held : {xs : List Rule} {r : Rule} → IsBest h xs r → holds r.m h ≡ true
+  held (first t b) = t
+  held (later lt p) = held p
+
+  there : {xs : List Rule} {r : Rule} → IsBest h xs r → Contains xs r
+  there (first {r = r} {rs = rs} t b) = (0, omega arith, refl)
+  there (later {rs = rs} lt p) = let c = there p in (suc c.0, let l = c.1 in omega arith, c.2)
+
+  alone : {xs : List Rule} {r : Rule} → IsBest h xs r → sum_by (weight r) xs ≡ 1
+  alone (first {r = r} {rs = rs} t b) = let a = weighs-itself r (holds r.m h) (nat_lt r.level r.level) t refl in let z = lower-weigh r rs b in omega (arith, sum_by-cons (weight r) r rs)
+  alone (later {r = r} {x = x} {rs = rs} lt p) = let a = lower-weighs r x lt in let z = alone p in omega (arith, sum_by-cons (weight r) x rs)
+
+  module _ (r : Rule) (t : holds r.m h ≡ true) where
+    itself : weight r r ≡ 1
+    itself = weighs-itself r (holds r.m h) (nat_lt r.level r.level) t refl
+
+    heavy : (xs : List Rule) (k : ℕ) → k < length xs → get_or xs k r ≡ r → 1 ≤ sum_by (weight r) xs
+    heavy [] k lt e = absurd (omega arith)
+    heavy (x ∷ xs) zero lt e = let a = itself in let b : weight r x ≡ weight r r = ap (weight r) e in omega (arith, sum_by-cons (weight r) x xs)
+    heavy (x ∷ xs) (suc k) lt e = let a = heavy xs k (omega arith) e in omega (arith, sum_by-cons (weight r) x xs)
+
+    best-by : (xs : List Rule) (k : ℕ) → k < length xs → get_or xs k r ≡ r → sum_by (weight r) xs ≡ 1 → IsBest h xs r
+    best-by [] k lt e s = absurd (omega arith)
+    best-by (x ∷ xs) zero lt e s =
+        let a = itself in
+        let b : weight r x ≡ weight r r = ap (weight r) e in
+        let rest : sum_by (weight r) xs ≡ 0 = omega (arith, sum_by-cons (weight r) x xs) in
+        subst (λ (z : Rule). IsBest h (z ∷ xs) r) (sym e) (first t (weigh-lower r xs rest))
+    best-by (x ∷ xs) (suc k) lt e s =
+        let some = heavy xs k (omega arith) e in
+        let light : weight r x ≡ 0 = omega (arith, sum_by-cons (weight r) x xs) in
+        let rest : sum_by (weight r) xs ≡ 1 = omega (arith, sum_by-cons (weight r) x xs) in
+        later (weighs-lower r x light) (best-by xs k (omega arith) e rest)
 
 pub order_keeps_best : OrderKeepsBest
-order_keeps_best h xs r b = ordered_best h b
+order_keeps_best h xs ys r p b =
+    let c = Contains-permutation xs ys r p (there h b) in
+    best-by h r (held h b) ys c.0 c.1 c.2 (sum_by-IsPermutation (weight h r) xs ys p ∙ alone h b)
+
+-- rules are in a total order
+by_leaf_total : IsTotalOrder by_leaf
+by_leaf_total = then_total (on_total (λ (a : Leaf). a.member) nat_cmp_total) (on_total (λ (a : Leaf). a.kind) nat_cmp_total)
+
+by_ancestry_total : IsTotalOrder by_ancestry
+by_ancestry_total =
+    then_total (on_total (λ (a : Rule). a.ancestry) (lists_total by_leaf_total))
+    (then_total (on_total (λ (a : Rule). a.m.in_port) (options_total nat_cmp_total)) (on_total (λ (a : Rule). a.m) by_bytes_total))
+
+pub ranks_rules : IsStrictWeakOrder (λ (a b : Rule). is_lt (by_ancestry a b))
+ranks_rules = ranks_by by_ancestry_total (λ (a : Rule). a)

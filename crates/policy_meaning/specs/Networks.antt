@@ -9,6 +9,7 @@ use Rattle.policy_meaning.specs.LeafRules.{leaf_rules}
 use Rattle.policy_meaning.specs.Rules.{rules_of}
 use Rattle.policy_meaning.specs.Hops.{Fabric, node}
 use Rattle.policy_meaning.specs.Walk.{Ground, takes}
+use Rattle.policy_meaning.specs.declared.fabric.Entering.{Entering}
 use Rattle.policy_meaning.specs.declared.leaf.LeafTable.{LeafTable}
 use Rattle.policy_meaning.specs.declared.meaning.Meaning.{Meaning}
 use Rattle.policy_meaning.specs.declared.network.Link.{Link}
@@ -85,16 +86,11 @@ ground_of net = record {
 abbrev pub enters : Network → ℕ → HeaderOf → Bool
 enters net v h = switch_has (slice_get net.switches v) h.in_port && takes (switch_spread (slice_get net.switches v)) h
 
--- rules, and the port for which they are put on a physical switch; 0 stands for all ports
-pub record Entering : Type 0 where
-  pub port : ℕ
-  pub rules : List Rule
-
 -- the rules that are put on a physical switch for a virtual switch: of each outside port those of its node, of a
--- whole virtual switch those of its expression, once
+-- whole virtual switch those of its expression, once for all ports
 abbrev pub entering : Network → ℕ → ℕ → Option VirtualSwitch → List Entering
 entering net hops v None = []
 entering net hops v (Some s) =
     if s.whole
-    then record { port = 0; rules = switch_rules net.tables (Some s) } ∷ []
-    else map (λ p. record { port = p; rules = node (fabric_of net) hops v p }) s.outside
+    then record { port = None; rules = switch_rules net.tables (Some s) } ∷ []
+    else map (λ p. record { port = Some p; rules = node (fabric_of net) hops v p }) s.outside

@@ -1,7 +1,7 @@
 -- The order in which rules are listed.
-use Rattle.std.specs.Prelude.{◌≡◌, if◌then◌else◌, List, [], ◌∷◌}
+use Rattle.std.specs.Prelude.{List, IsPermutation, IsSorted}
 use Rattle.std.specs.Cmp.Lexicographic.{slice_cmp}
-use Rattle.std.specs.Ordering.{nat_cmp, ordering_then, is_le}
+use Rattle.std.specs.Ordering.{nat_cmp, ordering_then}
 use Rattle.std.specs.Option.{option_cmp}
 use Rattle.std.specs.declared.cmp.Ordering.{Ordering}
 use Rattle.cv_io.specs.declared.leaf.Leaf.{Leaf}
@@ -18,16 +18,11 @@ by_leaf a b = ordering_then (nat_cmp a.member b.member) (nat_cmp a.kind b.kind)
 abbrev pub by_ancestry : Rule → Rule → Ordering
 by_ancestry a b = ordering_then (slice_cmp by_leaf a.ancestry b.ancestry) (ordering_then (option_cmp nat_cmp a.m.in_port b.m.in_port) (by_bytes a.m b.m))
 
--- a rule among rules in that order
-abbrev pub placed_in : Rule → List Rule → List Rule
-placed_in a [] = a ∷ []
-placed_in a (x ∷ xs) = if is_le (by_ancestry a x) then a ∷ x ∷ xs else x ∷ placed_in a xs
+-- the same rules, in that order
+pub record IsListing (rules listed : List Rule) : Type 0 where
+  pub same : IsPermutation rules listed
+  pub rising : IsSorted by_ancestry listed
 
--- the rules in that order
-abbrev pub in_order : List Rule → List Rule
-in_order [] = []
-in_order (x ∷ xs) = placed_in x (in_order xs)
-
--- the best rule of some rules is the best of them in that order
+-- the best of some rules is their best in any order
 abbrev pub OrderKeepsBest : Type 0
-OrderKeepsBest = (h : HeaderOf) (xs : List Rule) (r : Rule) → IsBest h xs r → IsBest h (in_order xs) r
+OrderKeepsBest = (h : HeaderOf) (xs ys : List Rule) (r : Rule) → IsPermutation xs ys → IsBest h xs r → IsBest h ys r

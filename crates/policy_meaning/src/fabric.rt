@@ -1,11 +1,11 @@
 //! The rules of virtual switches and of the nodes of their ports, from scratch.
-ghost use Rattle.std.specs.Prelude.{◌≡◌, ◌+◌, ◌*◌, ◌<◌, ◌≤◌, ◌^◌, ◌++◌, All, IfOk, OnOk, IfSome, filter_map, slice_get};
+ghost use Rattle.std.specs.Prelude.{◌≡◌, ◌+◌, ◌*◌, ◌<◌, ◌≤◌, ◌^◌, ◌++◌, All, IfOk, OnOk, IfSome, filter_map, map, slice_get};
 ghost use Rattle.alg_priority.specs.Levels.{capped};
 ghost use Rattle.policy_expr.specs.Policy.{policy_of};
 ghost use Rattle.policy_meaning.specs.Fitting.{IsFittingTable, levels_of};
 ghost use Rattle.policy_meaning.specs.Hops.{hop_size as hop_size_of, hops_on, last_rule as last_rule_of, node, peers_size as peers_size_of};
 ghost use Rattle.policy_meaning.specs.LeafRules.{at_port as at_port_of, rule_met as rule_met_of};
-ghost use Rattle.policy_meaning.specs.Networks.{fabric_of, switch_rules as switch_rules_of, switch_size};
+ghost use Rattle.policy_meaning.specs.Networks.{entering as entering_of, fabric_of, switch_rules as switch_rules_of, switch_size};
 
 use crate::hops::{add_hops, at_node, hop_lone};
 use crate::leaf::LeafTable;
@@ -19,6 +19,14 @@ use cv_io::{List, Memory};
 use of10_actions::Tail;
 use of10_match::Match;
 use std::alloc::Global;
+
+/// Rules that are put on a physical switch, and the port at which packets come to them, or none for all
+/// ports.
+#[derive(PartialEq, Eq, Debug, Drop)]
+pub struct Entering {
+    pub port: Option<u16>,
+    pub rules: List<Rule>,
+}
 
 /// The rules of a virtual switch, whatever the port: those of its expression.
 pub fn switch_rules(
@@ -147,4 +155,53 @@ pub fn node_rules(
         add_onward(alloc, network, hops - 1, size, &mut rules, &onward, &here)?;
     }
     Ok(rules)
+}
+
+/// The rules of the nodes of these ports of a virtual switch, for so many hops.
+fn at_each_port(
+    alloc: Global,
+    network: &Network,
+    hops: u32,
+    v: u32,
+    ports: &List<u16>,
+) -> Result<List<Entering>, Memory>
+    requires tables { All IsFittingTable network.now.tables }
+    requires size { hop_size_of (fabric_of network.now) hops v < 2 ^ 64 }
+    ensures { IfOk result (λ entering. entering ≡ map (λ p. record { port = Some p; rules = node (fabric_of network.now) hops v p }) ports.now) }
+{
+    let mut entering = List::with_capacity(alloc, ports.len())?;
+    for port in ports.as_slice() {
+        entering.push(Entering {
+            port: Some(*port),
+            rules: node_rules(alloc, network, hops, v, *port)?,
+        })?;
+    }
+    Ok(entering)
+}
+
+/// The rules that are put on a physical switch for a virtual switch: of each outside port those of its
+/// node, of a whole virtual switch those of its expression, once for all ports.
+pub fn entering_rules(
+    alloc: Global,
+    network: &Network,
+    hops: u32,
+    v: u32,
+) -> Result<List<Entering>, Memory>
+    requires tables { All IsFittingTable network.now.tables }
+    requires expression { switch_size network.now.tables (slice_get network.now.switches v) < 2 ^ 64 }
+    requires node { hop_size_of (fabric_of network.now) hops v < 2 ^ 64 }
+    ensures { IfOk result (λ rules. rules ≡ entering_of network.now hops v (slice_get network.now.switches v)) }
+{
+    let Some(switch) = network.switches.get(v as usize) else {
+        return Ok(List::new(alloc));
+    };
+    if !switch.whole {
+        return at_each_port(alloc, network, hops, v, &switch.outside);
+    }
+    let mut entering = List::new(alloc);
+    entering.push(Entering {
+        port: None,
+        rules: switch_rules(alloc, &network.tables, switch)?,
+    })?;
+    Ok(entering)
 }

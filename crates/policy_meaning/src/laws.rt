@@ -30,7 +30,7 @@ pub fn every_node()
     ensures { EveryNode }
 {}
 
-/// Listing rules in the stated order keeps the best one.
+/// In whatever order rules are listed, the same one is best.
 pub fn stated_order()
     ensures { OrderKeepsBest }
 {}

@@ -4,6 +4,7 @@ ghost use Rattle.std.specs.Prelude.{◌≡◌};
 use cv_io::{Duplicate, Leaf, List, Memory, Named};
 use of10_actions::{Out, Tail};
 use of10_match::Match;
+use std::cmp::Ordering;
 
 /// A rule: the headers that it holds, how it stands against others, and what it does.
 ///
@@ -18,6 +19,23 @@ pub struct Rule {
     pub tail: Tail,
     /// The leaves that the rule is made of, in the order of the expression.
     pub ancestry: List<Leaf>,
+}
+
+impl Rule {
+    ghost use Rattle.policy_meaning.specs.Order.{by_ancestry};
+
+    /// How two rules stand in lists: by their leaves, then by their ports, none first, then by the bytes
+    /// of their matches.
+    pub fn cmp_listed(&self, other: &Rule) -> Ordering
+        ensures { result ≡ by_ancestry self.now other.now }
+    {
+        let leaves = self.ancestry.as_slice().cmp(other.ancestry.as_slice());
+        let ports = self.m.in_port.cmp(&other.m.in_port);
+        match leaves.then(ports) {
+            Ordering::Equal => self.m.cmp_bytes(&other.m),
+            unequal => unequal,
+        }
+    }
 }
 
 impl Duplicate for Rule {

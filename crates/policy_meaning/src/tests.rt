@@ -236,13 +236,3 @@ fn levels_of_pairs(rt: HostRuntime) -> Result<(), Fail> {
     }
     Ok(())
 }
-
-#[test]
-fn pulls(rt: HostRuntime) {
-    let arp = Match {
-        dl_type: Some(0x0806),
-        ..Match::everything()
-    };
-    assert_eq!(rt; pull(&to_server(), &arp), Some(arp));
-    assert_eq!(rt; pull(&to_server(), &by_port(1)), Some(by_port(1)));
-}
