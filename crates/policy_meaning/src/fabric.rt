@@ -5,7 +5,7 @@ ghost use Rattle.policy_expr.specs.Policy.{policy_of};
 ghost use Rattle.policy_meaning.specs.Fitting.{IsFittingTable, levels_of};
 ghost use Rattle.policy_meaning.specs.Hops.{hop_size as hop_size_of, hops_on, last_rule as last_rule_of, node, peers_size as peers_size_of};
 ghost use Rattle.policy_meaning.specs.LeafRules.{at_port as at_port_of, rule_met as rule_met_of};
-ghost use Rattle.policy_meaning.specs.Networks.{entering as entering_of, fabric_of, switch_rules as switch_rules_of, switch_size};
+ghost use Rattle.policy_meaning.specs.Networks.{entering as entering_of, fabric_of, switch_rules as switch_rules_of};
 
 use crate::hops::{add_hops, at_node, hop_lone};
 use crate::leaf::LeafTable;
@@ -180,7 +180,7 @@ fn at_each_port(
 }
 
 /// The rules that are put on a physical switch for a virtual switch: of each outside port those of its
-/// node, of a whole virtual switch those of its expression, once for all ports.
+/// node, for at least one hop, and of a whole virtual switch those of its expression, once for all ports.
 pub fn entering_rules(
     alloc: Global,
     network: &Network,
@@ -188,8 +188,8 @@ pub fn entering_rules(
     v: u32,
 ) -> Result<List<Entering>, Memory>
     requires tables { All IsFittingTable network.now.tables }
-    requires expression { switch_size network.now.tables (slice_get network.now.switches v) < 2 ^ 64 }
-    requires node { hop_size_of (fabric_of network.now) hops v < 2 ^ 64 }
+    requires hop { 0 < hops }
+    requires size { hop_size_of (fabric_of network.now) hops v < 2 ^ 64 }
     ensures { IfOk result (λ rules. rules ≡ entering_of network.now hops v (slice_get network.now.switches v)) }
 {
     let Some(switch) = network.switches.get(v as usize) else {

@@ -1,8 +1,9 @@
 //! The table of a member, as composition sees it, and what it means for one header.
-ghost use Rattle.std.specs.Prelude.{◌≡◌, ◌++◌, IfOk, option_map};
+ghost use Rattle.std.specs.Prelude.{◌≡◌, ◌↔◌, IfOk, IsTrue};
 ghost use Rattle.std.specs.Option.{option_copied};
 ghost use Rattle.std.specs.List.{list_any};
 ghost use Rattle.of10_match.specs.Matching.{holds as holds_of};
+ghost use Rattle.policy_meaning.specs.Fitting.{IsFittingTable};
 ghost use Rattle.policy_meaning.specs.Leaf.{best_entry as best_entry_of, has_port as has_port_of, is_inside as is_inside_of, leaf_meaning as leaf_meaning_of, miss_outs as miss_outs_of, pick as pick_of};
 
 use crate::meaning::{Meaning, outside};
@@ -60,6 +61,16 @@ fn pick<'a>(first: &'a LeafEntry, second: &'a LeafEntry) -> &'a LeafEntry
 }
 
 impl LeafTable {
+    /// Whether levels are below the table's size, and serials leave room for the kinds of leaves.
+    pub fn fits(&self) -> bool
+        ensures { IsTrue result ↔ IsFittingTable self.now }
+    {
+        let entries = self.entries.as_slice();
+        self.size > 1
+            && entries.iter().all(|entry| entry.level < self.size)
+            && entries.iter().all(|entry| entry.serial < u64::MAX - 1)
+    }
+
     /// Whether the member may act on the header: a box of its region holds it, and the member sees
     /// the port by which it came.
     pub fn is_inside(&self, header: &Header) -> bool

@@ -28,8 +28,12 @@ pub use meaning::Meaning;
 pub use network::{Link, Network, Onward, Place, VirtualSwitch};
 pub use order::listed;
 pub use rule::Rule;
-pub use scratch::{Composed, expression_rules};
+pub use scratch::{Composed, expression_rules, expression_size, tables_fit};
 pub use walking::{PortOut, Told, Walked, walk};
 
+#[cfg(test)]
+mod fixtures;
+#[cfg(test)]
+mod rule_tests;
 #[cfg(test)]
 mod tests;

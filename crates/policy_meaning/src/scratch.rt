@@ -1,5 +1,5 @@
 //! The rules of an expression, from scratch.
-ghost use Rattle.std.specs.Prelude.{◌≡◌, ◌<◌, ◌^◌, ◌++◌, All, IfOk, OnOk, flat_map, slice_get};
+ghost use Rattle.std.specs.Prelude.{◌≡◌, ◌<◌, ◌^◌, ◌↔◌, ◌++◌, All, IfOk, IsTrue, flat_map, slice_get};
 ghost use Rattle.alg_priority.specs.Levels.{capped, concat_level, shift_level, sum_level};
 ghost use Rattle.policy_expr.specs.Policy.{policy_of};
 ghost use Rattle.alg_priority.specs.Sizes.{concat_size, shift_size, sum_size};
@@ -55,6 +55,13 @@ fn shifts(alloc: Global, size: u64, xs: &List<Rule>, bs: List<Rule>) -> Result<L
     Ok(rules)
 }
 
+/// Whether all tables fit.
+pub fn tables_fit(tables: &List<LeafTable>) -> bool
+    ensures { IsTrue result ↔ All IsFittingTable tables.now }
+{
+    tables.as_slice().iter().all(|table| table.fits())
+}
+
 /// How many levels a member has; one without a table has one.
 fn member_size(tables: &List<LeafTable>, index: u32) -> u64
     ensures { result ≡ table_size (slice_get tables.now index) }
@@ -66,7 +73,7 @@ fn member_size(tables: &List<LeafTable>, index: u32) -> u64
 }
 
 /// How many levels the rules of an expression have, at most the greatest u64.
-pub(crate) fn expression_size(tables: &List<LeafTable>, expr: &Expr) -> u64
+pub fn expression_size(tables: &List<LeafTable>, expr: &Expr) -> u64
     requires { All IsFittingTable tables.now }
     ensures { result ≡ capped (levels_of tables.now (policy_of expr.now)) }
 {

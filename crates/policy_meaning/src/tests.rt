@@ -1,91 +1,13 @@
-ghost use Rattle.std.specs.Prelude.{◌≡◌, IfOk};
-
-use super::*;
-use cv_io::{Leaf, List};
-use of10_actions::{Dest, Effects, Out, Rewrite, Tail};
+//! Virtual switches that are joined by links: the ways of packets, and the rules of nodes.
+use crate::fixtures::{by_port, entry, packet, table, to_server};
+use crate::*;
+use cv_io::List;
+use of10_actions::{Dest, Rewrite, Tail};
 use of10_match::{Header, Match};
 use policy_expr::Expr;
 use std::alloc::Global;
+use std::process::Abort;
 use std::test::Fail;
-
-const SERVER: u32 = 0x0200_0001;
-
-fn to_server() -> Rewrite {
-    Rewrite {
-        nw_dst: Some(SERVER),
-        ..Rewrite::new()
-    }
-}
-
-fn by_port(port: u16) -> Match {
-    Match {
-        in_port: Some(port),
-        ..Match::everything()
-    }
-}
-
-/// An UDP packet that comes by port 1.
-fn packet() -> Header {
-    Header {
-        in_port: 1,
-        dl_src: 1,
-        dl_dst: 2,
-        dl_vlan: 65535,
-        dl_vlan_pcp: 0,
-        dl_type: 0x0800,
-        nw_tos: 0,
-        nw_proto: 17,
-        nw_src: 0x0a00_0107,
-        nw_dst: 0x0102_0304,
-        tp_src: 1000,
-        tp_dst: 53,
-    }
-}
-
-fn entry(
-    alloc: Global,
-    serial: u64,
-    m: Match,
-    dest: Option<Dest>,
-    tail: Tail,
-) -> Result<LeafEntry, Fail> {
-    let mut outs = List::new(alloc);
-    if let Some(dest) = dest {
-        outs.push(Out {
-            rewrite: Rewrite::new(),
-            dest,
-        })?;
-    }
-    Ok(LeafEntry {
-        serial,
-        rank: 100,
-        m,
-        level: 4,
-        effects: Effects { outs, tail },
-    })
-}
-
-/// A table that may act on all headers and sees these ports.
-fn table(
-    alloc: Global,
-    member: u32,
-    visible: &[u16],
-    misses: bool,
-    first: LeafEntry,
-) -> Result<LeafTable, Fail> {
-    let mut region = List::new(alloc);
-    region.push(Match::everything())?;
-    let mut entries = List::new(alloc);
-    entries.push(first)?;
-    Ok(LeafTable {
-        member,
-        size: 8,
-        region,
-        visible: List::from_slice(alloc, visible)?,
-        misses,
-        entries,
-    })
-}
 
 fn joined(v: u32, port: u16) -> Link {
     Link {
@@ -94,7 +16,7 @@ fn joined(v: u32, port: u16) -> Link {
     }
 }
 
-fn switch(alloc: Global, expr: Expr, peer: u32) -> Result<VirtualSwitch, Fail> {
+fn switch(alloc: Global, expr: Expr, peer: u32, whole: bool) -> Result<VirtualSwitch, Fail> {
     let mut links = List::new(alloc);
     links.push(joined(peer, 8))?;
     links.push(joined(peer, 9))?;
@@ -103,22 +25,21 @@ fn switch(alloc: Global, expr: Expr, peer: u32) -> Result<VirtualSwitch, Fail> {
         outside: List::from_slice(alloc, &[1, 2])?,
         links,
         spread: false,
-        whole: false,
+        whole,
     })
 }
 
-/// Two virtual switches that split a physical one: the first sends what comes by port 1 to link 9 and
-/// what comes back by link 8 to port 1, the second what comes by link 9 to link 8.
-fn split(alloc: Global) -> Result<Network, Fail> {
+/// Two virtual switches that split a physical one: the first sends what comes by port 1 to link 9, and
+/// what comes back by link 8 to port 1 or once more to link 9, the second what comes by link 9 to link 8.
+fn split(alloc: Global, leaves: bool) -> Result<Network, Fail> {
     let ports = [1, 2, 8, 9];
     let first = entry(alloc, 1, by_port(1), None, Tail::Link(Rewrite::new(), 9))?;
-    let back = entry(
-        alloc,
-        2,
-        by_port(8),
-        Some(Dest::Port { v: 0, port: 1 }),
-        Tail::Nothing,
-    )?;
+    let (dest, tail) = if leaves {
+        (Some(Dest::Port { v: 0, port: 1 }), Tail::Nothing)
+    } else {
+        (None, Tail::Link(Rewrite::new(), 9))
+    };
+    let back = entry(alloc, 2, by_port(8), dest, tail)?;
     let second = entry(alloc, 1, by_port(9), None, Tail::Link(Rewrite::new(), 8))?;
     let mut a = table(alloc, 0, &ports, false, first)?;
     a.entries.push(back)?;
@@ -126,14 +47,14 @@ fn split(alloc: Global) -> Result<Network, Fail> {
     tables.push(a)?;
     tables.push(table(alloc, 1, &ports, false, second)?)?;
     let mut switches = List::new(alloc);
-    switches.push(switch(alloc, Expr::Member { index: 0 }, 1)?)?;
-    switches.push(switch(alloc, Expr::Member { index: 1 }, 0)?)?;
+    switches.push(switch(alloc, Expr::Member { index: 0 }, 1, false)?)?;
+    switches.push(switch(alloc, Expr::Member { index: 1 }, 0, true)?)?;
     Ok(Network { tables, switches })
 }
 
 #[test]
 fn split_switch_in_hops(rt: HostRuntime) -> Result<(), Fail> {
-    let network = split(rt.alloc())?;
+    let network = split(rt.alloc(), true)?;
     // Two hops don't suffice, three do.
     for (hops, want) in [(2, 0), (3, 1), (4, 1)] {
         let walked = walk(rt.alloc(), &network, hops, 0, &packet())?;
@@ -173,7 +94,7 @@ fn told_network(alloc: Global) -> Result<Network, Fail> {
         right: Box::new(alloc, chain)?,
     };
     let mut switches = List::new(alloc);
-    switches.push(switch(alloc, both, 1)?)?;
+    switches.push(switch(alloc, both, 1, false)?)?;
     Ok(Network { tables, switches })
 }
 
@@ -203,36 +124,51 @@ fn two_are_told(rt: HostRuntime) -> Result<(), Fail> {
     Ok(())
 }
 
-fn rule(alloc: Global, level: u64, touched: bool) -> Result<Rule, Fail>
-    ensures { IfOk result (λ rule. rule.level ≡ level) }
-{
-    Ok(Rule {
-        m: Match::everything(),
-        level,
-        touched,
-        outs: List::new(alloc),
-        tail: Tail::Nothing,
-        ancestry: List::from_slice(alloc, &[Leaf { member: 0, kind: 3 }])?,
-    })
+/// The levels of the rules at port 1 of the first virtual switch, for four hops.
+fn levels_at(rt: &impl Abort, alloc: Global, network: &Network) -> Result<List<u64>, Fail> {
+    assert!(rt; tables_fit(&network.tables));
+    assert!(rt; hop_size(network, 4, 0) < u64::MAX);
+    let mut levels = List::new(alloc);
+    for rule in node_rules(alloc, network, 4, 0, 1)?.as_slice() {
+        levels.push(rule.level)?;
+    }
+    Ok(levels)
 }
 
 #[test]
-fn levels_of_pairs(rt: HostRuntime) -> Result<(), Fail> {
-    let (miss, low, high) = (
-        rule(rt.alloc(), 1, false)?,
-        rule(rt.alloc(), 4, true)?,
-        rule(rt.alloc(), 6, true)?,
-    );
-    for (sum, want) in [
-        (sum_rule(rt.alloc(), &low, &low)?, 8),
-        (sum_rule(rt.alloc(), &low, &high)?, 10),
-        (sum_rule(rt.alloc(), &low, &miss)?, 5),
-        (sum_rule(rt.alloc(), &miss, &high)?, 7),
-        (chain_rule(rt.alloc(), 8, &to_server(), &low, &low)?, 36),
-        (chain_rule(rt.alloc(), 8, &to_server(), &low, &miss)?, 33),
-        (Some(lifted(12, &low)?), 12),
+fn levels_over_hops(rt: HostRuntime) -> Result<(), Fail> {
+    for (leaves, want) in [
+        (true, [512, 2112, 2312, 2336].as_slice()),
+        (false, [512, 2112, 2312, 2337, 2340].as_slice()),
     ] {
-        assert_eq!(rt; sum.map(|rule| rule.level), Some(want));
+        let network = split(rt.alloc(), leaves)?;
+        let levels = levels_at(&rt, rt.alloc(), &network)?;
+        assert_eq!(rt; levels.as_slice(), want);
     }
+    let network = split(rt.alloc(), true)?;
+    assert!(rt; tables_fit(&network.tables));
+    for (hops, want) in [(0, 1), (1, 8), (2, 64), (3, 512), (4, 4096), (5, 32_768)] {
+        assert_eq!(rt; hop_size(&network, hops, 0), want, "{hops} hops");
+    }
+    Ok(())
+}
+
+#[test]
+fn rules_that_enter(rt: HostRuntime) -> Result<(), Fail> {
+    let network = split(rt.alloc(), true)?;
+    assert!(rt; tables_fit(&network.tables));
+    assert!(rt; hop_size(&network, 4, 0) < u64::MAX);
+    let entering = entering_rules(rt.alloc(), &network, 4, 0)?;
+    assert_eq!(rt; entering.len(), 2);
+    for (place, port) in [(0, 1), (1, 2)] {
+        let at = entering.get(place).ok_or("no such port")?;
+        assert_eq!(rt; at.port, Some(port));
+        assert_eq!(rt; at.rules, node_rules(rt.alloc(), &network, 4, 0, port)?);
+    }
+    // The second virtual switch is whole: a miss and an entry, for all ports.
+    assert!(rt; hop_size(&network, 4, 1) < u64::MAX);
+    let whole = entering_rules(rt.alloc(), &network, 4, 1)?;
+    let all = whole.get(0).ok_or("no rules")?;
+    assert_eq!(rt; (whole.len(), all.port, all.rules.len()), (1, None, 2));
     Ok(())
 }
