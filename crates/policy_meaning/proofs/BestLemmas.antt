@@ -6,7 +6,7 @@ use Rattle.of10_match.specs.Fields.{HeaderOf}
 use Rattle.of10_match.specs.Matching.{holds}
 use Rattle.policy_meaning.specs.Best.{EachAt, Below, IsBest, first, later}
 use Rattle.policy_meaning.specs.declared.rule.Rule.{Rule}
-use Rattle.policy_meaning.proofs.Lists.{all-map, all-each, all-zip, all-append, all-cons_option, all-flat_map, all-filter_map}
+use Rattle.policy_meaning.proofs.Lists.{all-map, all-each, all-zip, all-append, all-flat_map, all-filter_map}
 
 -- no rule at all
 abbrev pub Never : Rule → Type 0

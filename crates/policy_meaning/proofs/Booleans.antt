@@ -1,6 +1,6 @@
 -- Tests that pass or fail together.
-use Rattle.std.proofs.Common.{◌≡◌, Bool, true, false, ◌&&◌, ◌||◌, Option, Some, None, refl}
-use Rattle.std.specs.Prelude.{not, if◌then◌else◌}
+use Rattle.std.proofs.Common.{◌≡◌, Bool, true, false, ◌&&◌, ◌||◌, Some, refl}
+use Rattle.std.specs.Prelude.{not}
 
 pub true_not_false : true ≡ false → ⊥
 true_not_false e = cc

@@ -1,11 +1,11 @@
 -- Lists of outs in which each rewrite extends the one before it, and the tail's extends all.
-use Rattle.std.proofs.Common.{◌≡◌, ℕ, Bool, true, false, List, [], ◌∷◌, ◌++◌, Option, Some, None, refl, sym, subst}
-use Rattle.std.specs.Prelude.{map, filter_map, if◌then◌else◌}
+use Rattle.std.proofs.Common.{◌≡◌, ℕ, Bool, true, false, List, [], ◌∷◌, ◌++◌, Some, None, sym, subst}
+use Rattle.std.specs.Prelude.{map, if◌then◌else◌}
 use Rattle.std.specs.List.{AllByRecursion, cons_option}
 use Rattle.of10_actions.specs.Fields.{RewriteOf}
 use Rattle.of10_actions.specs.Rewriting.{Extends, and_then, no_rewrite}
-use Rattle.of10_actions.specs.Effects.{TailExtends, EachExtends, BuildsUp}
-use Rattle.of10_actions.proofs.Extending.{extends-itself, extends-onward, extends-composed, extends-after}
+use Rattle.of10_actions.specs.Effects.{TailExtends, EachExtends}
+use Rattle.of10_actions.proofs.Extending.{extends-onward, extends-after}
 use Rattle.of10_actions.specs.declared.effects.Out.{Out}
 use Rattle.of10_actions.specs.declared.effects.Dest.{Dest}
 use Rattle.of10_actions.specs.declared.effects.Dest.TheVariants.{Port, Flood, Ingress, Tell}

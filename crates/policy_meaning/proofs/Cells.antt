@@ -1,6 +1,6 @@
 -- Lists of matches of which at most one holds a header: the boxes of a region, and its parts by port.
-use Rattle.std.proofs.Common.{◌≡◌, ℕ, ◌<◌, Bool, true, false, ◌&&◌, ◌||◌, List, [], ◌∷◌, ◌++◌, Option, Some, None, refl, ap, ◌∙◌, arith, sym, subst, eqb-true, eq-eqb}
-use Rattle.std.specs.Prelude.{flat_map, filter_map, if◌then◌else◌, ◌==◌, not}
+use Rattle.std.proofs.Common.{◌≡◌, ℕ, ◌<◌, Bool, true, false, ◌||◌, List, [], ◌∷◌, ◌++◌, Option, Some, None, refl, ap, ◌∙◌, sym, subst, eqb-true}
+use Rattle.std.specs.Prelude.{flat_map, if◌then◌else◌, ◌==◌, not}
 use Rattle.std.specs.List.{AllByRecursion, list_any, cons_option}
 use Rattle.of10_match.specs.Fields.{HeaderOf, MatchOf}
 use Rattle.of10_match.specs.Matching.{holds, overlaps, both, meet, fits, fits_prefix}
@@ -9,11 +9,11 @@ use Rattle.of10_match.specs.Normal.{IsNormal}
 use Rattle.of10_match.proofs.Twelve.{each-fields, each-intro}
 use Rattle.policy_meaning.specs.Leaf.{has_port, is_inside}
 use Rattle.policy_meaning.specs.LeafRules.{at_port, is_open, is_everything, rule_met, hides, cut, cells, in_cells, has_outside}
-use Rattle.policy_meaning.specs.Best.{EachAt, Below, IsBest, first, later}
+use Rattle.policy_meaning.specs.Best.{EachAt, Below, IsBest, first}
 use Rattle.policy_meaning.specs.LeafFact.{EachPair}
 use Rattle.policy_meaning.specs.declared.leaf.LeafTable.{LeafTable}
 use Rattle.policy_meaning.specs.declared.rule.Rule.{Rule}
-use Rattle.policy_meaning.proofs.Booleans.{true_not_false, split_and, join_and, split_or, or_right, fails, not_false, some_injective}
+use Rattle.policy_meaning.proofs.Booleans.{true_not_false, split_and, join_and, split_or, or_right, fails, not_false}
 use Rattle.policy_meaning.proofs.Lists.{all-map, all-each, all-append, all-cons_option, all-flat_map, all-filter_map}
 use Rattle.policy_meaning.proofs.BestLemmas.{Never, At, at-never, best-cons_option}
 use Rattle.policy_meaning.proofs.Meeting.{meet_there, meet_holds, some_meet, some_met, is_met}

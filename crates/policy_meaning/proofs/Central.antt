@@ -1,5 +1,5 @@
 -- The central fact, over the expression.
-use Rattle.std.proofs.Common.{◌≡◌, ℕ, Bool, true, List, ◌++◌, refl}
+use Rattle.std.proofs.Common.{◌≡◌, ℕ, Bool, true, List, ◌++◌}
 use Rattle.std.specs.List.{AllByRecursion}
 use Rattle.of10_match.specs.Fields.{HeaderOf}
 use Rattle.of10_actions.specs.Fields.{RewriteOf}
@@ -12,7 +12,7 @@ use Rattle.policy_expr.specs.Sizes.{size_of}
 use Rattle.policy_meaning.specs.Meaning.{evaluate}
 use Rattle.policy_meaning.specs.Rules.{rules_of}
 use Rattle.policy_meaning.specs.Best.{IsSound, BuildUp, Says}
-use Rattle.policy_meaning.specs.CentralFact.{ArePlain, IsPlainRule, EachMember, EachLeft, AreSoundLeaves, IsPlainLeaf, CentralFact, RulesAreSound}
+use Rattle.policy_meaning.specs.CentralFact.{IsPlainRule, EachMember, EachLeft, AreSoundLeaves, IsPlainLeaf, CentralFact, RulesAreSound}
 use Rattle.policy_meaning.specs.declared.meaning.Meaning.{Meaning}
 use Rattle.policy_meaning.specs.declared.rule.Rule.{Rule}
 use Rattle.policy_meaning.proofs.Lists.{all-map, all-zip, all-append}

@@ -1,9 +1,8 @@
 -- From tables, expressions and links to every node.
-use Rattle.std.proofs.Common.{◌≡◌, ℕ, Bool, true, false, ◌&&◌, List, Option, Some, None, refl, sym}
+use Rattle.std.proofs.Common.{◌≡◌, ℕ, Bool, true, List, Option, Some, None, refl, sym}
 use Rattle.std.specs.Prelude.{slice_get}
 use Rattle.std.specs.List.{AllByRecursion}
-use Rattle.of10_match.specs.Fields.{HeaderOf, MatchOf}
-use Rattle.of10_match.specs.Normal.{IsNormal}
+use Rattle.of10_match.specs.Fields.{HeaderOf}
 use Rattle.policy_expr.specs.Policy.{Policy, member, parallel, sequential, override, policy_of}
 use Rattle.policy_meaning.specs.Leaf.{has_port}
 use Rattle.policy_meaning.specs.Networks.{ports_of, table_meaning, table_rules, table_size, switch_meaning, switch_rules, switch_size, switch_has, switch_spread, fabric_of, ground_of}

@@ -1,12 +1,11 @@
 -- What the rules of a member's table say.
-use Rattle.std.proofs.Common.{◌≡◌, ℕ, ◌<◌, ◌≤◌, Bool, true, false, ◌&&◌, List, [], ◌∷◌, ◌++◌, Option, Some, None, refl, ◌∙◌, arith, sym, subst, ltb-true, ltb-false}
+use Rattle.std.proofs.Common.{◌≡◌, ℕ, ◌<◌, ◌≤◌, Bool, true, false, List, [], ◌∷◌, ◌++◌, Option, Some, None, refl, ◌∙◌, arith, sym, subst, ltb-true, ltb-false}
 use Rattle.std.specs.Prelude.{flat_map, if◌then◌else◌, map, nat_lt}
 use Rattle.std.specs.List.{AllByRecursion}
 use Rattle.of10_match.specs.Fields.{HeaderOf, MatchOf}
 use Rattle.of10_match.specs.Matching.{holds, both}
 use Rattle.of10_match.specs.Normal.{IsNormal}
 use Rattle.of10_actions.specs.Rewriting.{no_rewrite}
-use Rattle.of10_actions.specs.declared.effects.Tail.TheVariants.{Nothing}
 use Rattle.policy_meaning.specs.Leaf.{has_port, is_inside, best_entry, higher, by_entry, leaf_meaning, outside}
 use Rattle.policy_meaning.specs.LeafRules.{entry_rule, miss_rule, outside_rule, cells, in_cells, has_outside, leaf_rules, rule_met}
 use Rattle.policy_meaning.specs.Best.{EachAt, Below, IsBest, first, later, IsUntouched, IsSound, Says}
@@ -21,7 +20,7 @@ use Rattle.policy_meaning.proofs.Meeting.{meet_there, some_met}
 use Rattle.of10_match.proofs.NormalMeet.{IsNormal-both}
 use Rattle.policy_meaning.proofs.Normality.{normal-everything}
 use Rattle.policy_meaning.proofs.Building.{extends-nothing}
-use Rattle.policy_meaning.proofs.Cells.{narrowed, IsOnly, cell-part, none-in_cells, best-in_cells, only-holds, normal-cells, outside-misses, inside-only, none-outside}
+use Rattle.policy_meaning.proofs.Cells.{narrowed, IsOnly, cell-part, none-in_cells, best-in_cells, normal-cells, outside-misses, inside-only, none-outside}
 
 module _ (h : HeaderOf) (t : LeafTable) where
   -- what the best of some entries says: none holds the header, or its rule is the best

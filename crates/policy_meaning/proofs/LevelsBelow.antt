@@ -1,17 +1,16 @@
 -- Levels of rules are below the sizes of what the rules are of.
-use Rattle.std.proofs.Common.{◌≡◌, ℕ, zero, suc, ◌+◌, ◌-◌, ◌*◌, ◌<◌, ◌≤◌, ◌^◌, Bool, true, false, List, [], ◌∷◌, ◌++◌, Option, Some, None, refl, subst, arith, length, get_or}
-use Rattle.std.specs.Prelude.{filter_map, flat_map, if◌then◌else◌, map, slice_get, All}
+use Rattle.std.proofs.Common.{◌≡◌, ℕ, zero, suc, ◌+◌, ◌*◌, ◌<◌, ◌≤◌, ◌^◌, Bool, true, false, List, [], ◌∷◌, Option, Some, None, refl, subst, arith}
+use Rattle.std.specs.Prelude.{filter_map, if◌then◌else◌, map, slice_get, All}
 use Rattle.std.specs.List.{AllByRecursion}
 use Rattle.std.proofs.lemmas.List.Elements.{All-from_recursion, recursion_from_All}
 use Rattle.std.proofs.Math.Nat.{mul-le-mul_left, mul-le-mul_right}
 use Rattle.of10_match.specs.Fields.{MatchOf}
-use Rattle.alg_priority.specs.Levels.{concat_level}
-use Rattle.alg_priority.specs.Sizes.{concat_size, shift_size, sum_size}
+use Rattle.alg_priority.specs.Sizes.{sum_size}
 use Rattle.policy_expr.specs.Policy.{Policy, member, parallel, sequential, override, policy_of}
 use Rattle.policy_meaning.specs.Best.{Below}
-use Rattle.policy_meaning.specs.Fitting.{IsFittingTable, SerialsFit, levels_of, RulesAreBelow, NodesAreBelow, SoundTablesFit}
-use Rattle.policy_meaning.specs.Hops.{at_node, hop_lone, hop_rule, hop_size, hopped, hops_on, leads, node, peers_size, without_port}
-use Rattle.policy_meaning.specs.LeafFact.{IsSoundEntry, IsSoundTable}
+use Rattle.policy_meaning.specs.Fitting.{IsFittingTable, levels_of, RulesAreBelow, NodesAreBelow, SoundTablesFit}
+use Rattle.policy_meaning.specs.Hops.{at_node, hop_rule, hop_size, hopped, hops_on, leads, node, peers_size, without_port}
+use Rattle.policy_meaning.specs.LeafFact.{IsSoundEntry}
 use Rattle.policy_meaning.specs.LeafRules.{at_port, cells, entry_rule, has_outside, in_cells, leaf_rules, miss_rule, outside_rule, rule_met}
 use Rattle.policy_meaning.specs.Networks.{fabric_of, ports_of, switch_rules, switch_size, table_rules, table_size}
 use Rattle.policy_meaning.specs.Rules.{rules_of}
@@ -26,7 +25,7 @@ use Rattle.policy_meaning.proofs.Chains.{high}
 use Rattle.policy_meaning.proofs.Lists.{all-append, all-each, all-filter_map, all-flat_map, all-map, all-mapped}
 use Rattle.policy_meaning.proofs.Meeting.{some_met, some_pulled}
 use Rattle.policy_meaning.proofs.Pairs.{each-chain, each-shift, each-sum}
-use Rattle.policy_meaning.proofs.Peers.{Leading, leading, peer-size, positive}
+use Rattle.policy_meaning.proofs.Peers.{leading, peer-size, positive}
 use Rattle.policy_meaning.proofs.Sums.{below-size}
 
 -- a narrowed rule keeps its level

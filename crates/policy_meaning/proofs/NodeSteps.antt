@@ -1,5 +1,5 @@
 -- What the code of nodes does, step by step.
-use Rattle.std.proofs.Common.{◌≡◌, ℕ, suc, ◌+◌, ◌-◌, ◌*◌, ◌<◌, ◌≤◌, ◌^◌, List, [], ◌∷◌, Option, Some, None, refl, subst, sym, ◌∙◌, arith, length, get_or}
+use Rattle.std.proofs.Common.{◌≡◌, ℕ, suc, ◌+◌, ◌*◌, ◌<◌, ◌≤◌, ◌^◌, List, [], ◌∷◌, Option, Some, None, refl, subst, sym, ◌∙◌, arith, length, get_or}
 use Rattle.std.specs.Prelude.{filter_map, flat_map, map, slice_get, All, IfSome, max}
 use Rattle.std.specs.List.{AllByRecursion}
 use Rattle.std.proofs.lemmas.List.Elements.{All-from_recursion}
@@ -23,7 +23,7 @@ use Rattle.policy_meaning.specs.declared.rule.Rule.{Rule}
 use Rattle.policy_meaning.proofs.Chains.{high}
 use Rattle.policy_meaning.proofs.LevelsBelow.{levels-positive, met-below, nodes_are_below, rules-below}
 use Rattle.policy_meaning.proofs.Lists.{all-filter_map}
-use Rattle.policy_meaning.proofs.Peers.{Leading, leading, peer-size, positive}
+use Rattle.policy_meaning.proofs.Peers.{leading, peer-size, positive}
 
 -- sizes that are computed of capped sizes
 module _ (tables : List LeafTable) (all : All IsFittingTable tables) (a b : Policy) (x y r : ℕ) (ex : x ≡ capped (levels_of tables a)) (ey : y ≡ capped (levels_of tables b)) where

@@ -1,27 +1,25 @@
 -- What the rules of a node say.
-use Rattle.std.proofs.Common.{◌≡◌, ℕ, zero, suc, ◌+◌, ◌*◌, ◌<◌, ◌≤◌, Bool, true, false, ◌&&◌, List, [], ◌∷◌, ◌++◌, Option, Some, None, refl, ap, ◌∙◌, arith, sym, subst, eq-eqb}
-use Rattle.std.specs.Prelude.{filter_map, if◌then◌else◌, map, ◌==◌, not}
+use Rattle.std.proofs.Common.{◌≡◌, ℕ, zero, suc, ◌*◌, ◌<◌, ◌≤◌, Bool, true, List, Option, Some, None, refl, ap, ◌∙◌, arith, sym, subst, eq-eqb}
+use Rattle.std.specs.Prelude.{filter_map}
 use Rattle.std.specs.List.{AllByRecursion}
 use Rattle.of10_match.specs.Fields.{HeaderOf, MatchOf}
-use Rattle.of10_match.specs.Matching.{holds, overlaps, both, fits, everything, agree, either}
+use Rattle.of10_match.specs.Matching.{holds, overlaps, both, fits, agree, either}
 use Rattle.of10_actions.specs.Fields.{RewriteOf}
 use Rattle.of10_actions.specs.Rewriting.{apply, can_pull, pulled, no_rewrite}
-use Rattle.of10_actions.specs.declared.effects.Out.{Out}
 use Rattle.of10_actions.specs.declared.effects.Tail.{Tail}
-use Rattle.of10_actions.specs.declared.effects.Tail.TheVariants.{Nothing, Pass, Link}
+use Rattle.of10_actions.specs.declared.effects.Tail.TheVariants.{Nothing, Link}
 use Rattle.alg_priority.specs.Levels.{concat_level}
 use Rattle.policy_meaning.specs.LeafRules.{rule_met, at_port}
-use Rattle.policy_meaning.specs.Hops.{Fabric, node, hop_size, peer_of, peers_size, outs_at, at_node, hop_lone, hopped, hop_rule, leads, hops_on, without_port, last_rule}
-use Rattle.policy_meaning.specs.Walk.{Ground, walk, what_follows, here, nowhere, both_walked, walked_after, arriving, takes}
-use Rattle.policy_meaning.specs.Best.{EachAt, Below, IsBest, first, IsSound, BuildUp, Says}
+use Rattle.policy_meaning.specs.Hops.{Fabric, node, hop_size, peers_size, outs_at, at_node, hop_lone, hopped, hop_rule, leads, hops_on, without_port, last_rule}
+use Rattle.policy_meaning.specs.Walk.{Ground, walk, here, nowhere, both_walked, walked_after, arriving, takes}
+use Rattle.policy_meaning.specs.Best.{EachAt, Below, IsBest, first, IsSound}
 use Rattle.policy_meaning.specs.HopFact.{AreThose, HopSays, IsSoundFabric, HopFact}
 use Rattle.policy_meaning.specs.declared.meaning.Meaning.{Meaning}
-use Rattle.policy_meaning.specs.declared.network.Place.{Place}
 use Rattle.policy_meaning.specs.declared.network.Onward.{Onward}
 use Rattle.policy_meaning.specs.declared.rule.Rule.{Rule}
 use Rattle.policy_meaning.specs.declared.walking.Walked.{Walked}
-use Rattle.policy_meaning.proofs.Booleans.{split_and, join_and, true_not_false}
-use Rattle.policy_meaning.proofs.Lists.{all-map, all-flat_map, all-filter_map}
+use Rattle.policy_meaning.proofs.Booleans.{split_and, join_and}
+use Rattle.policy_meaning.proofs.Lists.{all-flat_map, all-filter_map}
 use Rattle.policy_meaning.proofs.BestLemmas.{best_holds, best_most, best_each, at-filter_map, at-below, best-flat_map, best-filter_map}
 use Rattle.policy_meaning.proofs.Meeting.{meet_there, meet_holds, some_met, is_met, some_pulled, is_pulled}
 use Rattle.pull_back.proofs.PulledMatches.{holds-pulled}
@@ -29,9 +27,9 @@ use Rattle.of10_match.proofs.NormalMeet.{IsNormal-both}
 use Rattle.pull_back.proofs.Normality.{normal-guarded, normal-pulled}
 use Rattle.policy_meaning.proofs.Normality.{normal-everything, normal-at_port, normal-without_port}
 use Rattle.policy_meaning.proofs.Building.{Rises, rises, builds, rises-at, rises-then, rises-link, rises-ended}
-use Rattle.policy_meaning.proofs.Chains.{HasNormal, high}
+use Rattle.policy_meaning.proofs.Chains.{high}
 use Rattle.policy_meaning.proofs.Cells.{narrowed}
-use Rattle.policy_meaning.proofs.Peers.{positive, peer-size, Leading, leading}
+use Rattle.policy_meaning.proofs.Peers.{positive, peer-size, leading}
 use Rattle.policy_meaning.proofs.Walks.{those-here, those-after, those-both, those-ended}
 
 -- what is kept of the rules of the node of a port

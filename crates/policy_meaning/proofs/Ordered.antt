@@ -1,17 +1,15 @@
 -- The best rule in any order, and the order in which rules are listed.
-use Rattle.std.proofs.Common.{◌≡◌, ℕ, zero, suc, ◌+◌, ◌<◌, ◌≤◌, Bool, true, false, ◌&&◌, List, [], ◌∷◌, arith, ap, length, get_or, ltb-false, ltb-true, refl, subst, sym, ◌∙◌}
-use Rattle.std.specs.Prelude.{Contains, IsPermutation, if◌then◌else◌, nat_lt, not, sum_by}
+use Rattle.std.proofs.Common.{◌≡◌, ℕ, zero, suc, ◌<◌, ◌≤◌, Bool, true, false, List, [], ◌∷◌, arith, ap, length, get_or, ltb-false, ltb-true, refl, subst, sym, ◌∙◌}
+use Rattle.std.specs.Prelude.{Contains, nat_lt, sum_by}
 use Rattle.std.specs.Cmp.{IsStrictWeakOrder, IsTotalOrder}
-use Rattle.std.specs.Cmp.Lexicographic.{options_total, slice_cmp}
-use Rattle.std.specs.Option.{option_cmp}
-use Rattle.std.specs.Ordering.{is_lt, nat_cmp, on, then_cmp}
+use Rattle.std.specs.Cmp.Lexicographic.{options_total}
+use Rattle.std.specs.Ordering.{is_lt}
 use Rattle.std.proofs.lemmas.Cmp.{lists_total, nat_cmp_total, on_total, then_total}
 use Rattle.std.proofs.lemmas.List.Sorted.{Contains-permutation, ranks_by, sum_by-IsPermutation}
 use Rattle.std.proofs.lemmas.List.Sums.{sum_by-cons}
 use Rattle.cv_io.specs.declared.leaf.Leaf.{Leaf}
 use Rattle.of10_match.specs.Fields.{HeaderOf}
 use Rattle.of10_match.specs.Matching.{holds}
-use Rattle.of10_match.specs.Order.{by_bytes}
 use Rattle.of10_match.proofs.ByteOrder.{by_bytes_total}
 use Rattle.policy_meaning.specs.Best.{EachAt, Below, IsBest, first, later}
 use Rattle.policy_meaning.specs.Order.{by_ancestry, by_leaf, OrderKeepsBest}

@@ -1,8 +1,7 @@
 -- What holds of each rule that an operator makes.
-use Rattle.std.proofs.Common.{◌≡◌, ℕ, true, ◌&&◌, List, ◌++◌, Some, refl, subst, ◌∷◌, []}
+use Rattle.std.proofs.Common.{◌≡◌, ℕ, true, List, ◌++◌, refl, subst, ◌∷◌, []}
 use Rattle.std.specs.Prelude.{flat_map, if◌then◌else◌, Bool, false}
 use Rattle.std.specs.List.{AllByRecursion}
-use Rattle.of10_match.specs.Fields.{MatchOf}
 use Rattle.of10_match.specs.Matching.{overlaps, both}
 use Rattle.of10_actions.specs.Fields.{RewriteOf}
 use Rattle.of10_actions.specs.Rewriting.{pulled}

@@ -1,9 +1,8 @@
 -- Where links lead, and the greatest size there.
-use Rattle.std.proofs.Common.{◌≡◌, ℕ, ◌<◌, ◌≤◌, Bool, true, false, List, [], ◌∷◌, Option, Some, None, refl, ap, arith, subst}
-use Rattle.std.specs.Prelude.{if◌then◌else◌, map, max, ◌==◌, option_map}
+use Rattle.std.proofs.Common.{◌≡◌, ℕ, ◌<◌, ◌≤◌, Bool, true, false, List, [], ◌∷◌, Option, Some, None, refl, arith, subst}
+use Rattle.std.specs.Prelude.{if◌then◌else◌, max, ◌==◌, option_map}
 use Rattle.of10_actions.specs.Fields.{RewriteOf}
 use Rattle.of10_actions.specs.declared.effects.Tail.{Tail}
-use Rattle.of10_actions.specs.declared.effects.Tail.TheVariants as Tail
 use Rattle.policy_meaning.specs.Hops.{peer_of, peers_size, greatest, leads}
 use Rattle.policy_meaning.specs.declared.network.Place.{Place}
 use Rattle.policy_meaning.specs.declared.network.Link.{Link}

@@ -1,10 +1,7 @@
 -- The rules of a table whose entries set no field and have no tail.
-use Rattle.std.proofs.Common.{◌≡◌, ℕ, Bool, true, false, List, [], ◌∷◌, ◌++◌, refl, subst}
-use Rattle.std.specs.Prelude.{flat_map, if◌then◌else◌, map}
+use Rattle.std.proofs.Common.{◌≡◌, ℕ, Bool, true, false, List, [], ◌∷◌, refl, subst}
+use Rattle.std.specs.Prelude.{if◌then◌else◌, map}
 use Rattle.std.specs.List.{AllByRecursion}
-use Rattle.of10_match.specs.Fields.{MatchOf}
-use Rattle.of10_actions.specs.Rewriting.{no_rewrite}
-use Rattle.of10_actions.specs.declared.effects.Out.{Out}
 use Rattle.policy_meaning.specs.LeafRules.{entry_rule, miss_rule, outside_rule, cells, in_cells, has_outside, leaf_rules, rule_met}
 use Rattle.policy_meaning.specs.CentralFact.{ArePlain, IsPlainRule}
 use Rattle.policy_meaning.specs.declared.leaf.LeafEntry.{LeafEntry}

@@ -1,5 +1,5 @@
 -- What the rules of `a + b` say.
-use Rattle.std.proofs.Common.{◌≡◌, ℕ, suc, ◌+◌, ◌-◌, ◌<◌, Bool, true, false, ◌&&◌, ◌||◌, List, ◌++◌, Some, None, refl, ap, ◌∙◌, arith, sym, subst}
+use Rattle.std.proofs.Common.{◌≡◌, ℕ, suc, ◌+◌, ◌<◌, true, List, Some, ap, ◌∙◌, arith, sym}
 use Rattle.std.specs.Prelude.{flat_map}
 use Rattle.of10_match.specs.Fields.{HeaderOf}
 use Rattle.of10_match.specs.Matching.{holds, overlaps, both}

@@ -1,8 +1,8 @@
 -- From tables, levels, expressions and links to every node.
-use Rattle.std.specs.Prelude.{◌≡◌, ℕ, Bool, true, false, Option, Some, None, List, [], ◌∷◌, slice_get}
+use Rattle.std.specs.Prelude.{◌≡◌, ℕ, true, false, Option, Some, None, List, slice_get}
 use Rattle.std.specs.List.{AllByRecursion}
 use Rattle.of10_match.specs.Fields.{HeaderOf}
-use Rattle.policy_expr.specs.Policy.{Policy, policy_of}
+use Rattle.policy_expr.specs.Policy.{policy_of}
 use Rattle.policy_meaning.specs.LeafFact.{IsSoundTable}
 use Rattle.policy_meaning.specs.CentralFact.{ArePlain, EachMember, EachLeft}
 use Rattle.policy_meaning.specs.Networks.{fabric_of, ground_of, enters, switch_has, switch_spread, switch_links}

@@ -1,5 +1,5 @@
 -- The rules of the ports of virtual switches that are joined by links, for so many hops.
-use Rattle.std.specs.Prelude.{ℕ, zero, suc, Bool, true, ◌==◌, ◌&&◌, ◌*◌, max, Option, Some, None, List, [], ◌∷◌, ◌++◌, if◌then◌else◌, map, filter_map, flat_map, option_map}
+use Rattle.std.specs.Prelude.{ℕ, zero, suc, true, ◌==◌, ◌&&◌, ◌*◌, max, Option, Some, None, List, [], ◌∷◌, ◌++◌, if◌then◌else◌, map, filter_map, flat_map, option_map}
 use Rattle.std.specs.Option.{option_and_then}
 use Rattle.of10_match.specs.Fields.{MatchOf}
 use Rattle.of10_match.specs.Matching.{meet, everything}
@@ -9,7 +9,6 @@ use Rattle.of10_actions.specs.declared.effects.Out.{Out}
 use Rattle.of10_actions.specs.declared.effects.Dest.{Dest}
 use Rattle.of10_actions.specs.declared.effects.Dest.TheVariants.{Port, Flood, Ingress, Tell}
 use Rattle.of10_actions.specs.declared.effects.Tail.{Tail}
-use Rattle.of10_actions.specs.declared.effects.Tail.TheVariants as Tail
 use Rattle.alg_priority.specs.Levels.{concat_level}
 use Rattle.policy_meaning.specs.Meaning.{out_after}
 use Rattle.policy_meaning.specs.LeafRules.{at_port, rule_met}

@@ -1,5 +1,5 @@
 -- A network's tables, expressions and links, as evaluation, rules and walks read them.
-use Rattle.std.specs.Prelude.{ℕ, Bool, true, false, ◌&&◌, Option, Some, None, List, [], ◌∷◌, ◌++◌, if◌then◌else◌, map, slice_get}
+use Rattle.std.specs.Prelude.{ℕ, Bool, false, ◌&&◌, Option, Some, None, List, [], ◌∷◌, ◌++◌, if◌then◌else◌, map, slice_get}
 use Rattle.of10_match.specs.Fields.{HeaderOf}
 use Rattle.policy_expr.specs.Policy.{policy_of}
 use Rattle.policy_expr.specs.Sizes.{size_of}

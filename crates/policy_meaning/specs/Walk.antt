@@ -1,5 +1,5 @@
 -- The way of a packet over virtual switches, by what their expressions do.
-use Rattle.std.specs.Prelude.{ℕ, zero, suc, Bool, true, false, ◌==◌, ◌&&◌, not, Option, Some, None, List, [], ◌∷◌, ◌++◌, if◌then◌else◌, map, filter_map}
+use Rattle.std.specs.Prelude.{ℕ, zero, suc, Bool, ◌==◌, ◌&&◌, not, Option, Some, None, List, [], ◌++◌, if◌then◌else◌, map, filter_map}
 use Rattle.of10_match.specs.Fields.{HeaderOf}
 use Rattle.of10_actions.specs.Fields.{RewriteOf}
 use Rattle.of10_actions.specs.Rewriting.{apply, and_then}

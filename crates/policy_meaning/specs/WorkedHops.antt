@@ -1,12 +1,9 @@
 -- Virtual switches that split one physical switch, and walks, computed.
-use Rattle.std.specs.Prelude.{◌≡◌, ℕ, Bool, true, false, Some, None, List, [], ◌∷◌, map, if◌then◌else◌, slice_get}
+use Rattle.std.specs.Prelude.{◌≡◌, ℕ, Bool, true, false, List, [], ◌∷◌, map, if◌then◌else◌, slice_get}
 use Rattle.of10_match.specs.Matching.{everything}
 use Rattle.of10_actions.specs.Rewriting.{no_rewrite}
-use Rattle.of10_actions.specs.declared.effects.Out.{Out}
 use Rattle.of10_actions.specs.declared.effects.Tail.{Tail}
-use Rattle.of10_actions.specs.declared.effects.Tail.TheVariants as Tail
 use Rattle.policy_expr.specs.Policy.{member, parallel, sequential}
-use Rattle.policy_expr.specs.declared.expr.Expr.{Expr}
 use Rattle.policy_expr.specs.declared.expr.Expr.TheVariants.{Member}
 use Rattle.policy_meaning.specs.Meaning.{evaluate}
 use Rattle.policy_meaning.specs.Hops.{node, hop_size}
@@ -17,9 +14,7 @@ use Rattle.policy_meaning.specs.WorkedRules.{at_level, placed}
 use Rattle.policy_meaning.specs.declared.leaf.LeafEntry.{LeafEntry}
 use Rattle.policy_meaning.specs.declared.leaf.LeafTable.{LeafTable}
 use Rattle.policy_meaning.specs.declared.network.Link.{Link}
-use Rattle.policy_meaning.specs.declared.network.VirtualSwitch.{VirtualSwitch}
 use Rattle.policy_meaning.specs.declared.network.Network.{Network}
-use Rattle.policy_meaning.specs.declared.rule.Rule.{Rule}
 
 -- a table of `size` levels that sees its ports and links, and is not told of misses
 abbrev pub hop_table : ℕ → ℕ → List ℕ → List LeafEntry → LeafTable

@@ -65,16 +65,32 @@ fn both(alloc: Global) -> Result<(Box<Expr>, Box<Expr>), Fail> {
 fn monitor_and_router(rt: HostRuntime) -> Result<(), Fail> {
     let alloc = rt.alloc();
     let monitor = single(alloc, 0, false, from_net(), None, Tail::Nothing)?;
-    let mut router = single(alloc, 1, true, to_address(0x0a00_0208), Some(2), Tail::Nothing)?;
+    let mut router = single(
+        alloc,
+        1,
+        true,
+        to_address(0x0a00_0208),
+        Some(2),
+        Tail::Nothing,
+    )?;
     let to_nine = Dest::Port { v: 0, port: 2 };
-    let mut second = entry(alloc, 2, to_address(0x0a00_0209), Some(to_nine), Tail::Nothing)?;
+    let mut second = entry(
+        alloc,
+        2,
+        to_address(0x0a00_0209),
+        Some(to_nine),
+        Tail::Nothing,
+    )?;
     second.level = 6;
     router.entries.push(second)?;
     let (left, right) = both(alloc)?;
     let tables = members(alloc, monitor, router)?;
     let sum = composed(&rt, alloc, &tables, &Expr::Par { left, right })?;
     assert_eq!(rt; sum.size, 15);
-    assert_eq!(rt; levels(alloc, &sum.rules)?.as_slice(), [2, 5, 7, 5, 8, 10].as_slice());
+    assert_eq!(rt;
+        levels(alloc, &sum.rules)?.as_slice(),
+        [2, 5, 7, 5, 8, 10].as_slice()
+    );
     Ok(())
 }
 
@@ -83,12 +99,22 @@ fn balancer_before_router(rt: HostRuntime) -> Result<(), Fail> {
     let alloc = rt.alloc();
     let to_virtual = to_address(0x0102_0304);
     let balancer = single(alloc, 0, false, to_virtual, None, Tail::Pass(to_server()))?;
-    let router = single(alloc, 1, true, to_address(0x0200_0001), Some(1), Tail::Nothing)?;
+    let router = single(
+        alloc,
+        1,
+        true,
+        to_address(0x0200_0001),
+        Some(1),
+        Tail::Nothing,
+    )?;
     let (left, right) = both(alloc)?;
     let tables = members(alloc, balancer, router)?;
     let chain = composed(&rt, alloc, &tables, &Expr::Seq { left, right })?;
     assert_eq!(rt; chain.size, 64);
-    assert_eq!(rt; levels(alloc, &chain.rules)?.as_slice(), [8, 33, 36].as_slice());
+    assert_eq!(rt;
+        levels(alloc, &chain.rules)?.as_slice(),
+        [8, 33, 36].as_slice()
+    );
     let last = chain.rules.get(2).ok_or("no third rule")?;
     assert_eq!(rt; last.m, to_virtual);
     let out = Out {
@@ -105,12 +131,22 @@ fn balancer_before_router(rt: HostRuntime) -> Result<(), Fail> {
 fn firewall_over_router(rt: HostRuntime) -> Result<(), Fail> {
     let alloc = rt.alloc();
     let firewall = single(alloc, 0, true, from_net(), Some(2), Tail::Nothing)?;
-    let router = single(alloc, 1, true, to_address(0x0200_0001), Some(1), Tail::Nothing)?;
+    let router = single(
+        alloc,
+        1,
+        true,
+        to_address(0x0200_0001),
+        Some(1),
+        Tail::Nothing,
+    )?;
     let (left, right) = both(alloc)?;
     let tables = members(alloc, firewall, router)?;
     let over = composed(&rt, alloc, &tables, &Expr::Over { left, right })?;
     assert_eq!(rt; over.size, 16);
-    assert_eq!(rt; levels(alloc, &over.rules)?.as_slice(), [12, 1, 4].as_slice());
+    assert_eq!(rt;
+        levels(alloc, &over.rules)?.as_slice(),
+        [12, 1, 4].as_slice()
+    );
     Ok(())
 }
 

@@ -1,7 +1,5 @@
-use Rattle.std.proofs.Common.{◌≡◌, IfOk, slice_get, subst, sym, ◌∙◌, ℕ}
-use Rattle.of10_actions.specs.Fields.{RewriteOf}
+use Rattle.std.proofs.Common.{◌≡◌, IfOk, slice_get, subst}
 use Rattle.policy_expr.specs.Policy.{policy_of}
-use Rattle.policy_meaning.specs.Meaning.{evaluate as evaluate_of}
 use Rattle.policy_meaning.specs.Networks.{table_meaning as table_meaning_of}
 use Rattle.policy_meaning.specs.declared.meaning.Meaning.{Meaning}
 use Rattle.policy_meaning.proofs.Evaluating.{chain-evaluated, shift-evaluated}

@@ -1,10 +1,9 @@
-use Rattle.std.proofs.Common.{◌≡◌, ◌-◌, ◌<◌, ◌≤◌, ◌^◌, List, Some, arith, ap, length, rules, subst, suc, sym, ◌∙◌, take}
-use Rattle.std.specs.Prelude.{IfSome, filter_map, flat_map}
+use Rattle.std.proofs.Common.{◌≡◌, ◌-◌, ◌≤◌, List, arith, ap, length, rules, suc, sym, ◌∙◌}
+use Rattle.std.specs.Prelude.{filter_map, flat_map}
 use Rattle.std.proofs.lemmas.List.{take_all}
 use Rattle.policy_meaning.specs.Hops.{at_node, hop_size, hops_on, leads, node}
 use Rattle.policy_meaning.specs.LeafRules.{at_port, rule_met}
 use Rattle.policy_meaning.specs.Networks.{fabric_of}
-use Rattle.policy_meaning.specs.declared.network.Onward.{Onward}
 use Rattle.policy_meaning.specs.declared.rule.Rule.{Rule}
 use Rattle.policy_meaning.proofs.NodeSteps.{node-on, own-fits, pairs-fit, peer-fits, room-fits}
 use Rattle.policy_meaning.proofs.fabric.+nodes.Goals as goal

@@ -1,6 +1,6 @@
 use Rattle.std.proofs.Common.{◌≡◌, ◌+◌, ◌-◌, ◌*◌, take}
 use Rattle.std.specs.Prelude.{flat_map}
-use Rattle.policy_meaning.specs.Hops.{at_node, hop_size, hops_on, leads, node, peers_size}
+use Rattle.policy_meaning.specs.Hops.{at_node, hops_on, leads, node}
 use Rattle.policy_meaning.specs.Networks.{fabric_of}
 use Rattle.policy_meaning.specs.declared.rule.Rule.{Rule}
 use Rattle.policy_meaning.proofs.fabric.+nodes.Given as goal

@@ -1,4 +1,4 @@
-use Rattle.std.proofs.Common.{◌<◌, length, []}
+use Rattle.std.proofs.Common.{[]}
 use Rattle.of10_actions.specs.declared.effects.Out.{Out}
 use Rattle.policy_meaning.specs.Hops.{out_at as out_at_of}
 use Rattle.policy_meaning.proofs.Steps.{pushed_some}

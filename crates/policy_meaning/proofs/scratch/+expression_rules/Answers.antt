@@ -1,5 +1,5 @@
 use Rattle.std.proofs.Common.{rules, ◌≡◌, ◌<◌, ◌^◌, arith, refl, subst, sym}
-use Rattle.policy_expr.specs.Policy.{Policy, policy_of, parallel, sequential}
+use Rattle.policy_expr.specs.Policy.{policy_of, parallel, sequential}
 use Rattle.policy_meaning.specs.Fitting.{AreBelow, levels_of}
 use Rattle.policy_meaning.specs.declared.scratch.Composed.{Composed}
 use Rattle.policy_meaning.proofs.LevelsBelow.{operators, parallel-parts, sequential-parts, rules_are_below}

@@ -1,7 +1,7 @@
-use Rattle.std.proofs.Common.{◌≡◌, suc, ◌-◌, IfOk, ap, subst, sym, ◌∙◌, arith, slice_get, true, Some}
+use Rattle.std.proofs.Common.{◌≡◌, suc, ◌-◌, IfOk, ap, subst, sym, ◌∙◌, arith, Some}
 use Rattle.of10_match.specs.Fields.{HeaderOf}
 use Rattle.policy_meaning.specs.Hops.{leads as leads_of}
-use Rattle.policy_meaning.specs.Walk.{here as here_of, walk as walk_of, takes as takes_of, arriving as arriving_of}
+use Rattle.policy_meaning.specs.Walk.{here as here_of, walk as walk_of, arriving as arriving_of}
 use Rattle.policy_meaning.specs.Networks.{ground_of}
 use Rattle.policy_meaning.specs.declared.walking.Walked.{Walked}
 use Rattle.policy_meaning.proofs.Stepping.{walk-on}

@@ -1,4 +1,4 @@
-use Rattle.std.proofs.Common.{◌<◌, length, []}
+use Rattle.std.proofs.Common.{[]}
 use Rattle.of10_actions.specs.declared.effects.Out.{Out}
 use Rattle.policy_meaning.specs.Walk.{port_out as port_out_of}
 use Rattle.policy_meaning.proofs.Steps.{pushed_some}

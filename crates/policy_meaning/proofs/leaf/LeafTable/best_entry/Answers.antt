@@ -1,6 +1,5 @@
-use Rattle.std.proofs.Common.{◌≡◌, ◌<◌, length, ap, ◌∙◌, None, Some}
+use Rattle.std.proofs.Common.{◌<◌, length, ap, ◌∙◌, Some}
 use Rattle.std.specs.Option.{option_copied}
-use Rattle.policy_meaning.specs.Leaf.{best_entry as best_entry_of}
 use Rattle.policy_meaning.proofs.Entries.{reads-higher, reads-first, reads-other}
 use Rattle.policy_meaning.proofs.leaf.LeafTable.best_entry.Goals as goal
 use Rattle.policy_meaning.proofs.leaf.LeafTable.best_entry.Goals.{then-holds, in-Some, in-None, else-holds}
