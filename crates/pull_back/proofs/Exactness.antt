@@ -1,19 +1,18 @@
 -- What pulls and images hold.
 use Rattle.std.proofs.Common.{◌≡◌, ℕ, ◌<◌, ◌^◌, ◌%◌, Bool, true, false, ◌&&◌, Option, Some, None, refl, ◌∙◌, sym, ap, subst, arith, rules}
-use Rattle.std.specs.Prelude.{IfSome, IsSome, IsTrue, ◌↔◌, is_some, if◌then◌else◌}
+use Rattle.std.specs.Prelude.{IfSome, IsSome, ◌↔◌, if◌then◌else◌}
 use Rattle.std.proofs.Math.Bool.{and-true}
 use Rattle.std.proofs.lemmas.Bool.{false≢true}
 use Rattle.of10_match.specs.Fields.{HeaderOf, MatchOf}
-use Rattle.of10_match.specs.Matching.{holds, overlaps}
+use Rattle.of10_match.specs.Matching.{holds}
 use Rattle.of10_match.specs.Normal.{IsNormal}
 use Rattle.of10_match.specs.Ranges.{IsMatch, IsPrefix, IsTos}
-use Rattle.of10_match.specs.Sets.{Overlap}
 use Rattle.of10_match.proofs.MeetSelf.{overlaps_self}
 use Rattle.of10_match.proofs.Overlapping.{overlaps_exact}
 use Rattle.of10_match.proofs.Twelve.{and-false}
 use Rattle.of10_actions.specs.Fields.{RewriteOf}
-use Rattle.of10_actions.specs.Rewriting.{apply, can_pull, pulled, pull, unset, set_in, whole, sets_nw, sets_tp, image}
-use Rattle.pull_back.specs.Pulls.{IsPullBack, Reaches, IsImage, PullIsExact, ImageHolds}
+use Rattle.of10_actions.specs.Rewriting.{apply, can_pull, pulled, pull, unset, set_in, whole}
+use Rattle.pull_back.specs.Pulls.{IsPullBack, Reaches, PullIsExact, ImageHolds}
 use Rattle.pull_back.proofs.PulledMatches.{holds-pulled, holds-image}
 use Rattle.pull_back.proofs.Normality.{normal-guarded, normal-pulled}
 

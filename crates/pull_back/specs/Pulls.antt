@@ -1,5 +1,5 @@
 -- What pulls and images hold.
-use Rattle.std.specs.Prelude.{◌≡◌, Bool, true, false, ◌&&◌, IsTrue, Option, Some, None}
+use Rattle.std.specs.Prelude.{◌≡◌, true, false, ◌&&◌, IsTrue, Option, Some, None}
 use Rattle.of10_match.specs.Fields.{HeaderOf, MatchOf}
 use Rattle.of10_match.specs.Matching.{holds}
 use Rattle.of10_match.specs.Normal.{IsNormal}
