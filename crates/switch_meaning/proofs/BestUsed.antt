@@ -8,11 +8,13 @@ use Rattle.of10_match.specs.Matching.{holds}
 use Rattle.switch_meaning.specs.BestLaw.{BestIsUsed, IsBest, IsBestEntry, IsGated, first, later}
 use Rattle.switch_meaning.specs.Keys.{ancestry_cmp, displaces, flow_of, one_per_key, same_key}
 use Rattle.switch_meaning.specs.MayUse.{IsIn, IsTop, IsUsable, MayUse, here, there, is_exact, priority_of, rank_of}
-use Rattle.switch_meaning.specs.Same.{same_match}
+use Rattle.of10_match.specs.Same.{same_match}
 use Rattle.switch_meaning.specs.declared.entry.FlowEntry.{FlowEntry}
 use Rattle.switch_meaning.specs.declared.entry.PhysEntry.{PhysEntry}
-use Rattle.switch_meaning.proofs.Equal.{ancestry_cmp-self, match_decides}
-use Rattle.switch_meaning.proofs.Items.{all-filter, fails, split_and}
+use Rattle.of10_match.proofs.Same.{match_decides}
+use Rattle.switch_meaning.proofs.Equal.{ancestry_cmp-self}
+use Rattle.switch_meaning.proofs.Items.{all-filter, all-in-map, fails, split_and}
+use Rattle.switch_meaning.proofs.Members.{in-all}
 
 -- the best item passes the test
 pub best-passes : {A : Type 0} {passes : A → Bool} {by : A → ℕ} {xs : List A} {x : A} → IsBest passes by xs x → passes x ≡ true
@@ -31,10 +33,6 @@ first-kept passes by false x xs e p a = cc
 pub best-filter : {A : Type 0} (passes keeps : A → Bool) (by : A → ℕ) {xs : List A} {x : A} → keeps x ≡ true → IsBest passes by xs x → IsBest passes by (filter keeps xs) x
 best-filter passes keeps by k (first {x = x} {xs = xs} p a) = first-kept passes by (keeps x) x (filter keeps xs) k p (all-filter _ keeps xs a)
 best-filter passes keeps by k (later {x = x} {y = y} {xs = xs} lt b) = best-kept passes keeps by (keeps y) x y (filter keeps xs) lt (best-filter passes keeps by k b)
-
-all-in-map : {A B : Type 0} (P : B → Type 0) (f : A → B) (xs : List A) → AllByRecursion (λ (x : A). P (f x)) xs → AllByRecursion P (map f xs)
-all-in-map P f [] a = tt
-all-in-map P f (x ∷ xs) a = (a.0, all-in-map P f xs a.1)
 
 -- items that are seen through a function
 best-map : {A B : Type 0} (passes : B → Bool) (by : B → ℕ) (f : A → B) {xs : List A} {x : A} → IsBest (λ (z : A). passes (f z)) (λ (z : A). by (f z)) xs x → IsBest passes by (map f xs) (f x)
@@ -83,10 +81,6 @@ module _ (h : HeaderOf) where
       best-map (λ (e : FlowEntry). holds e.m h) priority_of flow_of
       (best-filter (λ (d : PhysEntry). holds d.m h) (λ (e : PhysEntry). not (list_any (λ (d : PhysEntry). displaces d e) es)) (λ (d : PhysEntry). d.priority) (ap not (best-stays best)) best)
 
-  all-at : (P : FlowEntry → Type 0) {e : FlowEntry} {es : List FlowEntry} → IsIn e es → AllByRecursion P es → P e
-  all-at P here all = all.0
-  all-at P (there i) all = all-at P i all.1
-
   abbrev IsBestFlow : List FlowEntry → FlowEntry → Type 0
   IsBestFlow table b = IsBest (λ (e : FlowEntry). holds e.m h) priority_of table b
 
@@ -98,7 +92,7 @@ module _ (h : HeaderOf) where
   in-best : {e : FlowEntry} {table : List FlowEntry} {b : FlowEntry} → IsIn e table → IsBestFlow table b → holds e.m h ≡ true → (e ≡ b) ⊎ (e.priority < b.priority)
   in-best here (first p a) q = inl refl
   in-best here (later lt b) q = inr (lt q)
-  in-best (there i) (first {x = x} p a) q = inr (all-at (λ (d : FlowEntry). holds d.m h ≡ true → d.priority < x.priority) i a q)
+  in-best (there i) (first {x = x} p a) q = inr (in-all (λ (d : FlowEntry). holds d.m h ≡ true → d.priority < x.priority) i a q)
   in-best (there i) (later lt b) q = in-best i b q
 
   -- what is known of each entry of the table, where the best has this priority
@@ -128,7 +122,7 @@ module _ (h : HeaderOf) where
 
   best-used : {table : List FlowEntry} {b : FlowEntry} → IsBestFlow table b → AllByRecursion (Gated b.priority) table → (used : Option FlowEntry) → MayUse table h used → used ≡ Some b
   best-used best g None none = let p = best-passes best in let q = best-at (λ (d : FlowEntry). holds d.m h ≡ false) best none in cc
-  best-used {b = b} best g (Some e) u = same-used best (all-at (Gated b.priority) u.stands g) u (in-best u.stands best u.holds_it)
+  best-used {b = b} best g (Some e) u = same-used best (in-all (Gated b.priority) u.stands g) u (in-best u.stands best u.holds_it)
 
 -- the law
 pub best-is-used : BestIsUsed

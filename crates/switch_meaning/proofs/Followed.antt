@@ -1,11 +1,12 @@
 -- Steps of following a packet.
-use Rattle.std.proofs.Common.{◌≡◌, ◌≢◌, ℕ, suc, ◌+◌, ◌-◌, ◌<◌, ◌≤◌, List, ◌∷◌, Some, length, get_or, drop, All, ap, sym, ◌∙◌, append_assoc, add-one, arith}
+use Rattle.std.proofs.Common.{◌≡◌, ◌≢◌, ℕ, suc, ◌+◌, ◌-◌, ◌<◌, ◌≤◌, List, ◌∷◌, Some, length, get_or, drop, ap, sym, ◌∙◌, append_assoc, add-one, arith}
 use Rattle.std.proofs.lemmas.List.{append-nil, at_drop_more, at_drop_all}
+use Rattle.std.proofs.lemmas.List.Elements.{recursion_from_All}
 use Rattle.of10_match.specs.Fields.{HeaderOf}
 use Rattle.of10_actions.specs.Actions.{AreInRange}
 use Rattle.switch_meaning.specs.Firing.{fire_entry}
 use Rattle.switch_meaning.specs.Following.{Choice, all_go, both_seen, copies_at, fires_on, follow, goes_out, unseen}
-use Rattle.switch_meaning.specs.MayUse.{IsIn, MayUse, here, there}
+use Rattle.switch_meaning.specs.MayUse.{MayUse}
 use Rattle.switch_meaning.specs.Tables.{IsTableInRange}
 use Rattle.switch_meaning.specs.Wirings.{far_end}
 use Rattle.switch_meaning.specs.declared.entry.FlowEntry.{FlowEntry}
@@ -13,6 +14,7 @@ use Rattle.switch_meaning.specs.declared.fired.Fired.{Fired}
 use Rattle.switch_meaning.specs.declared.fired.Seen.{Seen}
 use Rattle.switch_meaning.specs.declared.fired.Sent.{Sent}
 use Rattle.switch_meaning.specs.declared.wiring.Wiring.{Wiring}
+use Rattle.switch_meaning.proofs.Members.{in-all}
 
 pub both_seen-groups : (a b c : Seen) → both_seen (both_seen a b) c ≡ both_seen a (both_seen b c)
 both_seen-groups a b c = λ i. record { outs = (append_assoc a.outs b.outs c.outs) i; copies = (append_assoc a.copies b.copies c.copies) i }
@@ -53,10 +55,6 @@ taken_up w choice turns way switch h old copied seen fired outs sent ne is made 
     ∙ (ap (λ (f : Fired). both_seen old (fires_on w (follow w choice (turns - 1)) way switch f)) is
     ∙ ap (λ (n : ℕ). both_seen old (follow w choice n way switch h)) (sym (turn turns ne))))))
 
-all-in : (P : FlowEntry → Type 0) {e : FlowEntry} {table : List FlowEntry} → IsIn e table → All P table → P e
-all-in P {e = e} here all = all 0 e (omega arith)
-all-in P (there i) all = all-in P i (λ k d lt. all (suc k) d (omega arith))
-
 -- the actions of an entry that a switch may use
 pub used-in_range : (table : List FlowEntry) (h : HeaderOf) (e : FlowEntry) → IsTableInRange table → MayUse table h (Some e) → AreInRange e.actions
-used-in_range table h e in_range may = all-in (λ (e : FlowEntry). AreInRange e.actions) may.stands in_range
+used-in_range table h e in_range may = in-all (λ (e : FlowEntry). AreInRange e.actions) may.stands (recursion_from_All (λ (e : FlowEntry). AreInRange e.actions) table in_range)

@@ -91,7 +91,7 @@ filter-passes : {A : Type 0} (keeps : A → Bool) (xs : List A) → AllByRecursi
 filter-passes keeps [] = tt
 filter-passes keeps (x ∷ xs) = kept-passes keeps (keeps x) x (filter keeps xs) refl (filter-passes keeps xs)
 
-not_true : (b : Bool) → not b ≡ true → b ≡ false
+pub not_true : (b : Bool) → not b ≡ true → b ≡ false
 not_true true e = cc
 not_true false e = refl
 

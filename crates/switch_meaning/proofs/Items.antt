@@ -1,6 +1,6 @@
 -- Items of lists and options, and tests of them.
 use Rattle.std.proofs.Common.{◌≡◌, ◌≢◌, ℕ, Bool, true, false, ◌&&◌, ◌||◌, Option, Some, None, List, [], ◌∷◌, refl, ap, ◌∙◌, eqb-true}
-use Rattle.std.specs.Prelude.{◌==◌, if◌then◌else◌, filter, filter_map, option_map}
+use Rattle.std.specs.Prelude.{◌==◌, if◌then◌else◌, filter, filter_map, map, option_map}
 use Rattle.std.specs.List.{AllByRecursion, cons_option, list_any}
 
 pub some_injective : {A : Type 0} {x y : A} → Some x ≡ Some y → x ≡ y
@@ -35,6 +35,11 @@ apart a b n = fails (a == b) (λ e. n (eqb-true a b e))
 pub all-map : {A : Type 0} (P Q : A → Type 0) (xs : List A) → ((x : A) → P x → Q x) → AllByRecursion P xs → AllByRecursion Q xs
 all-map P Q [] f a = tt
 all-map P Q (x ∷ xs) f a = (f x a.0, all-map P Q xs f a.1)
+
+-- what holds of each item after a map
+pub all-in-map : {A B : Type 0} (P : B → Type 0) (f : A → B) (xs : List A) → AllByRecursion (λ (x : A). P (f x)) xs → AllByRecursion P (map f xs)
+all-in-map P f [] a = tt
+all-in-map P f (x ∷ xs) a = (a.0, all-in-map P f xs a.1)
 
 one_more : {A : Type 0} (P : A → Type 0) (b : Bool) (x : A) (xs : List A) → P x → AllByRecursion P xs → AllByRecursion P (if b then x ∷ xs else xs)
 one_more P true x xs p a = (p, a)

@@ -8,3 +8,8 @@ pub mod Gate
 pub mod Highest
 pub mod Followed
 pub mod Writing
+pub mod Alike
+pub mod Members
+pub mod Sorting
+pub mod Batched
+pub mod ByKey

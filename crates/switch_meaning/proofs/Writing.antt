@@ -1,7 +1,7 @@
 -- Steps of writing a list of actions.
 use Rattle.std.proofs.Common.{◌≡◌, ℕ, ◌+◌, ◌<◌, List, [], ◌∷◌, ◌++◌, Option, Some, None, length, get_or, drop, refl, ap, sym, ◌∙◌, append_assoc}
-use Rattle.std.specs.Prelude.{option_map, MatchOption, IsSomeAnd, filter, if◌then◌else◌, Bool, true, false}
-use Rattle.std.proofs.lemmas.List.{at_drop_more}
+use Rattle.std.specs.Prelude.{option_map, MatchOption, IsSomeAnd, filter, map, if◌then◌else◌, Bool, true, false}
+use Rattle.std.proofs.lemmas.List.{at_drop_more, get_or_default}
 use Rattle.of10_actions.specs.declared.action.Action.{Action}
 use Rattle.of10_actions.specs.Fields.{RewriteOf}
 use Rattle.of10_actions.specs.declared.effects.Out.{Out}
@@ -39,14 +39,33 @@ out_more w switch ingress outs i out old new all now now' tag tag' lt is added e
     ∙ (ap (λ xs. old ++ xs) (sym (at_drop_more (actions_from w switch ingress now tag) outs i out lt
     ∙ (λ j. actions_from w switch ingress now tag ((sym is) j ∷ drop (i + 1) outs)))) ∙ e)
 
-one_kept : {A : Type 0} (b : Bool) (y : A) (ys : List A) → (if b then y ∷ [] else []) ++ ys ≡ (if b then y ∷ ys else ys)
-one_kept true y ys = refl
-one_kept false y ys = refl
+-- what is gathered item by item, with one item more
+pub gathered_more : {A B : Type 0} (f : List A → List B) → ((x : A) (xs : List A) → f (x ∷ xs) ≡ f (x ∷ []) ++ f xs) → (xs : List A) (i : ℕ) (x : A) (old new all : List B) →
+    i < length xs → x ≡ get_or xs i x → new ≡ old ++ f (x ∷ []) → old ++ f (drop i xs) ≡ all → new ++ f (drop (i + 1) xs) ≡ all
+gathered_more f splits xs i x old new all lt is added e =
+    let rest = drop (i + 1) xs in
+    ap (λ ys. ys ++ f rest) added ∙ (append_assoc old (f (x ∷ [])) (f rest)
+    ∙ (ap (λ ys. old ++ ys) (sym (at_drop_more f xs i x lt ∙ ((λ j. f ((sym is) j ∷ rest)) ∙ splits x rest))) ∙ e))
+
+one_kept : {A B : Type 0} (f : A → B) (b : Bool) (x : A) (xs : List A) → map f (if b then x ∷ xs else xs) ≡ map f (if b then x ∷ [] else []) ++ map f xs
+one_kept f true x xs = refl
+one_kept f false x xs = refl
+
+same_kept : {A : Type 0} (b : Bool) (x : A) (xs : List A) → (if b then x ∷ xs else xs) ≡ (if b then x ∷ [] else []) ++ xs
+same_kept true x xs = refl
+same_kept false x xs = refl
 
 -- one item more is kept, if it passes
 pub kept_more : {A : Type 0} (p : A → Bool) (xs : List A) (i : ℕ) (x : A) (old new all : List A) → i < length xs → x ≡ get_or xs i x →
     new ≡ old ++ (if p x then x ∷ [] else []) → old ++ filter p (drop i xs) ≡ all → new ++ filter p (drop (i + 1) xs) ≡ all
-kept_more p xs i x old new all lt is added e =
-    let rest = filter p (drop (i + 1) xs) in
-    ap (λ ys. ys ++ rest) added ∙ (append_assoc old (if p x then x ∷ [] else []) rest
-    ∙ (ap (λ ys. old ++ ys) (one_kept (p x) x rest ∙ sym (at_drop_more (filter p) xs i x lt ∙ (λ j. filter p ((sym is) j ∷ drop (i + 1) xs)))) ∙ e))
+kept_more p = gathered_more (filter p) (λ x xs. same_kept (p x) x (filter p xs))
+
+-- what is made of one item more, if it passes
+made_more : {A B : Type 0} (f : A → B) (p : A → Bool) (xs : List A) (i : ℕ) (x : A) (old new all : List B) → i < length xs → x ≡ get_or xs i x →
+    new ≡ old ++ map f (filter p (x ∷ [])) → old ++ map f (filter p (drop i xs)) ≡ all → new ++ map f (filter p (drop (i + 1) xs)) ≡ all
+made_more f p = gathered_more (λ xs. map f (filter p xs)) (λ x xs. one_kept f (p x) x (filter p xs))
+
+-- the same, of the item at a place
+pub made_at : {A B : Type 0} (f : A → B) (p : A → Bool) (xs : List A) (i : ℕ) (d : A) (old new all : List B) → i < length xs →
+    new ≡ old ++ map f (filter p (get_or xs i d ∷ [])) → old ++ map f (filter p (drop i xs)) ≡ all → new ++ map f (filter p (drop (i + 1) xs)) ≡ all
+made_at f p xs i d old new all lt = made_more f p xs i (get_or xs i d) old new all lt (get_or_default xs i d (get_or xs i d) lt)

@@ -1,5 +1,5 @@
 -- The entries that are put on a switch whatever the tables of members have.
-use Rattle.std.specs.Prelude.{ℕ, zero, suc, Bool, ◌==◌, ◌&&◌, not, Some, if◌then◌else◌, List, [], ◌∷◌, ◌++◌, map, filter, flat_map, option_to_list, is_some, length}
+use Rattle.std.specs.Prelude.{ℕ, zero, suc, ◌<◌, All, IfSome, Bool, ◌==◌, ◌&&◌, not, Option, Some, if◌then◌else◌, List, [], ◌∷◌, ◌++◌, map, filter, flat_map, option_to_list, is_some, length}
 use Rattle.std.specs.List.{list_any}
 use Rattle.std.specs.Option.{option_and_then}
 use Rattle.of10_match.specs.Fields.{MatchOf}
@@ -13,6 +13,11 @@ use Rattle.switch_meaning.specs.declared.wiring.Outside.{Outside}
 use Rattle.switch_meaning.specs.declared.wiring.Spot.{Spot}
 use Rattle.switch_meaning.specs.declared.wiring.Wiring.{Wiring}
 
+-- the tags of ports are numbers of VLANs
+abbrev pub AreTagsInRange : Wiring → Type 0
+AreTagsInRange w = All (λ (o : Outside). IfSome o.tag (λ t. t < 4096)) w.outside
+
+-- the match of all packets that come by a port
 abbrev pub at_port : ℕ → MatchOf
 at_port p = record everything { in_port = Some p }
 
@@ -24,16 +29,20 @@ guard o = record { m = at_port o.at.port; priority = 0; actions = []; ancestry =
 abbrev pub is_guarded : ℕ → Outside → Bool
 is_guarded switch o = (o.at.switch == switch) && is_some o.tag
 
+-- a guard for each port of a spread virtual switch that is a port of this switch
 abbrev pub guards : Wiring → ℕ → List PhysEntry
 guards w switch = map guard (filter (is_guarded switch) w.outside)
+
+-- where a packet comes to over the first cable of its way from one switch to another
+abbrev pub step : Wiring → ℕ → ℕ → Option Spot
+step w from to = option_and_then (λ p. far_end w (record { switch = from; port = p })) (next_hop w from to)
 
 -- where a packet comes to on the way from one switch to another, over at most so many cables
 abbrev pub arrivals : Wiring → ℕ → ℕ → ℕ → List Spot
 arrivals w zero from to = []
 arrivals w (suc n) from to =
     if from == to then []
-    else flat_map (λ (s : Spot). s ∷ arrivals w n s.switch to)
-    (option_to_list (option_and_then (λ p. far_end w (record { switch = from; port = p })) (next_hop w from to)))
+    else flat_map (λ (s : Spot). s ∷ arrivals w n s.switch to) (option_to_list (step w from to))
 
 -- a packet from some port of a virtual switch comes to this spot on its way to another port of it
 abbrev pub passes : Wiring → Spot → Outside → Bool
@@ -58,6 +67,7 @@ abbrev pub transits_to : Wiring → ℕ → Outside → List PhysEntry
 transits_to w switch goal =
     flat_map (λ (tag : ℕ). map (λ (s : Spot). transit w s goal tag) (filter (λ (s : Spot). passes w s goal) (ends_at switch w.cables))) (option_to_list goal.tag)
 
+-- the transit entries of a switch, for each port of a spread virtual switch
 abbrev pub transits : Wiring → ℕ → List PhysEntry
 transits w switch = flat_map (transits_to w switch) w.outside
 
@@ -69,6 +79,10 @@ fixed_entries w switch = guards w switch ++ transits w switch
 abbrev pub drop_entry : ℕ → PhysEntry
 drop_entry p = record { m = at_port p; priority = 65535; actions = []; ancestry = [] }
 
+-- the port of a switch is an outside port
+abbrev pub is_outside : Wiring → ℕ → ℕ → Bool
+is_outside w switch p = list_any (λ (o : Outside). same_spot o.at (record { switch = switch; port = p })) w.outside
+
 -- of the ports of such a switch each that is no outside port
 abbrev pub drops : Wiring → ℕ → List ℕ → List PhysEntry
-drops w switch ports = map drop_entry (filter (λ (p : ℕ). not (list_any (λ (o : Outside). same_spot o.at (record { switch = switch; port = p })) w.outside)) ports)
+drops w switch ports = map drop_entry (filter (λ (p : ℕ). not (is_outside w switch p)) ports)

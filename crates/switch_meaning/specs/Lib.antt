@@ -14,3 +14,4 @@ pub mod WorkedEntries
 pub mod WorkedKeys
 pub mod FiringLaw
 pub mod BestLaw
+pub mod BatchLaw

@@ -24,10 +24,10 @@ rank_of e = if is_exact e.m then 65536 else e.priority
 abbrev pub priority_of : FlowEntry → ℕ
 priority_of e = e.priority
 
--- the entry stands in the table
-pub data IsIn (e : FlowEntry) : List FlowEntry → Type 0 where
-  here : {es : List FlowEntry} → IsIn e (e ∷ es)
-  there : {d : FlowEntry} {es : List FlowEntry} → IsIn e es → IsIn e (d ∷ es)
+-- the item stands in the list
+pub data IsIn {A : Type 0} (x : A) : List A → Type 0 where
+  here : {xs : List A} → IsIn x (x ∷ xs)
+  there : {y : A} {xs : List A} → IsIn x xs → IsIn x (y ∷ xs)
 
 -- no entry that holds the header is above this one
 abbrev pub IsTop : (FlowEntry → ℕ) → List FlowEntry → HeaderOf → FlowEntry → Type 0

@@ -115,6 +115,7 @@ outs_written site r = if site.whole then filter (λ (o : Out). not (is_silent si
 abbrev pub ingress_of : Wiring → Site → FlatRule → Option ℕ
 ingress_of w site r = option_and_then (λ p. option_map (λ (o : Outside). o.at.port) (outside_at w site.v p)) r.m.in_port
 
+-- the match of packets without a tag
 abbrev pub untagged : MatchOf
 untagged = record everything { dl_vlan = Some UNTAGGED }
 

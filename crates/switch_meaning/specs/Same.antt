@@ -1,23 +1,13 @@
--- Equality as tests.
+-- Equality of entries as a test.
 use Rattle.std.specs.Prelude.{Bool, true, false, ◌==◌, ◌&&◌}
-use Rattle.std.specs.Option.{option_eq}
 use Rattle.std.specs.Cmp.Lexicographic.{pointwise}
 use Rattle.cv_io.specs.declared.leaf.Leaf.{Leaf}
-use Rattle.of10_match.specs.Fields.{MatchOf}
-use Rattle.of10_match.specs.Matching.{each}
-use Rattle.of10_match.specs.declared.header.Prefix.{Prefix}
+use Rattle.of10_match.specs.Same.{same_match}
 use Rattle.of10_actions.specs.declared.action.Action.{Action}
 use Rattle.of10_actions.specs.declared.action.Action.TheVariants.{Output, SetVlanVid, SetVlanPcp, StripVlan, SetDlSrc, SetDlDst, SetNwSrc, SetNwDst, SetNwTos, SetTpSrc, SetTpDst, Enqueue}
 use Rattle.switch_meaning.specs.declared.entry.PhysEntry.{PhysEntry}
 
-abbrev pub same_prefix : Prefix → Prefix → Bool
-same_prefix p q = (p.addr == q.addr) && (p.len == q.len)
-
--- two matches ask for the same
-abbrev pub same_match : MatchOf → MatchOf → Bool
-same_match m n =
-    each (option_eq ◌==◌ m.in_port n.in_port) (option_eq ◌==◌ m.dl_src n.dl_src) (option_eq ◌==◌ m.dl_dst n.dl_dst) (option_eq ◌==◌ m.dl_vlan n.dl_vlan) (option_eq ◌==◌ m.dl_vlan_pcp n.dl_vlan_pcp) (option_eq ◌==◌ m.dl_type n.dl_type) (option_eq ◌==◌ m.nw_tos n.nw_tos) (option_eq ◌==◌ m.nw_proto n.nw_proto) (option_eq same_prefix m.nw_src n.nw_src) (option_eq same_prefix m.nw_dst n.nw_dst) (option_eq ◌==◌ m.tp_src n.tp_src) (option_eq ◌==◌ m.tp_dst n.tp_dst)
-
+-- two actions do the same
 abbrev pub same_action : Action → Action → Bool
 same_action (Output p n) (Output q m) = (p == q) && (n == m)
 same_action (SetVlanVid v) (SetVlanVid w) = v == w
@@ -33,6 +23,7 @@ same_action (SetTpDst v) (SetTpDst w) = v == w
 same_action (Enqueue p n) (Enqueue q m) = (p == q) && (n == m)
 same_action _ _ = false
 
+-- two leaves are of one member and kind
 abbrev pub same_leaf : Leaf → Leaf → Bool
 same_leaf a b = (a.member == b.member) && (a.kind == b.kind)
 

@@ -3,7 +3,7 @@ use Rattle.std.specs.Prelude.{ℕ, Bool, ◌==◌, ◌&&◌, not, List, [], ◌�
 use Rattle.of10_match.specs.Fields.{MatchOf}
 use Rattle.of10_match.specs.Matching.{covers}
 use Rattle.of10_actions.specs.Actions.{AreInRange}
-use Rattle.switch_meaning.specs.Same.{same_match}
+use Rattle.of10_match.specs.Same.{same_match}
 use Rattle.switch_meaning.specs.declared.entry.FlowEntry.{FlowEntry}
 use Rattle.switch_meaning.specs.declared.entry.Change.{Change}
 use Rattle.switch_meaning.specs.declared.entry.Change.TheVariants.{Add, DeleteStrict, Delete}
@@ -37,5 +37,6 @@ table_after_all table (change ∷ changes) = table_after_all (table_after table 
 abbrev pub IsTableInRange : List FlowEntry → Type 0
 IsTableInRange table = All (λ (e : FlowEntry). AreInRange e.actions) table
 
+-- and so in each table
 abbrev pub AreTablesInRange : List (List FlowEntry) → Type 0
 AreTablesInRange tables = All IsTableInRange tables

@@ -24,15 +24,19 @@ use Rattle.switch_meaning.specs.declared.wiring.Wiring.{Wiring}
 abbrev pub same_port : ℕ → Outside
 same_port p = record { v = 0; port = p; at = spot 0 p; tag = None }
 
+-- four ports of one switch
 abbrev pub one_switch : Wiring
 one_switch = record { outside = map same_port (1 ∷ 2 ∷ 3 ∷ 4 ∷ []); cables = []; next_hops = [] }
 
+-- the virtual switch, with rules for each port
 abbrev pub port_site : Site
 port_site = record { v = 0; switch = 0; spread = false; whole = false }
 
+-- the same with one rule for all ports
 abbrev pub whole_site : Site
 whole_site = record { v = 0; switch = 0; spread = false; whole = true }
 
+-- an out that goes there as the rewrite makes the packet
 abbrev pub to : RewriteOf → Dest → Out
 to r dest = record { rewrite = r; dest = dest }
 
@@ -73,6 +77,7 @@ WholeIsPlaced =
     (placed whole_site (rule (by_port 1) 4 outs) ≡ Some (5, Output 2 0 ∷ Output 0xfff8 0 ∷ []))
     × (placed whole_site (rule everything 4 outs) ≡ Some (5, Output 1 0 ∷ Output 2 0 ∷ Output 0xfff8 0 ∷ []))
 
+-- an entry of a table
 abbrev pub entry : MatchOf → ℕ → List Action → FlowEntry
 entry m priority actions = record { m = m; priority = priority; actions = actions }
 

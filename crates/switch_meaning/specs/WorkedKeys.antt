@@ -5,14 +5,15 @@ use Rattle.of10_match.specs.Fields.{MatchOf}
 use Rattle.of10_actions.specs.declared.action.Action.{Action}
 use Rattle.of10_actions.specs.declared.action.Action.TheVariants.{Output}
 use Rattle.switch_meaning.specs.Batches.{difference}
-use Rattle.switch_meaning.specs.Keys.{one_per_key}
+use Rattle.switch_meaning.specs.Keys.{installed, one_per_key}
 use Rattle.switch_meaning.specs.WorkedFlood.{by_port}
 use Rattle.switch_meaning.specs.declared.entry.PhysEntry.{PhysEntry}
 
--- nw_dst 10.0.0.0/24 or 10.0.0.1/32, by a port
+-- nw_dst 10.0.0.0/24, by a port
 abbrev pub net : ℕ → MatchOf
 net p = record (by_port p) { dl_type = Some 0x0800; nw_dst = Some (record { addr = 0x0a000000; len = 24 }) }
 
+-- nw_dst 10.0.0.1/32, by a port
 abbrev pub host : ℕ → MatchOf
 host p = record (by_port p) { dl_type = Some 0x0800; nw_dst = Some (record { addr = 0x0a000001; len = 32 }) }
 
@@ -24,6 +25,7 @@ pair a b = record { member = 0; kind = a } ∷ record { member = 1; kind = b } �
 abbrev pub sent_to : ℕ → ℕ → List Action
 sent_to p port = if p == port then [] else Output port 0 ∷ []
 
+-- an entry with these parts
 abbrev pub placed : MatchOf → ℕ → List Action → List Leaf → PhysEntry
 placed m priority actions ancestry = record { m = m; priority = priority; actions = actions; ancestry = ancestry }
 
@@ -43,12 +45,40 @@ SixAreInstalled =
     map {B = ℕ × List Leaf} (λ (e : PhysEntry). (e.priority, e.ancestry)) (one_per_key (of_net 1 ++ of_others 1))
     ≡ (9, pair 3 3) ∷ (11, pair 3 4) ∷ (13, pair 4 4) ∷ (6, pair 1 3) ∷ (8, pair 1 4) ∷ (3, pair 1 1) ∷ []
 
+-- all twelve fields of one packet
+abbrev pub one_packet : MatchOf
+one_packet = record {
+  in_port = Some 1;
+  dl_src = Some 1;
+  dl_dst = Some 2;
+  dl_vlan = Some 65535;
+  dl_vlan_pcp = Some 0;
+  dl_type = Some 0x0800;
+  nw_tos = Some 0;
+  nw_proto = Some 6;
+  nw_src = Some (record { addr = 0x0a000001; len = 32 });
+  nw_dst = Some (record { addr = 0x0a000002; len = 32 });
+  tp_src = Some 1024;
+  tp_dst = Some 80;
+}
+
+-- an entry for one packet, beside one for all packets of its port
+abbrev pub beside : ℕ → List PhysEntry
+beside priority = placed one_packet 8 [] [] ∷ placed (by_port 1) priority [] [] ∷ []
+
+-- a greater priority passes it over; the same one does not
+abbrev pub ExactIsPassedOver : Type 0
+ExactIsPassedOver = (installed (beside 9) ≡ placed (by_port 1) 9 [] [] ∷ []) × (installed (beside 8) ≡ beside 8)
+
+-- the four ports
 abbrev pub ports : List ℕ
 ports = 4 ∷ 2 ∷ 3 ∷ 1 ∷ []
 
+-- what is installed of all pairs
 abbrev pub with_net : List PhysEntry
 with_net = one_per_key (flat_map (λ p. of_net p ++ of_others p) ports)
 
+-- what is installed once the /24 is gone
 abbrev pub without_net : List PhysEntry
 without_net = one_per_key (flat_map of_others ports)
 

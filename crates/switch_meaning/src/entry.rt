@@ -1,5 +1,5 @@
 //! Entries: of a switch's table, and as they are put there.
-ghost use Rattle.std.specs.Prelude.{◌≡◌, IfOk};
+ghost use Rattle.std.specs.Prelude.{◌≡◌, [], ◌∷◌, ◌++◌, IfOk, OnOk, if◌then◌else◌};
 
 use cv_io::{Leaf, List, Memory};
 use of10_actions::{Action, Out};
@@ -76,4 +76,19 @@ impl PhysEntry {
             ancestry: List::from_slice(alloc, self.ancestry.as_slice())?,
         })
     }
+}
+
+/// Appends a copy of the entry, if it is to stay.
+pub(crate) fn push_if(
+    alloc: Global,
+    entries: &mut List<PhysEntry>,
+    stays: bool,
+    entry: &PhysEntry,
+) -> Result<(), Memory>
+    ensures { OnOk result (entries.new ≡ entries.old ++ (if stays then entry.now ∷ [] else [])) }
+{
+    if !stays {
+        return Ok(());
+    }
+    entries.push(entry.copy(alloc)?)
 }

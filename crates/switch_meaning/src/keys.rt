@@ -1,10 +1,11 @@
-//! One entry for each key.
-ghost use Rattle.std.specs.Prelude.{◌≡◌, [], ◌∷◌, ◌++◌, IfOk, OnOk, if◌then◌else◌};
+//! The entries that a switch has, of all that are put there: one for each key.
+ghost use Rattle.std.specs.Prelude.{◌≡◌, IfOk};
 ghost use Rattle.std.specs.List.{list_any};
-ghost use Rattle.switch_meaning.specs.Keys.{displaces as displaces_of, one_per_key as one_per_key_of};
+ghost use Rattle.switch_meaning.specs.Keys.{displaces as displaces_of, installed as installed_of, one_per_key as one_per_key_of, passes_over as passes_over_of, passing as passing_of};
 ghost use Rattle.switch_meaning.specs.declared.entry.PhysEntry.{PhysEntry};
 
-use crate::entry::PhysEntry;
+use crate::choosing::is_exact;
+use crate::entry::{PhysEntry, push_if};
 use cv_io::{List, Memory};
 use std::alloc::Global;
 
@@ -19,19 +20,41 @@ pub fn one_per_key(alloc: Global, entries: &List<PhysEntry>) -> Result<List<Phys
     Ok(kept)
 }
 
-/// Appends a copy of the entry, if it is to stay.
-fn push_if(
-    alloc: Global,
-    entries: &mut List<PhysEntry>,
-    stays: bool,
-    entry: &PhysEntry,
-) -> Result<(), Memory>
-    ensures { OnOk result (entries.new ≡ entries.old ++ (if stays then entry.now ∷ [] else [])) }
+/// The entries that a switch has, of all that are put there.
+pub fn installed(alloc: Global, entries: &List<PhysEntry>) -> Result<List<PhysEntry>, Memory>
+    ensures { IfOk result (λ kept. kept ≡ installed_of entries.now) }
 {
-    if !stays {
-        return Ok(());
+    let left = passing(alloc, entries)?;
+    one_per_key(alloc, &left)
+}
+
+/// The entries that none passes over.
+fn passing(alloc: Global, entries: &List<PhysEntry>) -> Result<List<PhysEntry>, Memory>
+    ensures { IfOk result (λ kept. kept ≡ passing_of entries.now) }
+{
+    let mut kept = List::new(alloc);
+    for entry in entries.as_slice() {
+        push_if(alloc, &mut kept, !is_passed(entries, entry), entry)?;
     }
-    entries.push(entry.copy(alloc)?)
+    Ok(kept)
+}
+
+/// Whether an entry passes this one over.
+fn is_passed(entries: &List<PhysEntry>, entry: &PhysEntry) -> bool
+    ensures { result ≡ list_any (λ (d : PhysEntry). passes_over_of d entry.now) entries.now }
+{
+    entries
+        .as_slice()
+        .iter()
+        .any(|other| passes_over(other, entry))
+}
+
+/// Whether the second entry names all twelve fields, and the first holds its header at a greater
+/// priority.
+fn passes_over(first: &PhysEntry, second: &PhysEntry) -> bool
+    ensures { result ≡ passes_over_of first.now second.now }
+{
+    is_exact(&second.m) && second.priority < first.priority && first.m.covers(&second.m)
 }
 
 /// Whether an entry of the same key has a smaller ancestry.

@@ -1,5 +1,6 @@
 //! Laws of switches and of what is put on them: each function's contract is the law.
 ghost use Rattle.std.specs.Prelude.{List};
+ghost use Rattle.switch_meaning.specs.BatchLaw.{BatchGivesTable, FreshGivesTable, InstalledHasOneAKey, OrderIsFree, SortedByKey};
 ghost use Rattle.switch_meaning.specs.BestLaw.{BestIsInstalled, BestIsUsed};
 ghost use Rattle.switch_meaning.specs.Choosing.{chosen, table_at};
 ghost use Rattle.switch_meaning.specs.Following.{IsAllowed};
@@ -23,4 +24,16 @@ pub fn using()
 /// Whatever the tables have, each switch has something that it may use, by either reading.
 pub fn choosing()
     ensures { (tables : List (List FlowEntry)) (reading : Reading) → IsAllowed (table_at tables) (chosen tables reading) }
+{}
+
+/// A batch makes one table of another, in whichever order a switch takes the messages of each phase,
+/// and so does an installation from any table. What a switch may use does not depend on the order of
+/// its table. The messages of a phase are written by rising key, and what is installed has one entry
+/// for each.
+pub fn batching()
+    ensures from_table { BatchGivesTable }
+    ensures from_any { FreshGivesTable }
+    ensures any_order { OrderIsFree }
+    ensures by_key { SortedByKey }
+    ensures installed { InstalledHasOneAKey }
 {}

@@ -4,10 +4,12 @@
 //! the next.
 #![tactic(auto)]
 
+pub mod batching;
 pub mod choosing;
 pub mod entry;
 pub mod fired;
 pub mod firing;
+pub mod fixed;
 pub mod following;
 pub mod keys;
 pub mod laws;
@@ -17,16 +19,22 @@ pub mod table;
 pub mod wiring;
 pub mod worked;
 
+pub use batching::difference;
 pub use choosing::{Reading, is_exact, usable};
 pub use entry::{Change, Difference, FlatRule, FlowEntry, PhysEntry, Site};
 pub use fired::{Copied, Fired, Left, Seen, Sent};
 pub use firing::fire;
+pub use fixed::{drops, fixed_entries, guards, transits};
 pub use following::Switches;
-pub use keys::one_per_key;
+pub use keys::{installed, one_per_key};
 pub use placing::{Way, place};
-pub use ranges::{are_in_range, are_tables_in_range};
+pub use ranges::{are_in_range, are_tables_in_range, are_tags_in_range};
 pub use table::table_after;
 pub use wiring::{Cable, NextHop, Outside, Spot, Wiring};
 
+#[cfg(test)]
+mod batch_tests;
+#[cfg(test)]
+mod samples;
 #[cfg(test)]
 mod tests;

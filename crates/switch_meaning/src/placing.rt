@@ -8,7 +8,7 @@ ghost use Rattle.switch_meaning.specs.Placing.{actions_from, actions_of as actio
 
 use crate::entry::{FlatRule, PhysEntry, Site};
 use crate::wiring::{Outside, Wiring};
-use cv_io::{List, Memory};
+use cv_io::{Duplicate, List, Memory};
 use of10_actions::port::{CONTROLLER, IN_PORT};
 use of10_actions::{Action, Dest, Out, Rewrite};
 use of10_match::{Match, UNTAGGED};
@@ -173,18 +173,8 @@ fn untagged() -> Match
     ensures { result ≡ untagged_of }
 {
     Match {
-        in_port: None,
-        dl_src: None,
-        dl_dst: None,
         dl_vlan: Some(UNTAGGED),
-        dl_vlan_pcp: None,
-        dl_type: None,
-        nw_tos: None,
-        nw_proto: None,
-        nw_src: None,
-        nw_dst: None,
-        tp_src: None,
-        tp_dst: None,
+        ..Match::everything()
     }
 }
 
@@ -276,7 +266,7 @@ fn outs_written(alloc: Global, site: Site, rule: &FlatRule) -> Result<List<Out>,
     if site.whole {
         spoken(alloc, site.v, rule.m.in_port, &rule.outs)
     } else {
-        copied(alloc, &rule.outs)
+        rule.outs.copy()
     }
 }
 
@@ -307,16 +297,6 @@ fn push_if(outs: &mut List<Out>, stays: bool, out: &Out) -> Result<(), Memory>
         rewrite: out.rewrite,
         dest: out.dest,
     })
-}
-
-fn copied(alloc: Global, outs: &List<Out>) -> Result<List<Out>, Memory>
-    ensures { IfOk result (λ copied. copied ≡ outs.now) }
-{
-    let mut copied = List::new(alloc);
-    for out in outs.as_slice() {
-        push_if(&mut copied, true, out)?;
-    }
-    Ok(copied)
 }
 
 /// The physical port that a rule names, if it names one.

@@ -1,9 +1,11 @@
-//! Tests that the numbers of actions are in their ranges.
-ghost use Rattle.std.specs.Prelude.{◌≡◌, ◌↔◌, IsTrue};
+//! Tests that the numbers of actions and of tags are in their ranges.
+ghost use Rattle.std.specs.Prelude.{◌<◌, ◌↔◌, IfSome, IsTrue};
 ghost use Rattle.of10_actions.specs.Actions.{AreInRange, IsInRange};
+ghost use Rattle.switch_meaning.specs.Fixed.{AreTagsInRange};
 ghost use Rattle.switch_meaning.specs.Tables.{AreTablesInRange, IsTableInRange};
 
 use crate::entry::FlowEntry;
+use crate::wiring::Wiring;
 use cv_io::List;
 use of10_actions::Action;
 
@@ -44,5 +46,25 @@ fn is_in_range(action: &Action) -> bool
         Action::SetDlDst { address } => address < 1 << 48,
         Action::SetNwTos { tos } => tos % 4 == 0,
         _ => true,
+    }
+}
+
+/// Whether the tags of ports are numbers of VLANs.
+pub fn are_tags_in_range(wiring: &Wiring) -> bool
+    ensures { IsTrue result ↔ AreTagsInRange wiring.now }
+{
+    wiring
+        .outside
+        .as_slice()
+        .iter()
+        .all(|o| is_tag_in_range(o.tag))
+}
+
+fn is_tag_in_range(tag: Option<u16>) -> bool
+    ensures { IsTrue result ↔ IfSome tag (λ t. t < 4096) }
+{
+    match tag {
+        Some(tag) => tag < 4096,
+        None => true,
     }
 }

@@ -1,87 +1,10 @@
-ghost use Rattle.of10_match.specs.Ranges.{IsVlan};
-
 use super::*;
-use cv_io::{Leaf, List};
+use crate::samples::{by_port, by_tag, in_a_row, output, ping};
+use cv_io::List;
 use of10_actions::{Action, Dest, Out, Rewrite};
-use of10_match::{Header, Match, Prefix, UNTAGGED};
+use of10_match::{Match, UNTAGGED};
 use std::alloc::Global;
 use std::test::*;
-
-const OPEN: Match = Match {
-    in_port: None,
-    dl_src: None,
-    dl_dst: None,
-    dl_vlan: None,
-    dl_vlan_pcp: None,
-    dl_type: None,
-    nw_tos: None,
-    nw_proto: None,
-    nw_src: None,
-    nw_dst: None,
-    tp_src: None,
-    tp_dst: None,
-};
-
-fn by_port(port: u16) -> Match {
-    Match {
-        in_port: Some(port),
-        ..OPEN
-    }
-}
-
-fn by_tag(port: u16, tag: u16) -> Match
-    requires { IsVlan tag }
-{
-    Match {
-        in_port: Some(port),
-        dl_vlan: Some(tag),
-        ..OPEN
-    }
-}
-
-fn output(port: u16) -> Action {
-    Action::Output { port, max_len: 0 }
-}
-
-fn lies(port: u16, switch: u32, at: u16) -> Outside {
-    Outside {
-        v: 0,
-        port,
-        at: Spot { switch, port: at },
-        tag: Some(port),
-    }
-}
-
-/// Three switches in a row: the first has the outside ports 1 and 3, the second 2, the third 4.
-fn in_a_row(alloc: Global) -> Result<Wiring, Fail> {
-    let outside = [lies(1, 0, 1), lies(2, 1, 1), lies(3, 0, 2), lies(4, 2, 1)];
-    let cables = [
-        Cable {
-            one: Spot { switch: 0, port: 3 },
-            other: Spot { switch: 1, port: 3 },
-        },
-        Cable {
-            one: Spot { switch: 1, port: 4 },
-            other: Spot { switch: 2, port: 3 },
-        },
-    ];
-    let mut next_hops = List::new(alloc);
-    for (from, to, port) in [
-        (0, 1, 3),
-        (0, 2, 3),
-        (1, 0, 3),
-        (1, 2, 4),
-        (2, 0, 3),
-        (2, 1, 3),
-    ] {
-        next_hops.push(NextHop { from, to, port })?;
-    }
-    Ok(Wiring {
-        outside: List::from_slice(alloc, &outside)?,
-        cables: List::from_slice(alloc, &cables)?,
-        next_hops,
-    })
-}
 
 fn flood(alloc: Global) -> Result<FlatRule, Fail> {
     let mut outs = List::new(alloc);
@@ -131,23 +54,6 @@ fn entry(alloc: Global, m: Match, priority: u16, actions: &[Action]) -> Result<F
         priority,
         actions: List::from_slice(alloc, actions)?,
     })
-}
-
-fn ping(in_port: u16) -> Header {
-    Header {
-        in_port,
-        dl_src: 1,
-        dl_dst: 2,
-        dl_vlan: UNTAGGED,
-        dl_vlan_pcp: 0,
-        dl_type: 0x0800,
-        nw_tos: 0,
-        nw_proto: 1,
-        nw_src: 3,
-        nw_dst: 4,
-        tp_src: 8,
-        tp_dst: 0,
-    }
 }
 
 #[test]
@@ -293,7 +199,10 @@ fn outs_become_actions(rt: HostRuntime) -> Result<(), Fail> {
     assert_eq!(rt; actions.as_slice(), want.as_slice());
     for (m, want) in [
         (by_port(1), [output(2), output(0xfff8)].as_slice()),
-        (OPEN, [output(1), output(2), output(0xfff8)].as_slice()),
+        (
+            Match::everything(),
+            [output(1), output(2), output(0xfff8)].as_slice(),
+        ),
     ] {
         let mut outs = List::new(alloc);
         for dest in [
@@ -316,8 +225,13 @@ fn outs_become_actions(rt: HostRuntime) -> Result<(), Fail> {
 fn a_table_after_changes(rt: HostRuntime) -> Result<(), Fail> {
     let alloc = rt.alloc();
     let mut table = List::new(alloc);
-    table.push(entry(alloc, OPEN, 0, &[])?)?;
-    table = table_after(table, Change::Delete { m: OPEN })?;
+    table.push(entry(alloc, Match::everything(), 0, &[])?)?;
+    table = table_after(
+        table,
+        Change::Delete {
+            m: Match::everything(),
+        },
+    )?;
     for (m, priority, port) in [
         (by_port(1), 7, 1),
         (by_port(1), 7, 2),
@@ -338,41 +252,5 @@ fn a_table_after_changes(rt: HostRuntime) -> Result<(), Fail> {
     table = table_after(table, Change::Delete { m: by_port(2) })?;
     let want = [entry(alloc, by_port(1), 7, &[output(2)])?];
     assert_eq!(rt; table.as_slice(), want.as_slice());
-    Ok(())
-}
-
-#[test]
-fn the_smaller_ancestry_is_installed(rt: HostRuntime) -> Result<(), Fail> {
-    let alloc = rt.alloc();
-    let m = Match {
-        dl_type: Some(0x0800),
-        nw_dst: Some(Prefix {
-            addr: 0x0a00_0001,
-            len: 32,
-        }),
-        ..by_port(1)
-    };
-    let mut entries = List::new(alloc);
-    for (first, second) in [(4, 3), (3, 4)] {
-        let ancestry = [
-            Leaf {
-                member: 0,
-                kind: first,
-            },
-            Leaf {
-                member: 1,
-                kind: second,
-            },
-        ];
-        entries.push(PhysEntry {
-            m,
-            priority: 11,
-            actions: List::new(alloc),
-            ancestry: List::from_slice(alloc, &ancestry)?,
-        })?;
-    }
-    let kept = one_per_key(alloc, &entries)?;
-    assert_eq!(rt; kept.len(), 1);
-    assert_eq!(rt; kept.get(0), entries.get(1));
     Ok(())
 }

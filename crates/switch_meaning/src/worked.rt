@@ -1,13 +1,16 @@
 //! Worked examples, each computed by the checker.
 ghost use Rattle.switch_meaning.specs.WorkedEntries.{BalancerIsPlaced, IngressIsWritten, OneCopyFirst, TableIsChanged, WholeIsPlaced};
-ghost use Rattle.switch_meaning.specs.WorkedFlood.{FloodIsFollowed, FloodIsPlaced, TagsAreCarried};
-ghost use Rattle.switch_meaning.specs.WorkedKeys.{LevelsMove, NetGoes, SixAreInstalled};
+ghost use Rattle.switch_meaning.specs.WorkedFlood.{FloodIsFired, FloodIsFollowed, FloodIsPlaced, OthersAreDropped, TagsAreCarried};
+ghost use Rattle.switch_meaning.specs.WorkedKeys.{ExactIsPassedOver, LevelsMove, NetGoes, SixAreInstalled};
 
-/// FLOOD over three switches: its entry, the fixed entries, and the way of a packet.
+/// FLOOD over three switches: its entry, the fixed entries, what the first switch makes of a packet,
+/// and the way of it.
 pub fn worked_flood()
     ensures flood_is_placed { FloodIsPlaced }
     ensures tags_are_carried { TagsAreCarried }
+    ensures flood_is_fired { FloodIsFired }
     ensures flood_is_followed { FloodIsFollowed }
+    ensures others_are_dropped { OthersAreDropped }
 {}
 
 /// Entries of rules, and a table after changes.
@@ -22,6 +25,7 @@ pub fn worked_entries()
 /// Pairs that share a key, and changes from table to table.
 pub fn worked_keys()
     ensures six_are_installed { SixAreInstalled }
+    ensures exact_is_passed_over { ExactIsPassedOver }
     ensures net_goes { NetGoes }
     ensures levels_move { LevelsMove }
 {}
