@@ -1,0 +1,9 @@
+use Rattle.std.proofs.Common.{refl}
+use Rattle.agreement.proofs.WorkedSplit.{split-agrees}
+use Rattle.agreement.proofs.worked.worked_split.Goals as goal
+
+pub returns-clause-seen : goal.returns-clause-seen
+returns-clause-seen c = refl
+
+pub returns-clause-agrees : goal.returns-clause-agrees
+returns-clause-agrees c = split-agrees
