@@ -29,7 +29,7 @@ use Rattle.switch_meaning.specs.declared.wiring.Spot.{Spot}
 use Rattle.switch_meaning.specs.declared.wiring.Wiring.{Wiring}
 use Rattle.switch_meaning.proofs.Items.{mapped}
 use Rattle.agreement.specs.declared.state.Setting.{Setting}
-use Rattle.agreement.specs.Entries.{enters_on, entries_for, entries_of, flat, lies_on, placed, site_at, stands_on}
+use Rattle.agreement.specs.Entries.{entries_for, entries_of, flat, lies_on, placed, site_at, stands_on}
 use Rattle.agreement.specs.Premises.{IsSoundSetting, outside_ports}
 use Rattle.agreement.specs.Reach.{at_once}
 use Rattle.agreement.specs.Seeing.{comes_by}
