@@ -1,15 +1,13 @@
 -- The entry of the highest rank that holds a header.
-use Rattle.std.proofs.Common.{◌≡◌, ℕ, ◌<◌, ◌≤◌, ◌+◌, Bool, true, false, not, cond, ◌||◌, ◌&&◌, ◌==◌, List, [], ◌∷◌, map, refl, sym, ap, ap₂, subst, ◌∙◌, arith, if◌then◌else◌, true≢false, Option, Some, None, IfSome, option_map, nat_lt, eqb-true, eq-eqb, ltb-false, ltb-true, lt-ltb, le-ltb, le_refl, ◌⊎◌, inl, inr}
+use Rattle.std.proofs.Common.{◌≡◌, ℕ, ◌<◌, ◌≤◌, Bool, true, false, ◌||◌, ◌&&◌, ◌==◌, List, [], ◌∷◌, refl, sym, ap, ap₂, subst, ◌∙◌, arith, if◌then◌else◌, true≢false, Option, Some, None, IfSome, nat_lt, eqb-true, eq-eqb, ltb-false, lt-ltb, le-ltb}
 use Rattle.std.specs.List.{list_any, AllByRecursion}
 use Rattle.of10_match.specs.Fields.{HeaderOf}
 use Rattle.of10_match.specs.Matching.{holds, overlaps, both}
 use Rattle.of10_match.proofs.Holding.{holds-both}
 use Rattle.member_table.specs.Best.{best_entry, higher}
 use Rattle.member_table.specs.Entries.{identity_of, is_near}
-use Rattle.member_table.specs.Ranking.{IsTop, holds_it, ranked_of}
 use Rattle.member_table.specs.Sound.{AreApart, EachPair}
 use Rattle.member_table.specs.declared.entry.Entry.{Entry}
-use Rattle.member_table.specs.declared.ranked.Ranked.{Ranked}
 use Rattle.member_table.proofs.Lists.{or_false}
 use Rattle.member_table.proofs.Least.{and_true}
 

@@ -1,7 +1,6 @@
 -- Entries go and change one after the other.
-use Rattle.std.proofs.Common.{◌≡◌, ℕ, Bool, true, false, not, cond, ◌||◌, ◌&&◌, ◌==◌, List, [], ◌∷◌, ◌++◌, map, filter, refl, sym, ap, ap₂, ◌∙◌, if◌then◌else◌, true≢false, Option, Some, None, eqb-true, eq-eqb}
+use Rattle.std.proofs.Common.{◌≡◌, ℕ, Bool, true, false, not, cond, ◌||◌, ◌==◌, List, [], ◌∷◌, ◌++◌, map, filter, refl, sym, ap, ap₂, ◌∙◌, if◌then◌else◌, true≢false, Option, Some, None, eqb-true, eq-eqb}
 use Rattle.std.specs.Option.{option_eq}
-use Rattle.std.specs.List.{list_any, AllByRecursion}
 use Rattle.member_table.specs.Changes.{is_among, is_number, stays, changed_by}
 use Rattle.member_table.specs.Entries.{has_serial}
 use Rattle.member_table.specs.Tables.{TableOf, with_actions}

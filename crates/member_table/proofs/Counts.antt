@@ -1,13 +1,12 @@
 -- The ranking has the matches of the entries, each as often.
-use Rattle.std.proofs.Common.{◌≡◌, ℕ, zero, suc, ◌<◌, ◌≤◌, ◌+◌, Bool, true, false, not, cond, ◌||◌, ◌&&◌, ◌==◌, List, [], ◌∷◌, ◌++◌, map, filter, find, refl, sym, ap, ap₂, subst, ◌∙◌, arith, if◌then◌else◌, true≢false, Option, Some, None, MatchOption, count_by, sum_by, nat_lt, lt-ltb, option_map}
+use Rattle.std.proofs.Common.{◌≡◌, ℕ, ◌+◌, Bool, true, false, not, cond, ◌||◌, List, [], ◌∷◌, map, filter, find, refl, sym, ap, subst, ◌∙◌, arith, if◌then◌else◌, Option, Some, None, count_by, nat_lt, lt-ltb, option_map}
 use Rattle.std.specs.List.{list_any}
 use Rattle.std.proofs.lemmas.List.Sums.{sum_by-cons}
 use Rattle.member_table.specs.Entries.{identity_of, has_serial, is_at, put}
-use Rattle.member_table.specs.Ranking.{ranked_of, same_ranked, Exchanges, AddsTo}
+use Rattle.member_table.specs.Ranking.{ranked_of, same_ranked, Exchanges}
 use Rattle.member_table.specs.declared.entry.Entry.{Entry}
 use Rattle.member_table.specs.declared.ranked.Ranked.{Ranked}
 use Rattle.member_table.proofs.Lists.{IsOnce, filter-none}
-use Rattle.member_table.proofs.Steps.{identity_decides}
 use Rattle.member_table.proofs.SameRanked.{ranked_decides}
 
 abbrev pub one : Bool → ℕ

@@ -1,12 +1,11 @@
 -- Matches in the order of their ranks.
-use Rattle.std.proofs.Common.{◌≡◌, ℕ, zero, suc, ◌<◌, ◌≤◌, ◌+◌, ◌-◌, Bool, true, false, not, cond, ◌||◌, ◌&&◌, List, [], ◌∷◌, ◌++◌, length, get_or, find, insert, remove, take, drop, Option, Some, None, MatchOption, refl, sym, ap, ◌∙◌, arith, true≢false, nat_lt, nat_le, ◌==◌, eq-eqb, le-leb, leb-true, le-ltb, ltb-true, le_refl, le_trans}
+use Rattle.std.proofs.Common.{◌≡◌, ℕ, zero, suc, ◌<◌, ◌≤◌, ◌-◌, Bool, true, false, ◌||◌, ◌&&◌, List, [], ◌∷◌, length, get_or, find, insert, remove, take, drop, Option, Some, None, MatchOption, refl, sym, ap, ◌∙◌, arith, nat_lt, nat_le, eq-eqb, le-leb, leb-true, le-ltb, le_refl, le_trans}
 use Rattle.std.specs.List.{list_any, AllByRecursion, AllWithin}
 use Rattle.std.specs.List.Sorted.{IsPartitionedBy}
-use Rattle.std.proofs.lemmas.List.{take-append-drop, drop-drop}
+use Rattle.std.proofs.lemmas.List.{take-append-drop}
 use Rattle.std.proofs.lemmas.List.Folds.{list_any-append, drop_split}
 use Rattle.member_table.specs.Ranking.{RanksFall, IsTop}
 use Rattle.member_table.specs.declared.ranked.Ranked.{Ranked}
-use Rattle.member_table.proofs.Lists.{or_false}
 
 pub each_at : {X : Type 0} (P : X → Type 0) (xs : List X) → AllByRecursion P xs → (j : ℕ) (d : X) → j < length xs → P (get_or xs j d)
 each_at P [] a j d h = absurd (omega arith)

@@ -1,5 +1,5 @@
 -- A table is kept whole when its parts change together.
-use Rattle.std.proofs.Common.{◌≡◌, ℕ, ◌<◌, ◌≤◌, ◌+◌, ◌-◌, Bool, true, false, not, List, [], ◌∷◌, map, filter, find, refl, sym, ap, ap₂, subst, ◌∙◌, arith, if◌then◌else◌, Option, Some, None, count_by, option_map, is_some, IfSome}
+use Rattle.std.proofs.Common.{◌≡◌, ℕ, ◌<◌, ◌≤◌, ◌+◌, ◌-◌, Bool, true, false, not, List, [], ◌∷◌, map, filter, find, refl, sym, ap, ap₂, subst, ◌∙◌, arith, Some, None, count_by, option_map, is_some}
 use Rattle.std.specs.List.{list_any}
 use Rattle.member_table.specs.Entries.{identity_of, has_serial, is_at, put}
 use Rattle.member_table.specs.Orders.{OrderOf}
@@ -7,7 +7,6 @@ use Rattle.member_table.specs.Ranking.{RanksOf, ranked_of, same_ranked, Exchange
 use Rattle.member_table.specs.Sound.{IsKept, IsSound}
 use Rattle.member_table.specs.Tables.{TableOf}
 use Rattle.member_table.specs.declared.entry.Entry.{Entry}
-use Rattle.member_table.specs.declared.ranked.Ranked.{Ranked}
 use Rattle.member_table.proofs.Lists.{any_find, filter-none}
 use Rattle.member_table.proofs.Steps.{once_serial}
 use Rattle.member_table.proofs.Sounds.{sound_map, sound_filter, sound_put, is_blocked}

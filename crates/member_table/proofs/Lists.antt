@@ -1,5 +1,5 @@
 -- The first of a list that passes a test, and the list without it or with another in its place.
-use Rattle.std.proofs.Common.{◌≡◌, ℕ, zero, suc, ◌<◌, ◌+◌, Bool, true, false, not, cond, ◌||◌, ◌&&◌, List, [], ◌∷◌, ◌++◌, length, get_or, set, map, filter, find, remove, position, slice_get, option_map, Option, Some, None, refl, sym, ap, ◌∙◌, arith, if◌then◌else◌, true≢false, ap₂, take, ◌-◌, swap_remove, length-append, length-set, suc-add, lt-ltb, is_some}
+use Rattle.std.proofs.Common.{◌≡◌, ℕ, zero, suc, ◌<◌, ◌+◌, Bool, true, false, not, cond, ◌||◌, List, [], ◌∷◌, ◌++◌, length, get_or, set, map, filter, find, remove, position, slice_get, Some, None, refl, sym, ap, ◌∙◌, arith, if◌then◌else◌, true≢false, ap₂, take, ◌-◌, swap_remove, length-append, length-set, suc-add, lt-ltb, is_some}
 use Rattle.std.proofs.lemmas.List.{set-append_left}
 use Rattle.std.specs.List.{list_any, position_or_len}
 use Rattle.std.proofs.lemmas.List.Quantifiers.{position-Some}

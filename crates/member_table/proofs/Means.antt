@@ -1,16 +1,15 @@
 -- The entries that a message means, and what a change of them makes.
-use Rattle.std.proofs.Common.{◌≡◌, ℕ, zero, suc, ◌<◌, ◌≤◌, ◌+◌, Bool, true, false, not, cond, ◌||◌, ◌&&◌, ◌==◌, List, [], ◌∷◌, ◌++◌, map, filter, find, refl, sym, ap, ap₂, subst, ◌∙◌, arith, if◌then◌else◌, true≢false, Option, Some, None, eqb-true, eq-eqb, option_to_list, option_map}
+use Rattle.std.proofs.Common.{◌≡◌, ℕ, Bool, true, false, cond, ◌||◌, ◌&&◌, ◌==◌, List, [], ◌∷◌, map, filter, find, refl, sym, ap, ap₂, ◌∙◌, if◌then◌else◌, true≢false, Option, Some, None, eqb-true, eq-eqb}
 use Rattle.std.specs.List.{list_any, AllByRecursion, IsDistinct}
 use Rattle.of10_match.proofs.MeetSelf.{meet_self}
 use Rattle.of10_match.specs.Fields.{MatchOf}
 use Rattle.of10_match.specs.Matching.{both, overlaps}
 use Rattle.of10_actions.specs.declared.action.Action.{Action}
-use Rattle.member_table.specs.Changes.{is_among, is_number, stays, changed_by}
-use Rattle.member_table.specs.Entries.{identity_of, same_identity, has_serial, is_at, is_near}
+use Rattle.member_table.specs.Changes.{is_among, changed_by}
+use Rattle.member_table.specs.Entries.{identity_of, is_at, is_near}
 use Rattle.member_table.specs.Sound.{AreApart, EachPair}
-use Rattle.member_table.specs.Tables.{outputs_to, with_actions}
+use Rattle.member_table.specs.Tables.{with_actions}
 use Rattle.member_table.specs.Timeouts.{serials_of}
-use Rattle.member_table.specs.declared.change.Modified.{Modified}
 use Rattle.member_table.specs.declared.entry.Entry.{Entry}
 use Rattle.member_table.specs.declared.entry.Identity.{Identity}
 use Rattle.member_table.proofs.Lists.{IsOnce, or_false}

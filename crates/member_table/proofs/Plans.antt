@@ -1,23 +1,20 @@
 -- What plans make of a table.
-use Rattle.std.proofs.Common.{◌≡◌, ℕ, suc, ◌<◌, ◌≤◌, ◌+◌, ◌^◌, Bool, true, false, not, cond, ◌||◌, ◌&&◌, ◌==◌, List, [], ◌∷◌, length, map, filter, find, refl, sym, ap, ap₂, subst, ◌∙◌, arith, if◌then◌else◌, true≢false, Option, Some, None, MatchOption, IfSome, eqb-true, eq-eqb, ne_eqb, option_to_list, option_map, min, nat_lt, nat_le, ltb-false, ltb-true, le-ltb, is_some, IsSome}
-use Rattle.std.specs.List.{list_any, AllByRecursion, IsDistinct}
+use Rattle.std.proofs.Common.{◌≡◌, ℕ, suc, ◌<◌, ◌≤◌, ◌+◌, ◌^◌, Bool, true, false, not, cond, ◌||◌, ◌&&◌, ◌==◌, List, [], ◌∷◌, length, map, filter, find, refl, sym, ap, ap₂, ◌∙◌, arith, if◌then◌else◌, true≢false, Option, Some, None, IfSome, eqb-true, ne_eqb, option_to_list, option_map, min, nat_lt, ltb-false}
+use Rattle.std.specs.List.{list_any}
 use Rattle.of10_msgs.specs.declared.message.FlowMod.{FlowMod}
 use Rattle.of10_actions.specs.declared.action.Action.{Action}
-use Rattle.member_table.specs.Changes.{CanAdd, CanCommit, committed, is_among, is_number, stays, changed_by, replaced}
-use Rattle.member_table.specs.Entries.{identity_of, is_at, is_near, put, same_identity}
+use Rattle.member_table.specs.Changes.{CanAdd, committed, is_among, stays, changed_by, replaced}
+use Rattle.member_table.specs.Entries.{identity_of, is_at, is_near, put}
 use Rattle.member_table.specs.Planning.{adding, changing, removing}
 use Rattle.member_table.specs.Ranking.{IsLeastOf, is_in_way, ranked_of}
-use Rattle.member_table.specs.Refusals.{least, lesser_of, is_overlapped, overlapped, is_full, refusal_by, refusal_of}
+use Rattle.member_table.specs.Refusals.{least, lesser_of, is_overlapped, overlapped, refusal_by, refusal_of}
 use Rattle.member_table.specs.Sound.{IsSound}
 use Rattle.member_table.specs.Tables.{Held, TableOf, entry_of, identity_in, with_actions, with_entry, outputs_to}
 use Rattle.member_table.specs.Timeouts.{serials_of}
 use Rattle.member_table.specs.declared.entry.Entry.{Entry}
 use Rattle.member_table.specs.declared.entry.Identity.{Identity}
-use Rattle.member_table.specs.declared.fault.TableFault.{TableFault}
-use Rattle.member_table.specs.declared.fault.TableFault.TheVariants.{Overlap, Entries}
 use Rattle.member_table.specs.declared.ranked.Ranked.{Ranked}
 use Rattle.member_table.proofs.Changing.{all_stay, unaltered}
-use Rattle.member_table.proofs.Counts.{same_any}
 use Rattle.member_table.proofs.Falling.{each_weaker}
 use Rattle.member_table.proofs.Least.{any_stronger, and_true}
 use Rattle.member_table.proofs.Lists.{list_any-map, or_false}

@@ -1,11 +1,10 @@
 -- What is true of every table stays true when entries go, change or come.
-use Rattle.std.proofs.Common.{◌≡◌, ℕ, zero, suc, ◌<◌, ◌≤◌, ◌+◌, Bool, true, false, not, cond, ◌||◌, ◌&&◌, ◌==◌, List, [], ◌∷◌, ◌++◌, map, filter, find, refl, sym, ap, ap₂, subst, ◌∙◌, arith, if◌then◌else◌, true≢false, ne_eqb, ◌≢◌, eqb-true, Option, Some, None}
+use Rattle.std.proofs.Common.{◌≡◌, ℕ, ◌<◌, ◌+◌, Bool, true, false, not, cond, ◌&&◌, ◌==◌, List, [], ◌∷◌, map, filter, refl, sym, ap, ap₂, subst, ◌∙◌, arith, if◌then◌else◌, ne_eqb, ◌≢◌}
 use Rattle.std.specs.List.{list_any, AllByRecursion, IsDistinct}
-use Rattle.member_table.specs.Entries.{identity_of, same_identity, has_serial, is_at, is_near, put}
+use Rattle.member_table.specs.Entries.{identity_of, has_serial, is_at, is_near, put}
 use Rattle.member_table.specs.Sound.{AreApart, EachPair, IsSound}
 use Rattle.member_table.specs.Tables.{TableOf}
 use Rattle.member_table.specs.declared.entry.Entry.{Entry}
-use Rattle.member_table.specs.declared.entry.Identity.{Identity}
 use Rattle.member_table.proofs.Lists.{or_false}
 use Rattle.member_table.proofs.Steps.{identity_decides}
 use Rattle.member_table.proofs.Falling.{each_weaker}

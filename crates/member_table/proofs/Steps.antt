@@ -1,5 +1,5 @@
 -- The two indexes of the entries stay in step.
-use Rattle.std.proofs.Common.{◌≡◌, ℕ, zero, suc, ◌<◌, ◌+◌, Bool, true, false, not, cond, ◌||◌, ◌&&◌, List, [], ◌∷◌, ◌++◌, length, get_or, set, map, filter, find, remove, position, slice_get, option_map, Option, Some, None, refl, sym, ap, ap₂, ◌∙◌, arith, if◌then◌else◌, true≢false, nat_eq, ◌==◌, Decides, eqb-true, subst, eq-eqb, is_some}
+use Rattle.std.proofs.Common.{◌≡◌, ℕ, zero, suc, Bool, true, false, cond, List, [], ◌∷◌, ◌++◌, set, map, find, remove, position, slice_get, Option, Some, None, refl, sym, ap, ap₂, ◌∙◌, nat_eq, ◌==◌, Decides, eqb-true, subst, is_some}
 use Rattle.std.specs.List.{list_any, IsDistinct, AllByRecursion}
 use Rattle.std.specs.Map.{keys_of, values_of, lookup}
 use Rattle.std.proofs.lemmas.Bool.Decides.{Decides-eqb, Decides-and, Decides-like}

@@ -1,5 +1,5 @@
 -- What a change makes of a table, and when it can be made.
-use Rattle.std.specs.Prelude.{◌≡◌, ℕ, ◌+◌, ◌<◌, ◌^◌, ◌==◌, ◌||◌, ◌&&◌, not, Bool, true, false, List, [], ◌∷◌, map, filter, find, Option, Some, None, is_some, IfSome, option_map, if◌then◌else◌}
+use Rattle.std.specs.Prelude.{◌≡◌, ℕ, ◌+◌, ◌<◌, ◌^◌, ◌==◌, ◌||◌, ◌&&◌, not, Bool, false, List, [], ◌∷◌, map, filter, find, Option, Some, None, is_some, IfSome, option_map, if◌then◌else◌}
 use Rattle.std.specs.List.{list_any}
 use Rattle.member_table.specs.Entries.{identity_of, is_at, is_near, put}
 use Rattle.member_table.specs.Tables.{TableOf, Held, with_actions}

@@ -1,6 +1,5 @@
 -- Entries of a member's table: what tells them apart, and lists of them in the order of insertion.
-use Rattle.std.specs.Prelude.{ℕ, Bool, ◌==◌, ◌&&◌, not, List, [], ◌∷◌, if◌then◌else◌}
-use Rattle.of10_match.specs.Fields.{MatchOf}
+use Rattle.std.specs.Prelude.{ℕ, Bool, ◌==◌, ◌&&◌, List, [], ◌∷◌, if◌then◌else◌}
 use Rattle.of10_match.specs.Matching.{overlaps}
 use Rattle.of10_match.specs.Same.{same_match}
 use Rattle.member_table.specs.declared.entry.Entry.{Entry}

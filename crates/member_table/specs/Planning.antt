@@ -1,8 +1,7 @@
 -- The changes that messages make.
-use Rattle.std.specs.Prelude.{ℕ, List, [], ◌∷◌, map, Option, Some, None, option_to_list}
+use Rattle.std.specs.Prelude.{ℕ, List, [], map, Option, Some, None, option_to_list}
 use Rattle.of10_actions.specs.declared.action.Action.{Action}
 use Rattle.member_table.specs.declared.change.Change.{Change}
-use Rattle.member_table.specs.declared.change.Modified.{Modified}
 use Rattle.member_table.specs.declared.entry.Entry.{Entry}
 
 -- an entry comes, in the place of the one of this number, if there is one

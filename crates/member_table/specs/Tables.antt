@@ -1,5 +1,5 @@
 -- A member's table, and what a message makes of it (sections 4.6 and 5.3.3 of the standard).
-use Rattle.std.specs.Prelude.{ℕ, ◌+◌, ◌==◌, ◌||◌, ◌&&◌, not, Bool, true, false, List, [], ◌∷◌, map, filter, Option, Some, None, if◌then◌else◌}
+use Rattle.std.specs.Prelude.{ℕ, ◌+◌, ◌==◌, ◌||◌, ◌&&◌, not, Bool, true, false, List, map, filter, if◌then◌else◌}
 use Rattle.std.specs.List.{list_any}
 use Rattle.of10_match.specs.Matching.{covers}
 use Rattle.of10_match.specs.OfpMatchFields.{fields_in}
@@ -7,7 +7,7 @@ use Rattle.of10_match.specs.Wildcards.{is_exact, normal_of}
 use Rattle.of10_actions.specs.declared.action.Action.{Action}
 use Rattle.of10_actions.specs.declared.action.Action.TheVariants.{Output}
 use Rattle.of10_msgs.specs.declared.message.FlowMod.{FlowMod}
-use Rattle.member_table.specs.Entries.{identity_of, is_at, put}
+use Rattle.member_table.specs.Entries.{is_at, put}
 use Rattle.member_table.specs.declared.command.Command.{Command}
 use Rattle.member_table.specs.declared.command.Command.TheVariants.{Add, Modify, ModifyStrict, Delete, DeleteStrict}
 use Rattle.member_table.specs.declared.entry.Entry.{Entry}

@@ -1,7 +1,6 @@
-use Rattle.std.proofs.Common.{◌≡◌, ◌∙◌, ◌==◌, ◌↔◌, ℕ, Bool, true, false, IsTrue, refl, sym, ap, ap₂, eq-eqb, eqb-true, if◌then◌else◌, ◌%◌, ◌^◌}
+use Rattle.std.proofs.Common.{◌≡◌, ◌∙◌, ◌==◌, ◌↔◌, ℕ, Bool, true, false, IsTrue, refl, sym, ap, eq-eqb, eqb-true, if◌then◌else◌, ◌%◌, ◌^◌}
 use Rattle.of10_match.specs.OfpMatchFields.{fields_in}
-use Rattle.member_table.specs.Tables.{identity_in, rank_of}
-use Rattle.member_table.specs.declared.entry.Identity.{Identity}
+use Rattle.member_table.specs.Tables.{rank_of}
 use Rattle.member_table.proofs.plan.identity_of.Goals as goal
 use Rattle.member_table.proofs.plan.identity_of.Goals.{then-read, else-read}
 

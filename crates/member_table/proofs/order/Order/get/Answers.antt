@@ -1,5 +1,4 @@
-use Rattle.std.proofs.Common.{Some, None, ◌∙◌, sym, ap, find, slice_get}
-use Rattle.std.specs.List.{list_any}
+use Rattle.std.proofs.Common.{◌∙◌, sym, ap, find, slice_get}
 use Rattle.member_table.specs.Entries.{has_serial}
 use Rattle.member_table.proofs.Lists.{find-first, find-none}
 use Rattle.member_table.proofs.Steps.{first_serial, no_serial}

@@ -1,6 +1,6 @@
 use Rattle.std.proofs.Common.{◌∙◌, ap, find}
 use Rattle.member_table.specs.Entries.{is_at}
-use Rattle.member_table.proofs.Steps.{lookup-find, in_step-put}
+use Rattle.member_table.proofs.Steps.{lookup-find}
 use Rattle.member_table.proofs.order.Order.identical.Goals as goal
 
 pub returns : goal.returns

@@ -1,4 +1,4 @@
-use Rattle.std.proofs.Common.{◌≡◌, ◌∙◌, sym, ap, find, false, subst, position, is_some, OnOk, IfOk, Result, Ok}
+use Rattle.std.proofs.Common.{◌≡◌, ◌∙◌, ap, find, subst, position, is_some, OnOk, IfOk, Result, Ok}
 use Rattle.std.specs.List.{list_any}
 use Rattle.std.specs.Map.{keys_of, values_of, lookup}
 use Rattle.indexmap.specs.IndexMap.{insert_entry}

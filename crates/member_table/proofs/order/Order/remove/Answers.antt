@@ -1,11 +1,6 @@
-use Rattle.std.proofs.Common.{◌≡◌, ◌∙◌, ℕ, List, sym, ap, map, not, filter, find, remove, slice_get, option_map, Some, None, subst, subst₂}
-use Rattle.std.specs.List.{list_any, IsDistinct}
-use Rattle.std.specs.Map.{keys_of, values_of}
+use Rattle.std.proofs.Common.{◌≡◌, ◌∙◌, sym, ap, map, not, filter, find, option_map}
 use Rattle.std.proofs.lemmas.Option.{slice_get-map}
 use Rattle.member_table.specs.Entries.{has_serial}
-use Rattle.member_table.specs.Orders.{IsInStep}
-use Rattle.member_table.specs.declared.entry.Entry.{Entry}
-use Rattle.member_table.specs.declared.entry.Identity.{Identity}
 use Rattle.member_table.proofs.Lists.{filter-first, filter-none, find-first, find-none, map-remove}
 use Rattle.member_table.proofs.Steps.{first_serial, no_serial, once_in_step, in_step-remove}
 use Rattle.member_table.proofs.order.Order.remove.Goals as goal

@@ -1,4 +1,4 @@
-use Rattle.std.proofs.Common.{◌≡◌, ◌∙◌, sym, ap, map, refl, if◌then◌else◌}
+use Rattle.std.proofs.Common.{◌∙◌, sym, ap, map, refl, if◌then◌else◌}
 use Rattle.std.specs.List.{list_any}
 use Rattle.member_table.specs.Entries.{has_serial}
 use Rattle.member_table.specs.declared.entry.Entry.{Entry}

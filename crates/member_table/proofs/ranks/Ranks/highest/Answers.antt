@@ -1,4 +1,4 @@
-use Rattle.std.proofs.Common.{◌≡◌, ap, sym, ◌∙◌, subst, Option, Some, None, MatchOption, find, List, false, Bor, option_copied}
+use Rattle.std.proofs.Common.{◌≡◌, ap, sym, ◌∙◌, subst, Option, Some, None, MatchOption, find, false, Bor, option_copied}
 use Rattle.std.specs.List.{list_any}
 use Rattle.member_table.specs.Ranking.{IsTop, holds_it}
 use Rattle.member_table.specs.declared.ranked.Ranked.{Ranked}

@@ -1,4 +1,4 @@
-use Rattle.std.proofs.Common.{◌≡◌, ◌≤◌, ◌<◌, ◌+◌, ◌-◌, ◌==◌, ◌&&◌, not, nat_lt, ℕ, Bool, true, false, List, Option, Some, None, MatchOption, ◌∙◌, sym, ap, subst, subst₂, length, take, drop, arith, le_refl, rules, eqb-true, true≢false, suc, leb-true}
+use Rattle.std.proofs.Common.{◌≡◌, ◌≤◌, ◌<◌, ◌+◌, ◌-◌, ◌==◌, ◌&&◌, not, nat_lt, ℕ, Bool, true, false, List, Option, Some, None, ◌∙◌, subst, length, take, drop, arith, eqb-true}
 use Rattle.std.specs.List.{list_any, AllByRecursion}
 use Rattle.of10_match.specs.Matching.{overlaps}
 use Rattle.member_table.specs.Entries.{is_near, same_identity}

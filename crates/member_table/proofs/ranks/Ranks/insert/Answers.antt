@@ -1,4 +1,4 @@
-use Rattle.std.proofs.Common.{◌≡◌, ◌≤◌, ◌<◌, ℕ, ◌∙◌, ap, subst₂, is_ok, if◌then◌else◌, List, subst, sym, take, drop, insert, arith, rules}
+use Rattle.std.proofs.Common.{◌≡◌, ◌≤◌, ◌<◌, ℕ, ◌∙◌, ap, subst₂, is_ok, if◌then◌else◌, List, subst, sym, take, drop, insert}
 use Rattle.std.specs.List.{AllByRecursion}
 use Rattle.member_table.specs.Ranking.{RanksFall}
 use Rattle.member_table.specs.declared.ranked.Ranked.{Ranked}

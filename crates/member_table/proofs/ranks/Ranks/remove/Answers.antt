@@ -1,13 +1,10 @@
-use Rattle.std.proofs.Common.{◌≡◌, ◌≤◌, ◌<◌, ◌+◌, ◌-◌, ◌==◌, ◌&&◌, ◌||◌, not, nat_lt, ℕ, Bool, true, false, List, [], ◌++◌, Option, Some, None, ◌∙◌, sym, ap, subst, subst₂, length, take, drop, remove, position, count_by, sum_by, get_or, cond, if◌then◌else◌, arith, refl, true≢false, eqb-true, take_all, length-drop, Decides, get_or-drop, le_refl}
+use Rattle.std.proofs.Common.{◌≡◌, ◌≤◌, ◌<◌, ◌+◌, ◌-◌, ℕ, Bool, true, false, List, Some, None, ◌∙◌, sym, ap, subst, length, take, drop, remove, position, count_by, get_or, cond, arith, refl, take_all, length-drop, get_or-drop, le_refl}
 use Rattle.std.specs.List.{list_any, AllByRecursion}
 use Rattle.std.proofs.lemmas.List.{take-append-drop}
 use Rattle.std.proofs.lemmas.List.Folds.{list_any-append}
 use Rattle.std.proofs.lemmas.List.Sums.{sum_by-remove}
 use Rattle.std.proofs.lemmas.List.Quantifiers.{position-Some}
-use Rattle.std.proofs.lemmas.Bool.Decides.{Decides-eqb, Decides-and, Decides-like}
-use Rattle.member_table.specs.Entries.{same_identity}
 use Rattle.member_table.specs.Ranking.{AddsTo, RanksFall, same_ranked}
-use Rattle.member_table.specs.declared.entry.Identity.{Identity}
 use Rattle.member_table.specs.declared.ranked.Ranked.{Ranked}
 use Rattle.member_table.proofs.Lists.{position-any}
 use Rattle.member_table.proofs.SameRanked.{ranked_decides}

@@ -1,13 +1,10 @@
-use Rattle.std.proofs.Common.{◌≡◌, ◌∙◌, ℕ, ◌≤◌, ◌<◌, ◌&&◌, Bool, true, false, not, sym, ap, refl, find, map, length, is_some, Some, None, Option, if◌then◌else◌, nat_le, le-leb, leb-true, true≢false, lt_irrefl, lt_of_lt_of_le, arith, subst}
+use Rattle.std.proofs.Common.{◌≡◌, ◌∙◌, ℕ, ◌≤◌, ◌<◌, ◌&&◌, Bool, true, false, not, sym, ap, refl, length, is_some, Some, None, if◌then◌else◌, nat_le, le-leb, leb-true, arith}
 use Rattle.std.specs.List.{list_any}
 use Rattle.member_table.specs.Entries.{is_at}
-use Rattle.member_table.specs.Ranking.{ranked_of}
 use Rattle.member_table.specs.Refusals.{overlapped, refusal_by, refusal_of}
 use Rattle.member_table.specs.Tables.{TableOf}
-use Rattle.member_table.specs.declared.entry.Entry.{Entry}
 use Rattle.member_table.specs.declared.entry.Identity.{Identity}
-use Rattle.member_table.specs.declared.fault.TableFault.{TableFault}
-use Rattle.member_table.specs.declared.fault.TableFault.TheVariants.{Overlap, Entries}
+use Rattle.member_table.specs.declared.fault.TableFault.TheVariants.{Entries}
 use Rattle.member_table.proofs.Counts.{same_any}
 use Rattle.member_table.proofs.Kept.{table_of}
 use Rattle.member_table.proofs.Lists.{any_find}

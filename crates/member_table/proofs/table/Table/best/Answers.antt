@@ -1,5 +1,4 @@
-use Rattle.std.proofs.Common.{◌≡◌, ◌∙◌, ◌==◌, ◌&&◌, sym, ap, map, Some, option_map, nat_lt}
-use Rattle.std.specs.List.{list_any}
+use Rattle.std.proofs.Common.{◌∙◌, ◌==◌, ◌&&◌, sym, ap, map, Some, option_map, nat_lt}
 use Rattle.member_table.specs.Best.{best_entry}
 use Rattle.member_table.specs.Ranking.{holds_it, ranked_of}
 use Rattle.member_table.specs.declared.ranked.Ranked.{Ranked}

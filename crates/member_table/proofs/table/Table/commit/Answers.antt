@@ -1,12 +1,12 @@
-use Rattle.std.proofs.Common.{◌≡◌, ◌∙◌, ℕ, ◌==◌, if◌then◌else◌, ◌<◌, ◌+◌, ◌^◌, ◌&&◌, ◌||◌, Bool, true, false, not, cond, List, [], ◌∷◌, map, filter, sym, ap, ap₂, subst, refl, IfSome, Some, Option, option_map, find}
+use Rattle.std.proofs.Common.{◌≡◌, ◌∙◌, ℕ, ◌==◌, if◌then◌else◌, ◌<◌, ◌+◌, ◌^◌, ◌&&◌, ◌||◌, Bool, true, false, not, cond, List, [], ◌∷◌, map, filter, sym, ap, ap₂, subst, refl, IfSome, Some, Option}
 use Rattle.std.specs.List.{list_any}
 use Rattle.member_table.specs.Changes.{CanAdd, changed_by, replaced, stays}
-use Rattle.member_table.specs.Entries.{identity_of, is_at, is_near, same_identity}
-use Rattle.member_table.specs.Tables.{TableOf, with_actions}
+use Rattle.member_table.specs.Entries.{identity_of, is_near, same_identity}
+use Rattle.member_table.specs.Tables.{with_actions}
 use Rattle.member_table.specs.declared.change.Modified.{Modified}
 use Rattle.member_table.specs.declared.entry.Entry.{Entry}
 use Rattle.member_table.proofs.Changing.{altered, emptied}
-use Rattle.member_table.proofs.Sounds.{is_blocked, either_way}
+use Rattle.member_table.proofs.Sounds.{is_blocked}
 use Rattle.member_table.proofs.table.Table.commit.Goals as goal
 
 same_changed : (ms : List Modified) (e : Entry) → identity_of (changed_by ms e) ≡ identity_of e

@@ -1,4 +1,4 @@
-use Rattle.std.proofs.Common.{◌≡◌, ◌∙◌, ◌&&◌, sym, ap, find, false, subst, IfOk, Result, Ok, Err, List, [], ◌∷◌, if◌then◌else◌}
+use Rattle.std.proofs.Common.{◌∙◌, ◌&&◌, sym, ap, IfOk, Result, Ok, Err, [], ◌∷◌, if◌then◌else◌}
 use Rattle.member_table.specs.Entries.{is_at}
 use Rattle.member_table.specs.Tables.{outputs_to}
 use Rattle.member_table.specs.Timeouts.{serials_of}

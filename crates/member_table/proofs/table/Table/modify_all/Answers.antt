@@ -1,4 +1,4 @@
-use Rattle.std.proofs.Common.{◌≡◌, ◌∙◌, ◌<◌, ◌++◌, ◌∷◌, [], List, refl, sym, ap, subst, length, length-append, arith, true≢false}
+use Rattle.std.proofs.Common.{◌≡◌, ◌∙◌, ◌<◌, ◌++◌, ◌∷◌, [], List, refl, sym, ap, length, length-append, arith, true≢false}
 use Rattle.member_table.specs.declared.change.Modified.{Modified}
 use Rattle.member_table.proofs.Changing.{altered, unaltered, altered_pushed}
 use Rattle.member_table.proofs.table.Table.modify_all.Goals as goal

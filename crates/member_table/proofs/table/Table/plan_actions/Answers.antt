@@ -1,11 +1,10 @@
-use Rattle.std.proofs.Common.{◌≡◌, ◌∙◌, ◌==◌, ◌&&◌, ℕ, Bool, true, false, not, List, [], length, map, sym, ap, ap₂, subst, refl, IfOk, IfErr, OnOk, Option, None, if◌then◌else◌}
+use Rattle.std.proofs.Common.{◌≡◌, ◌∙◌, ◌==◌, ◌&&◌, ℕ, Bool, true, false, not, List, length, map, sym, ap, ap₂, subst, refl, IfOk, IfErr, OnOk, Option, None, if◌then◌else◌}
 use Rattle.std.specs.List.{list_any}
 use Rattle.member_table.specs.Changes.{committed}
-use Rattle.member_table.specs.Refusals.{IsFaultOf, refusal_of, refusal_unless}
+use Rattle.member_table.specs.Refusals.{IsFaultOf, refusal_of}
 use Rattle.member_table.specs.Sound.{IsSound}
 use Rattle.member_table.specs.Tables.{Held, TableOf, identity_in, is_meant, modified, with_actions, with_entry, outputs_to}
 use Rattle.member_table.specs.Timeouts.{serials_of}
-use Rattle.member_table.specs.declared.change.Change.{Change}
 use Rattle.member_table.specs.declared.change.Modified.{Modified}
 use Rattle.member_table.specs.declared.entry.Identity.{Identity}
 use Rattle.member_table.specs.declared.fault.TableFault.{TableFault}

@@ -1,9 +1,9 @@
-use Rattle.std.proofs.Common.{◌≡◌, ◌∙◌, ◌<◌, ◌+◌, ◌^◌, sym, ap, ap₂, subst, IfSome, Some, None, find, option_map}
-use Rattle.member_table.specs.Changes.{CanAdd, CanCommit, committed}
+use Rattle.std.proofs.Common.{◌≡◌, ◌∙◌, sym, ap, subst, None, find, option_map}
+use Rattle.member_table.specs.Changes.{CanCommit, committed}
 use Rattle.member_table.specs.Entries.{is_at}
 use Rattle.member_table.specs.Planning.{adding}
 use Rattle.member_table.specs.Refusals.{refusal_of}
-use Rattle.member_table.specs.Tables.{TableOf, entry_of, identity_in}
+use Rattle.member_table.specs.Tables.{entry_of}
 use Rattle.member_table.specs.declared.change.Change.{Change}
 use Rattle.member_table.specs.declared.entry.Identity.{Identity}
 use Rattle.member_table.proofs.Plans.{adding_is, ready_is}

@@ -1,9 +1,7 @@
-use Rattle.std.proofs.Common.{◌≡◌, ◌∙◌, ◌&&◌, not, filter, List, ap, ap₂, subst, None}
+use Rattle.std.proofs.Common.{◌∙◌, ◌&&◌, not, filter, ap, ap₂, subst, None}
 use Rattle.member_table.specs.Changes.{committed}
 use Rattle.member_table.specs.Sound.{IsSound}
-use Rattle.member_table.specs.Tables.{Held, deleted, is_meant, outputs_to}
-use Rattle.member_table.specs.declared.change.Change.{Change}
-use Rattle.member_table.specs.declared.entry.Entry.{Entry}
+use Rattle.member_table.specs.Tables.{Held, is_meant, outputs_to}
 use Rattle.member_table.proofs.Plans.{removing_is}
 use Rattle.member_table.proofs.table.Table.plan_removal.Goals as goal
 

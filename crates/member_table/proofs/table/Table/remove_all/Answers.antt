@@ -1,6 +1,4 @@
-use Rattle.std.proofs.Common.{◌≡◌, ◌∙◌, ◌==◌, ℕ, ◌<◌, ◌++◌, ◌∷◌, [], List, Bool, true, false, not, refl, sym, ap, subst, length, length-append, arith, Some, Option, true≢false}
-use Rattle.std.specs.Option.{option_eq}
-use Rattle.member_table.specs.Tables.{TableOf}
+use Rattle.std.proofs.Common.{◌≡◌, ◌∙◌, ℕ, ◌<◌, ◌++◌, ◌∷◌, [], List, Bool, true, false, not, refl, sym, ap, length, length-append, arith, true≢false}
 use Rattle.member_table.proofs.Changing.{emptied, all_stay, stays_dropped, stays_kept}
 use Rattle.member_table.proofs.table.Table.remove_all.Goals as goal
 
