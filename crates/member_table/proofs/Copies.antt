@@ -1,8 +1,9 @@
 -- Entries are copied one after the other.
-use Rattle.std.proofs.Common.{◌≡◌, ℕ, zero, suc, ◌<◌, ◌+◌, Bool, true, false, ◌==◌, List, [], ◌∷◌, length, take, map, slice_get, refl, sym, ap₂, subst, ◌∙◌, arith, true≢false, Some, None, eqb-true, eq-eqb}
+use Rattle.std.proofs.Common.{◌≡◌, ℕ, zero, suc, ◌<◌, ◌≤◌, ◌+◌, Bool, true, false, ◌==◌, List, [], ◌∷◌, length, take, map, slice_get, refl, sym, ap₂, subst, ◌∙◌, arith, true≢false, Some, None, eqb-true, eq-eqb}
 use Rattle.std.specs.List.{list_any, AllByRecursion, IsDistinct}
 use Rattle.std.proofs.lemmas.Option.{slice_get_within, get_or_from_slice_get}
 use Rattle.member_table.specs.Entries.{identity_of, has_serial, is_at, put}
+use Rattle.member_table.specs.Orders.{OrderOf}
 use Rattle.member_table.specs.Sound.{AreApart, EachPair}
 use Rattle.member_table.specs.declared.entry.Entry.{Entry}
 use Rattle.member_table.proofs.Lists.{take_pushed}
@@ -44,10 +45,17 @@ apart_before (x ∷ es) zero e d g = refl
 apart_before (x ∷ es) (suc i) e d g =
     rw (not_at x e (at_place (AreApart x) es i e d.0 g) (is_at (identity_of e) x) refl) (apart_before es i e d.1 g)
 
--- so its copy goes last
-pub put_next : (es before : List Entry) (i : ℕ) (e copy : Entry) → EachPair AreApart es → before ≡ take i es → Some e ≡ slice_get es i → copy ≡ e → put copy before ≡ take (i + 1) es
-put_next es before i e copy a b g c =
-    ap₂ put c b ∙ (put-none e (take i es) (apart_before es i e a (sym g)) ∙ sym (take_pushed es i e (slice_get_within es i e (sym g)) (sym (get_or_from_slice_get es i e e (sym g)))))
+-- so many are copied, and there is room for the rest
+abbrev pub IsCopiedTo : List Entry → ℕ → OrderOf → Type 0
+IsCopiedTo es i copied = (copied.entries ≡ take i es) × (length es ≤ copied.room + i)
+
+-- the copy of the next one goes last
+pub copied_next : (es : List Entry) (i : ℕ) (before after : OrderOf) (e copy : Entry) → EachPair AreApart es → IsCopiedTo es i before → Some e ≡ slice_get es i → copy ≡ e
+    → after.entries ≡ put copy before.entries → before.room ≤ after.room + 1 → IsCopiedTo es (i + 1) after
+copied_next es i before after e copy a b g c p room =
+    let held = b.1 in
+    let last = put-none e (take i es) (apart_before es i e a (sym g)) ∙ sym (take_pushed es i e (slice_get_within es i e (sym g)) (sym (get_or_from_slice_get es i e e (sym g)))) in
+    (p ∙ (ap₂ put c b.0 ∙ last), omega arith)
 
 -- at each place there is one
 pub held_at : {X : Type 0} (xs : List X) (i : ℕ) → i < length xs → None ≡ slice_get xs i → ⊥

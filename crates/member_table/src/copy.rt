@@ -15,9 +15,9 @@ fn copied(alloc: Global, order: &Order) -> Result<Order, Memory>
     ensures { IfOk result (λ copied. copied.entries ≡ order.now.entries) }
 {
     let mut copied = Order::new(alloc);
+    copied.reserve(order.len())?;
     for place in 0..order.len() {
         if let Some(entry) = order.at(place) {
-            copied.reserve(1)?;
             copied.put(entry.copy()?);
         }
     }
