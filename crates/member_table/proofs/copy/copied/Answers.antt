@@ -1,4 +1,4 @@
-use Rattle.std.proofs.Common.{◌≡◌, ◌<◌, ◌+◌, length, Some, option_copied, sym, ap, subst, ◌∙◌}
+use Rattle.std.proofs.Common.{◌<◌, ◌+◌, length, Some, option_copied, sym, ap, subst, ◌∙◌}
 use Rattle.std.specs.List.{list_any}
 use Rattle.member_table.specs.Entries.{has_serial}
 use Rattle.member_table.specs.Orders.{OrderOf}
@@ -17,9 +17,9 @@ loop-place-preserved c =
     let next : OrderOf → Type 0 = IsCopiedTo es (c.loop-place.place + 1) in
     let within : c.loop-place.place < length es = subst (λ n. c.loop-place.place < n) c.len-place-end.ensures c.loop-place-test.true in
     elim c.match-at.branch [
-    in-Some+in_ok-copy+in-Some-1 w ↦
-        subst next (sym w.copied-is) (copied_next es c.loop-place.place c.loop-place.copied _ _ _ c.requires.apart c.loop-place.invariant w.in-Some.ensures w.in_ok-copy.ensures w.put.ensures.entries w.put.ensures.room)
-  | in-Some+in_ok-copy+in-None-1 w ↦
-        subst next (sym w.copied-is) (copied_next es c.loop-place.place c.loop-place.copied _ _ _ c.requires.apart c.loop-place.invariant w.in-Some.ensures w.in_ok-copy.ensures w.put.ensures.entries w.put.ensures.room)
-  | in_default w ↦ absurd (held_at es c.loop-place.place within (ap option_copied (sym w.in_default.is) ∙ c.at.ensures))
-  ]
+      | in-Some+in_ok-copy+in-Some-1 w ↦
+          subst next (sym w.copied-is) (copied_next es c.loop-place.place c.loop-place.copied _ _ _ c.requires.apart c.loop-place.invariant w.in-Some.ensures w.in_ok-copy.ensures w.put.ensures.entries w.put.ensures.room)
+      | in-Some+in_ok-copy+in-None-1 w ↦
+          subst next (sym w.copied-is) (copied_next es c.loop-place.place c.loop-place.copied _ _ _ c.requires.apart c.loop-place.invariant w.in-Some.ensures w.in_ok-copy.ensures w.put.ensures.entries w.put.ensures.room)
+      | in_default w ↦ absurd (held_at es c.loop-place.place within (ap option_copied (sym w.in_default.is) ∙ c.at.ensures))
+    ]
