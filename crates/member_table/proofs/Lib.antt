@@ -10,3 +10,4 @@ pub mod Bests
 pub mod Means
 pub mod Changing
 pub mod Plans
+pub mod Copies

@@ -6,6 +6,7 @@
 pub mod change;
 pub mod command;
 mod commit;
+mod copy;
 mod due;
 pub mod entry;
 pub mod fault;

@@ -1,5 +1,5 @@
 //! The matches of a table's entries, found by their ranks.
-ghost use Rattle.std.specs.Prelude.{◌≡◌, ◌<◌, ◌≤◌, ◌+◌, [], true, false, MatchOption, OnOk, option_map};
+ghost use Rattle.std.specs.Prelude.{◌≡◌, ◌<◌, ◌≤◌, ◌+◌, [], true, false, MatchOption, IfOk, OnOk, option_map};
 ghost use Rattle.std.specs.List.{list_any};
 ghost use Rattle.std.specs.Option.{ForSome};
 ghost use Rattle.member_table.specs.Ranking.{AddsTo, Exchanges, ranked_of, IsLeastOf, IsTop, holds_it, is_in_way, same_ranked};
@@ -37,6 +37,15 @@ impl Ranks {
         Ranks {
             items: Vec::new(alloc),
         }
+    }
+
+    /// The same matches.
+    pub fn copied(&self, alloc: Global) -> Result<Ranks, Memory>
+        ensures { IfOk result (λ copied. copied.items ≡ self.now.items) }
+    {
+        Ok(Ranks {
+            items: Vec::from_slice(alloc, &self.items)?,
+        })
     }
 
     /// Makes room for so many more.

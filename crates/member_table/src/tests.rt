@@ -1,5 +1,5 @@
 use super::*;
-use cv_io::List;
+use cv_io::{Duplicate, List};
 use of10_actions::{Action, port};
 use of10_match::Header;
 use of10_match::ofp_match::{OfpMatch, wildcard};
@@ -281,5 +281,27 @@ fn an_exact_match_is_above_every_priority(rt: HostRuntime) -> Result<(), Fail> {
     assert!(rt; table.get(4).is_none());
     assert_eq!(rt; table.get(5).map(|entry| entry.priority), Some(5));
     assert!(rt; !table.is_empty());
+    Ok(())
+}
+
+#[test]
+fn a_copy_plans_as_its_table(rt: HostRuntime) -> Result<(), Fail> {
+    let alloc = rt.alloc();
+    let mut table = Table::new(alloc, 3);
+    for (in_port, output) in [(1, 4), (2, 5)] {
+        let m = message(alloc, ADD, 10, from_port(Some(in_port)), output, port::NONE)?;
+        apply(&mut table, &m, 7)?;
+    }
+    assert!(rt; table.drop_serial(1));
+    let mut copied = table.copy()?;
+    assert_eq!(rt; copied.len(), 1);
+    assert_eq!(rt; shown(alloc, &copied)?.as_str(), " 2>5");
+    let m = message(alloc, ADD, 10, from_port(Some(3)), 6, port::NONE)?;
+    let change = copied.plan(&m, 8)?;
+    assert_eq!(rt; change.added.as_ref().map(|entry| entry.serial), Some(3));
+    assert_eq!(rt; table.plan(&m, 8)?, change);
+    copied.commit(change);
+    assert_eq!(rt; shown(alloc, &copied)?.as_str(), " 2>5 3>6");
+    assert_eq!(rt; shown(alloc, &table)?.as_str(), " 2>5");
     Ok(())
 }
