@@ -113,6 +113,20 @@ fn six(alloc: Global, limit: u32) -> Result<Table, Fail> {
     Ok(table)
 }
 
+/// What a message makes of the six entries.
+fn shown_after(
+    alloc: Global,
+    command: u16,
+    priority: u16,
+    in_port: Option<u16>,
+    out_port: u16,
+) -> Result<String, Fail> {
+    let mut table = six(alloc, 7)?;
+    let m = message(alloc, command, priority, from_port(in_port), 9, out_port)?;
+    apply(&mut table, &m, 8)?;
+    shown(alloc, &table)
+}
+
 #[test]
 fn five_commands_over_six_entries(rt: HostRuntime) -> Result<(), Fail> {
     let alloc = rt.alloc();
@@ -173,13 +187,22 @@ fn five_commands_over_six_entries(rt: HostRuntime) -> Result<(), Fail> {
         ),
     ];
     for (command, priority, in_port, out_port, want) in rows {
-        let mut table = six(alloc, 7)?;
-        let m = message(alloc, command, priority, from_port(in_port), 9, out_port)?;
-        apply(&mut table, &m, 8)?;
-        let got = shown(alloc, &table)?;
+        let got = shown_after(alloc, command, priority, in_port, out_port)?;
         assert_eq!(rt; got.as_str(), want, "command {command} at {priority}");
     }
     Ok(())
+}
+
+/// Why a message to the six entries of a full table is refused.
+fn refused(
+    alloc: Global,
+    command: u16,
+    priority: u16,
+    in_port: Option<u16>,
+) -> Result<Option<TableFault>, Fail> {
+    let mut table = six(alloc, 6)?;
+    let m = message(alloc, command, priority, from_port(in_port), 9, port::NONE)?;
+    Ok(apply(&mut table, &m, 8).err())
 }
 
 #[test]
@@ -199,19 +222,14 @@ fn refusals(rt: HostRuntime) -> Result<(), Fail> {
         (ADD, 20, Some(1), None),
     ];
     for (command, priority, in_port, want) in rows {
-        let mut table = six(alloc, 6)?;
-        let m = message(alloc, command, priority, from_port(in_port), 9, port::NONE)?;
-        let got = apply(&mut table, &m, 8).err();
+        let got = refused(alloc, command, priority, in_port)?;
         assert_eq!(rt; got, want, "command {command} at {priority}");
     }
-    let text = format!(in alloc; "{}", TableFault::Entries { limit: 6 })?;
-    assert_eq!(rt; text.as_str(), "the table holds its limit of 6 entries");
     Ok(())
 }
 
-#[test]
-fn timeouts_are_due_at_their_second(rt: HostRuntime) -> Result<(), Fail> {
-    let alloc = rt.alloc();
+/// Four entries that are added at 100, with their idle and hard timeouts.
+fn timed(alloc: Global) -> Result<Table, Fail> {
     let mut table = Table::new(alloc, 4);
     for (priority, idle_timeout, hard_timeout) in [(1, 0, 10), (2, 5, 0), (3, 0, 0), (4, 5, 5)] {
         let mut m = message(alloc, ADD, priority, from_port(None), 1, port::NONE)?;
@@ -219,29 +237,47 @@ fn timeouts_are_due_at_their_second(rt: HostRuntime) -> Result<(), Fail> {
         m.hard_timeout = hard_timeout;
         apply(&mut table, &m, 100)?;
     }
-    let rows: [(u64, &[u64], &[u64]); 4] = [
-        (104, &[], &[]),
-        (105, &[4], &[2]),
-        (109, &[4], &[2]),
-        (110, &[1, 4], &[2]),
-    ];
-    for (now, hard, idle) in rows {
-        let due = table.due(now)?;
-        assert_eq!(rt; due.hard.as_slice(), hard, "hard at {now}");
-        assert_eq!(rt; due.idle.as_slice(), idle, "idle at {now}");
+    Ok(table)
+}
+
+/// The numbers that are due, by their hard timeouts and by their idle ones.
+fn due_shown(alloc: Global, table: &Table, now: u64) -> Result<String, Fail> {
+    let due = table.due(now)?;
+    Ok(format!(in alloc; "{:?} {:?}", due.hard.as_slice(), due.idle.as_slice())?)
+}
+
+#[test]
+fn timeouts_are_due_at_their_second(rt: HostRuntime) -> Result<(), Fail> {
+    let alloc = rt.alloc();
+    let table = timed(alloc)?;
+    for (now, want) in [
+        (104, "[] []"),
+        (105, "[4] [2]"),
+        (109, "[4] [2]"),
+        (110, "[1, 4] [2]"),
+    ] {
+        let got = due_shown(alloc, &table, now)?;
+        assert_eq!(rt; got.as_str(), want, "at {now}");
     }
-    assert!(rt; table.touch(2, 106));
-    assert_eq!(rt; table.due(110)?.idle.as_slice(), [].as_slice());
-    assert_eq!(rt; table.due(111)?.idle.as_slice(), [2].as_slice());
-    assert!(rt; !table.touch(9, 106));
     Ok(())
 }
 
 #[test]
-fn an_exact_match_is_above_every_priority(rt: HostRuntime) -> Result<(), Fail> {
+fn a_touched_entry_is_due_later(rt: HostRuntime) -> Result<(), Fail> {
     let alloc = rt.alloc();
-    let mut table = six(alloc, 9)?;
-    let header = Header {
+    let mut table = timed(alloc)?;
+    assert!(rt; table.touch(2, 106));
+    assert!(rt; !table.touch(9, 106));
+    for (now, want) in [(110, "[1, 4] []"), (111, "[1, 4] [2]")] {
+        let got = due_shown(alloc, &table, now)?;
+        assert_eq!(rt; got.as_str(), want, "at {now}");
+    }
+    Ok(())
+}
+
+/// A packet of ARP that comes by port 1.
+fn packet() -> Header {
+    Header {
         in_port: 1,
         dl_src: 1,
         dl_dst: 2,
@@ -254,9 +290,12 @@ fn an_exact_match_is_above_every_priority(rt: HostRuntime) -> Result<(), Fail> {
         nw_dst: 4,
         tp_src: 0,
         tp_dst: 0,
-    };
-    assert_eq!(rt; table.best(&header), Some(4));
-    let exact = OfpMatch {
+    }
+}
+
+/// The match of that packet alone, written without a wildcard.
+fn exact() -> [u8; MATCH] {
+    OfpMatch {
         wildcards: 0,
         in_port: 1,
         dl_src: 1,
@@ -270,37 +309,50 @@ fn an_exact_match_is_above_every_priority(rt: HostRuntime) -> Result<(), Fail> {
         nw_dst: 4,
         tp_src: 0,
         tp_dst: 0,
-    };
-    let m = message(alloc, ADD, 0, exact.to_bytes(), 1, port::NONE)?;
+    }
+    .to_bytes()
+}
+
+#[test]
+fn an_exact_match_is_above_every_priority(rt: HostRuntime) -> Result<(), Fail> {
+    let alloc = rt.alloc();
+    let mut table = six(alloc, 9)?;
+    assert_eq!(rt; table.best(&packet()), Some(4));
+    let m = message(alloc, ADD, 0, exact(), 1, port::NONE)?;
     apply(&mut table, &m, 8)?;
-    assert_eq!(rt; table.best(&header), Some(7));
-    assert!(rt; table.drop_serial(7));
-    assert!(rt; !table.drop_serial(7));
-    assert!(rt; table.drop_serial(4));
-    assert_eq!(rt; table.best(&header), Some(3));
-    assert!(rt; table.get(4).is_none());
-    assert_eq!(rt; table.get(5).map(|entry| entry.priority), Some(5));
-    assert!(rt; !table.is_empty());
+    assert_eq!(rt; table.best(&packet()), Some(7));
     Ok(())
 }
 
 #[test]
-fn a_copy_plans_as_its_table(rt: HostRuntime) -> Result<(), Fail> {
-    let alloc = rt.alloc();
+fn entries_go_by_their_numbers(rt: HostRuntime) -> Result<(), Fail> {
+    let mut table = six(rt.alloc(), 6)?;
+    assert!(rt; table.drop_serial(4));
+    assert!(rt; !table.drop_serial(4));
+    assert_eq!(rt; table.best(&packet()), Some(3));
+    assert!(rt; table.get(4).is_none());
+    assert_eq!(rt; table.get(5).map(|entry| entry.priority), Some(5));
+    Ok(())
+}
+
+/// A table of one entry, whose number is 2.
+fn of_number_two(alloc: Global) -> Result<Table, Fail> {
     let mut table = Table::new(alloc, 3);
     for (in_port, output) in [(1, 4), (2, 5)] {
         let m = message(alloc, ADD, 10, from_port(Some(in_port)), output, port::NONE)?;
         apply(&mut table, &m, 7)?;
     }
-    assert!(rt; table.drop_serial(1));
+    table.drop_serial(1);
+    Ok(table)
+}
+
+#[test]
+fn a_copy_goes_on_as_its_table(rt: HostRuntime) -> Result<(), Fail> {
+    let alloc = rt.alloc();
+    let table = of_number_two(alloc)?;
     let mut copied = table.copy()?;
-    assert_eq!(rt; copied.len(), 1);
-    assert_eq!(rt; shown(alloc, &copied)?.as_str(), " 2>5");
     let m = message(alloc, ADD, 10, from_port(Some(3)), 6, port::NONE)?;
-    let change = copied.plan(&m, 8)?;
-    assert_eq!(rt; change.added.as_ref().map(|entry| entry.serial), Some(3));
-    assert_eq!(rt; table.plan(&m, 8)?, change);
-    copied.commit(change);
+    apply(&mut copied, &m, 8)?;
     assert_eq!(rt; shown(alloc, &copied)?.as_str(), " 2>5 3>6");
     assert_eq!(rt; shown(alloc, &table)?.as_str(), " 2>5");
     Ok(())
