@@ -1,0 +1,58 @@
+//! The messages that are sent.
+ghost use Rattle.std.specs.Prelude.{◌≡◌, IfOk};
+ghost use Rattle.of10_match.specs.Ranges.{IsPrefix};
+
+use cv_io::{List, Memory};
+use of10_actions::{Action, port};
+use of10_match::{Match, Prefix};
+use of10_msgs::FlowMod;
+use std::alloc::Global;
+
+/// The commands (`ofp_flow_mod_command`, section 5.3.3).
+pub const ADD: u16 = 0;
+
+pub const MODIFY_STRICT: u16 = 2;
+
+pub const DELETE_STRICT: u16 = 4;
+
+/// The net 10.x.y.0/24 of this number.
+fn net(number: u16) -> Prefix
+    ensures { IsPrefix result }
+{
+    Prefix {
+        addr: (0x000a_0000 + u32::from(number)) * 256,
+        len: 24,
+    }
+}
+
+/// Packets to the net of this number.
+fn to_net(number: u16) -> Match {
+    Match {
+        dl_type: Some(0x0800),
+        nw_dst: Some(net(number)),
+        ..Match::everything()
+    }
+}
+
+/// A command for the entry of this number, which sends its packets to the port of the command's number
+/// and one.
+pub fn message(alloc: Global, command: u16, number: u16) -> Result<FlowMod, Memory>
+    ensures { IfOk result (λ m. m.command ≡ command) }
+{
+    let to = Action::Output {
+        port: command.wrapping_add(1),
+        max_len: 0,
+    };
+    Ok(FlowMod {
+        m: to_net(number).write(),
+        cookie: u64::from(number),
+        command,
+        idle_timeout: 0,
+        hard_timeout: 0,
+        priority: 100 + number % 64,
+        buffer_id: 0xffff_ffff,
+        out_port: port::NONE,
+        flags: 0,
+        actions: List::from_slice(alloc, &[to])?,
+    })
+}

@@ -1,0 +1,13 @@
+pub mod Lists
+pub mod Steps
+pub mod Falling
+pub mod Least
+pub mod SameRanked
+pub mod Sounds
+pub mod Counts
+pub mod Kept
+pub mod Bests
+pub mod Means
+pub mod Changing
+pub mod Plans
+pub mod Copies

@@ -1,0 +1,10 @@
+pub mod Entries
+pub mod Tables
+pub mod Refusals
+pub mod Changes
+pub mod Planning
+pub mod Best
+pub mod Timeouts
+pub mod Sound
+pub mod Orders
+pub mod Ranking

@@ -1,0 +1,25 @@
+//! The flow table of one member, a controller at a virtual switch (sections 3.4, 4.6 and 5.3.3 of the
+//! OpenFlow Switch Specification 1.0.0). A message is planned first, which takes all memory; the
+//! planned change is then made, which takes none and can't fail.
+#![tactic(auto)]
+
+pub mod change;
+pub mod command;
+mod commit;
+mod copy;
+mod due;
+pub mod entry;
+pub mod fault;
+mod order;
+mod plan;
+mod ranked;
+mod ranks;
+pub mod table;
+#[cfg(test)]
+mod tests;
+
+pub use change::{Change, Due, Modified};
+pub use command::Command;
+pub use entry::{Entry, Identity};
+pub use fault::TableFault;
+pub use table::Table;
