@@ -1,10 +1,7 @@
 //! Entries: of a switch's table, and as they are put there.
-ghost use Rattle.std.specs.Prelude.{◌≡◌, [], ◌∷◌, ◌++◌, IfOk, OnOk, if◌then◌else◌};
-
-use cv_io::{Leaf, List, Memory};
+use cv_io::{Duplicate, Leaf, List, Memory};
 use of10_actions::{Action, Out};
 use of10_match::Match;
-use std::alloc::Global;
 
 /// An entry of a switch's table.
 #[derive(PartialEq, Eq, Debug, Drop)]
@@ -64,31 +61,13 @@ pub struct Difference {
     pub adds: List<PhysEntry>,
 }
 
-impl PhysEntry {
-    /// A copy of the entry.
-    pub fn copy(&self, alloc: Global) -> Result<PhysEntry, Memory>
-        ensures { IfOk result (λ copied. copied ≡ self.now) }
-    {
+impl Duplicate for PhysEntry {
+    fn copy(&self) -> Result<PhysEntry, Memory> {
         Ok(PhysEntry {
             m: self.m,
             priority: self.priority,
-            actions: List::from_slice(alloc, self.actions.as_slice())?,
-            ancestry: List::from_slice(alloc, self.ancestry.as_slice())?,
+            actions: self.actions.copy()?,
+            ancestry: self.ancestry.copy()?,
         })
     }
-}
-
-/// Appends a copy of the entry, if it is to stay.
-pub(crate) fn push_if(
-    alloc: Global,
-    entries: &mut List<PhysEntry>,
-    stays: bool,
-    entry: &PhysEntry,
-) -> Result<(), Memory>
-    ensures { OnOk result (entries.new ≡ entries.old ++ (if stays then entry.now ∷ [] else [])) }
-{
-    if !stays {
-        return Ok(());
-    }
-    entries.push(entry.copy(alloc)?)
 }

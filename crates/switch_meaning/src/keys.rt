@@ -5,7 +5,8 @@ ghost use Rattle.switch_meaning.specs.Keys.{displaces as displaces_of, installed
 ghost use Rattle.switch_meaning.specs.declared.entry.PhysEntry.{PhysEntry};
 
 use crate::choosing::is_exact;
-use crate::entry::{PhysEntry, push_if};
+use crate::entry::PhysEntry;
+use crate::push::push_if;
 use cv_io::{List, Memory};
 use std::alloc::Global;
 
@@ -15,7 +16,7 @@ pub fn one_per_key(alloc: Global, entries: &List<PhysEntry>) -> Result<List<Phys
 {
     let mut kept = List::new(alloc);
     for entry in entries.as_slice() {
-        push_if(alloc, &mut kept, !is_displaced(entries, entry), entry)?;
+        push_if(&mut kept, !is_displaced(entries, entry), entry)?;
     }
     Ok(kept)
 }
@@ -34,7 +35,7 @@ fn passing(alloc: Global, entries: &List<PhysEntry>) -> Result<List<PhysEntry>, 
 {
     let mut kept = List::new(alloc);
     for entry in entries.as_slice() {
-        push_if(alloc, &mut kept, !is_passed(entries, entry), entry)?;
+        push_if(&mut kept, !is_passed(entries, entry), entry)?;
     }
     Ok(kept)
 }

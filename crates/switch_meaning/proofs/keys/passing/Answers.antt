@@ -8,5 +8,5 @@ use Rattle.switch_meaning.proofs.keys.passing.Goals as goal
 
 pub loop-entry-preserved : goal.loop-entry-preserved
 loop-entry-preserved c =
-    kept_more (λ (e : PhysEntry). not (list_any (λ (d : PhysEntry). passes_over d e) c.args.entries.now)) c.as_slice-entry-items.result.now c.loop-entry.entry-index c.entry-item.result c.loop-entry.kept c.push_if.new.entries _ c.loop-entry-test.true c.entry-item.is
+    kept_more (λ (e : PhysEntry). not (list_any (λ (d : PhysEntry). passes_over d e) c.args.entries.now)) c.as_slice-entry-items.result.now c.loop-entry.entry-index c.entry-item.result c.loop-entry.kept c.push_if.new.list _ c.loop-entry-test.true c.entry-item.is
     (c.in_ok-push_if.ensures ∙ ap (λ (b : Bool). c.loop-entry.kept ++ (if b then c.entry-item.result ∷ [] else [])) (ap not c.is_passed.ensures)) c.loop-entry.invariant
