@@ -6,7 +6,8 @@ use Rattle.policy_meaning.specs.declared.network.Network.{Network}
 use Rattle.agreement.proofs.WholeRules.{RuleKeeps}
 use Rattle.agreement.proofs.Guarded.{guard-is-best}
 use Rattle.agreement.proofs.ShowingSpread.{all-good, outs-go}
-use Rattle.agreement.proofs.Entered.{Best, all-fit, best-of-part, best-of-whole, ingress, keeps, part-best, whole-best, written}
+use Rattle.agreement.proofs.RuleEntries.{Best, written}
+use Rattle.agreement.proofs.SwitchEntries.{all-fit, best-of-part, best-of-whole, ingress, keeps, part-best, whole-best}
 use Rattle.agreement.specs.Premises.{GoesWithin, IsSoundSetting, outside_ports}
 use Rattle.std.proofs.Common.{◌≡◌, ℕ, suc, ◌⊎◌, arith, inl, inr, eqb-true, Bool, true, false, List, [], ◌∷◌, Option, Some, None, refl, ap, ◌∙◌, sym, subst, length, ◌&&◌}
 use Rattle.std.specs.Prelude.{IfSome, ◌-◌, ◌==◌, filter, filter_map, if◌then◌else◌, is_some, not, slice_get}

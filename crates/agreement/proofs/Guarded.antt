@@ -21,9 +21,10 @@ use Rattle.agreement.specs.Entries.{entries_of, is_whole, ports_at, stands_on}
 use Rattle.agreement.specs.Premises.{IsSoundSetting, cable_ends}
 use Rattle.agreement.proofs.Alone.{Alone, Lower, all-numbered, alone-map, alone-zip, best-above, best-after, best-alone, best-flat_map}
 use Rattle.agreement.proofs.Cables.{IsFound, all-found, alone-by, alone-filter, alone-found, ends-as, found-there, is_end, is_port, no-end, spot-is}
-use Rattle.agreement.proofs.Entered.{Stands, all-silent, by, drops-silent, is_at, k, ruled, stands-where, tagged-ruled, transits-silent}
 use Rattle.agreement.proofs.Finding.{find-gives}
 use Rattle.agreement.proofs.Fixed.{IsEndHere, all-ends-here, all-guards, all-passing, dropping, transits-to}
+use Rattle.agreement.proofs.RuleEntries.{Stands, by, stands-where}
+use Rattle.agreement.proofs.SwitchEntries.{all-silent, drops-silent, is_at, k, ruled, tagged-ruled, transits-silent}
 use Rattle.agreement.proofs.Turned.{fits-other, rest}
 
 any-none : {A : Type 0} (p : A → Bool) (xs : List A) → AllByRecursion (λ x. p x ≡ false) xs → list_any p xs ≡ false

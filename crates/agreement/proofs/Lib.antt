@@ -9,7 +9,8 @@ pub mod Cables
 pub mod WholeRules
 pub mod Fixed
 pub mod Levels
-pub mod Entered
+pub mod RuleEntries
+pub mod SwitchEntries
 pub mod ShowingWhole
 pub mod Agreed
 pub mod Finding
