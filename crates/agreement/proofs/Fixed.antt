@@ -11,7 +11,7 @@ use Rattle.switch_meaning.specs.declared.wiring.Outside.{Outside}
 use Rattle.switch_meaning.specs.declared.wiring.Spot.{Spot}
 use Rattle.switch_meaning.specs.declared.wiring.Wiring.{Wiring}
 use Rattle.agreement.specs.declared.state.Setting.{Setting}
-use Rattle.agreement.specs.Entries.{is_whole, ports_at}
+use Rattle.agreement.specs.Entries.{dropping, is_whole, ports_at}
 use Rattle.agreement.specs.Premises.{IsSoundSetting, cable_ends}
 use Rattle.agreement.proofs.Cables.{IsFound, all-filter, all-found, all-self, ends-as, is_end}
 
@@ -50,10 +50,6 @@ find-any test other (x ∷ xs) o e t = found-any test other (test x) x xs o e t 
 pub not-dropped : (w : Wiring) (v p : ℕ) (o : Outside) → outside_at w v p ≡ Some o → list_any (is_spot o.at.switch o.at.port) w.outside ≡ true
 not-dropped w v p o e =
     find-any (λ (o : Outside). (o.v == v) && (o.port == p)) (is_spot o.at.switch o.at.port) w.outside o e (rw (eq-eqb o.at.switch o.at.switch refl, eq-eqb o.at.port o.at.port refl) refl)
-
--- the entries that drop
-abbrev pub dropping : Setting → ℕ → List PhysEntry
-dropping s switch = if is_whole s switch then drops s.wiring switch (ports_at s switch) else []
 
 -- an end of a cable at a switch
 abbrev pub IsEndHere : Setting → ℕ → Spot → Type 0

@@ -17,12 +17,12 @@ use Rattle.switch_meaning.specs.declared.entry.PhysEntry.{PhysEntry}
 use Rattle.switch_meaning.specs.declared.wiring.Outside.{Outside}
 use Rattle.switch_meaning.specs.declared.wiring.Spot.{Spot}
 use Rattle.agreement.specs.declared.state.Setting.{Setting}
-use Rattle.agreement.specs.Entries.{entries_of, is_whole, ports_at, stands_on}
+use Rattle.agreement.specs.Entries.{dropping, entries_of, is_whole, ports_at, stands_on}
 use Rattle.agreement.specs.Premises.{IsSoundSetting, cable_ends}
 use Rattle.agreement.proofs.Alone.{Alone, Lower, all-numbered, alone-map, alone-zip, best-above, best-after, best-alone, best-flat_map}
 use Rattle.agreement.proofs.Cables.{IsFound, all-found, alone-by, alone-filter, alone-found, ends-as, found-there, is_end, is_port, no-end, spot-is}
 use Rattle.agreement.proofs.Finding.{find-gives}
-use Rattle.agreement.proofs.Fixed.{IsEndHere, all-ends-here, all-guards, all-passing, dropping, transits-to}
+use Rattle.agreement.proofs.Fixed.{IsEndHere, all-ends-here, all-guards, all-passing, transits-to}
 use Rattle.agreement.proofs.RuleEntries.{Stands, by, stands-where}
 use Rattle.agreement.proofs.SwitchEntries.{all-silent, drops-silent, is_at, k, ruled, tagged-ruled, transits-silent}
 use Rattle.agreement.proofs.Turned.{fits-other, rest}

@@ -20,3 +20,4 @@ pub mod WorkedSpread
 pub mod Guarded
 pub mod Carried
 pub mod ShowingSpread
+pub mod FittingRules

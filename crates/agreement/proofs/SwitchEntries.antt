@@ -24,13 +24,13 @@ use Rattle.switch_meaning.specs.declared.entry.Site.{Site}
 use Rattle.switch_meaning.specs.declared.wiring.Outside.{Outside}
 use Rattle.switch_meaning.specs.declared.wiring.Spot.{Spot}
 use Rattle.agreement.specs.declared.state.Setting.{Setting}
-use Rattle.agreement.specs.Entries.{entries_for, entries_of, flat, lies_on, placed, site_at, stands_on}
+use Rattle.agreement.specs.Entries.{dropping, entries_for, entries_of, flat, lies_on, placed, site_at, stands_on}
 use Rattle.agreement.specs.Premises.{IsSoundSetting, outside_ports}
 use Rattle.agreement.specs.Reach.{at_once}
 use Rattle.agreement.specs.Seeing.{comes_by}
 use Rattle.agreement.proofs.Alone.{Lower, Silent, all-numbered, all-ports, alone-map, alone-numbered, alone-port, alone-zip, best-above, best-flat_map}
 use Rattle.agreement.proofs.Cables.{is_end, no-end}
-use Rattle.agreement.proofs.Fixed.{dropping, all-dropping, all-fixed, all-guards, all-transits, fixed_at, is_spot, not-dropped}
+use Rattle.agreement.proofs.Fixed.{all-dropping, all-fixed, all-guards, all-transits, fixed_at, is_spot, not-dropped}
 use Rattle.agreement.proofs.Levels.{all-below, all-name, left-holds, left-port, left_of, whole-below}
 use Rattle.agreement.proofs.NodeRules.{Names}
 use Rattle.agreement.proofs.RuleEntries.{Best, Lies, Stands, best-entry, best-there, by, left-all, left-takes, lies-where, never-taken, none-holds, stands-where, written}

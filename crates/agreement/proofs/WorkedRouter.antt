@@ -1,5 +1,5 @@
 -- The router's setting is sound.
-use Rattle.std.proofs.Common.{◌≡◌, ℕ, zero, suc, ◌<◌, ◌≤◌, Bool, false, ◌&&◌, ◌==◌, [], Some, None, refl, ◌∙◌, sym, arith, eqb-true, lit≤}
+use Rattle.std.proofs.Common.{◌≡◌, ℕ, zero, suc, ◌<◌, Bool, false, ◌&&◌, ◌==◌, [], Some, None, refl, ◌∙◌, sym, arith, eqb-true, lit≤}
 use Rattle.std.specs.Prelude.{is_some, slice_get}
 use Rattle.std.specs.List.{AllByRecursion}
 use Rattle.of10_match.specs.Normal.{IsNormal}
@@ -7,10 +7,10 @@ use Rattle.of10_actions.specs.Rewriting.{Extends, no_rewrite}
 use Rattle.of10_actions.specs.declared.port.TheConstants.{MAX}
 use Rattle.policy_expr.specs.declared.expr.Expr.TheVariants.{Member}
 use Rattle.policy_meaning.specs.EveryNode.{IsSoundSwitch}
-use Rattle.policy_meaning.specs.Hops.{hop_size, peer_of}
+use Rattle.policy_meaning.specs.Hops.{peer_of}
 use Rattle.policy_meaning.specs.Leaf.{has_port}
 use Rattle.policy_meaning.specs.LeafFact.{IsSoundTable}
-use Rattle.policy_meaning.specs.Networks.{fabric_of, switch_links}
+use Rattle.policy_meaning.specs.Networks.{switch_links}
 use Rattle.policy_meaning.specs.WorkedTables.{server_router, to_net}
 use Rattle.policy_meaning.specs.declared.network.Place.{Place}
 use Rattle.policy_meaning.specs.declared.network.VirtualSwitch.{VirtualSwitch}
@@ -20,7 +20,8 @@ use Rattle.switch_meaning.specs.FiringLaw.{IsSoundWiring}
 use Rattle.switch_meaning.specs.WorkedEntries.{one_switch}
 use Rattle.switch_meaning.specs.Wirings.{far_end, outside_at}
 use Rattle.switch_meaning.specs.declared.wiring.Outside.{Outside}
-use Rattle.agreement.specs.Premises.{GREATEST_SIZE, IsAlone, IsSoundPlacing, IsSoundSetting, IsSoundVirtual, outside_ports}
+use Rattle.agreement.specs.Fitting.{SizesFit}
+use Rattle.agreement.specs.Premises.{IsAlone, IsSoundPlacing, IsSoundSetting, IsSoundVirtual, outside_ports}
 use Rattle.agreement.specs.Worked.{RouterAgrees, four_ports, routed}
 use Rattle.agreement.proofs.Agreed.{agreed}
 use Rattle.agreement.proofs.Finding.{find-gives, if-found, is_some-find, only}
@@ -107,7 +108,7 @@ module _ (whole : Bool) where
     together = λ v u p q a b _ _ e f. let x = found v p a e in let y = found u q b f in let g = x.0.switch in let h = y.0.switch in omega arith;
   }
 
-  sound-sizes : (v : ℕ) → hop_size (fabric_of (routed whole).network) (routed whole).hops v ≤ GREATEST_SIZE
+  sound-sizes : SizesFit (routed whole)
   sound-sizes zero = lit≤ tt
   sound-sizes (suc v) = lit≤ tt
 

@@ -1,13 +1,13 @@
 -- The setting of two virtual switches that split one switch is sound.
-use Rattle.std.proofs.Common.{◌≡◌, ℕ, zero, suc, ◌+◌, ◌*◌, ◌<◌, ◌≤◌, Bool, true, false, ◌&&◌, ◌==◌, [], ◌∷◌, Some, None, refl, ◌∙◌, sym, subst, arith, eqb-true, lit≤}
+use Rattle.std.proofs.Common.{◌≡◌, ℕ, zero, suc, ◌+◌, ◌*◌, ◌<◌, Bool, true, false, ◌&&◌, ◌==◌, [], ◌∷◌, Some, None, refl, ◌∙◌, sym, subst, arith, eqb-true, lit≤}
 use Rattle.std.specs.Prelude.{if◌then◌else◌, is_some, slice_get}
 use Rattle.std.specs.List.{AllByRecursion}
 use Rattle.of10_actions.specs.declared.port.TheConstants.{MAX}
 use Rattle.policy_meaning.specs.EveryNode.{IsSoundSwitch}
-use Rattle.policy_meaning.specs.Hops.{hop_size, peer_of}
+use Rattle.policy_meaning.specs.Hops.{peer_of}
 use Rattle.policy_meaning.specs.Leaf.{has_port}
 use Rattle.policy_meaning.specs.LeafFact.{IsSoundTable}
-use Rattle.policy_meaning.specs.Networks.{fabric_of, switch_has, switch_links, switch_spread}
+use Rattle.policy_meaning.specs.Networks.{switch_has, switch_links, switch_spread}
 use Rattle.policy_meaning.specs.WorkedHops.{first_member, second_member}
 use Rattle.policy_meaning.specs.declared.network.Place.{Place}
 use Rattle.policy_meaning.specs.declared.network.VirtualSwitch.{VirtualSwitch}
@@ -16,7 +16,8 @@ use Rattle.policy_meaning.proofs.Normality.{normal-at_port, normal-everything}
 use Rattle.switch_meaning.specs.FiringLaw.{IsSoundWiring}
 use Rattle.switch_meaning.specs.Wirings.{far_end, outside_at}
 use Rattle.switch_meaning.specs.declared.wiring.Outside.{Outside}
-use Rattle.agreement.specs.Premises.{GREATEST_SIZE, IsSoundPlacing, IsSoundSetting, IsSoundVirtual, outside_ports}
+use Rattle.agreement.specs.Fitting.{SizesFit}
+use Rattle.agreement.specs.Premises.{IsSoundPlacing, IsSoundSetting, IsSoundVirtual, outside_ports}
 use Rattle.agreement.specs.Worked.{SplitAgrees, split}
 use Rattle.agreement.proofs.Agreed.{agreed}
 use Rattle.agreement.proofs.Finding.{find-gives, if-found, is_some-find}
@@ -131,7 +132,7 @@ sound-placing = record {
   together = λ v u p q a b _ _ e f. let x = found v p a e in let y = found u q b f in let g = x.0.switch in let h = y.0.switch in omega arith;
 }
 
-sound-sizes : (v : ℕ) → hop_size (fabric_of split.network) split.hops v ≤ GREATEST_SIZE
+sound-sizes : SizesFit split
 sound-sizes zero = lit≤ tt
 sound-sizes (suc zero) = lit≤ tt
 sound-sizes (suc (suc v)) = lit≤ tt

@@ -1,13 +1,13 @@
 -- The setting of a virtual switch that is spread over two switches is sound.
-use Rattle.std.proofs.Common.{◌≡◌, ℕ, zero, suc, ◌+◌, ◌<◌, ◌≤◌, ◌⊎◌, inl, inr, true, false, ◌&&◌, ◌==◌, [], ◌∷◌, Some, None, refl, ap, ◌∙◌, sym, subst, arith, eqb-true, lit≤}
+use Rattle.std.proofs.Common.{◌≡◌, ℕ, zero, suc, ◌+◌, ◌<◌, ◌⊎◌, inl, inr, true, false, ◌&&◌, ◌==◌, [], ◌∷◌, Some, None, refl, ap, ◌∙◌, sym, subst, arith, eqb-true, lit≤}
 use Rattle.std.specs.Prelude.{is_some, slice_get}
 use Rattle.std.specs.List.{AllByRecursion}
 use Rattle.of10_actions.specs.declared.port.TheConstants.{MAX}
 use Rattle.policy_meaning.specs.EveryNode.{IsSoundSwitch}
-use Rattle.policy_meaning.specs.Hops.{hop_size, peer_of}
+use Rattle.policy_meaning.specs.Hops.{peer_of}
 use Rattle.policy_meaning.specs.Leaf.{has_port}
 use Rattle.policy_meaning.specs.LeafFact.{IsSoundTable}
-use Rattle.policy_meaning.specs.Networks.{fabric_of, switch_links, switch_spread}
+use Rattle.policy_meaning.specs.Networks.{switch_links, switch_spread}
 use Rattle.policy_meaning.specs.WorkedTables.{server_router}
 use Rattle.policy_meaning.specs.declared.network.Place.{Place}
 use Rattle.policy_meaning.specs.declared.network.VirtualSwitch.{VirtualSwitch}
@@ -16,7 +16,8 @@ use Rattle.policy_meaning.proofs.Normality.{normal-everything}
 use Rattle.switch_meaning.specs.FiringLaw.{IsSoundWiring}
 use Rattle.switch_meaning.specs.Wirings.{far_end, outside_at}
 use Rattle.switch_meaning.specs.declared.wiring.Outside.{Outside}
-use Rattle.agreement.specs.Premises.{GREATEST_SIZE, HasWay, IsSoundPlacing, IsSoundSetting, IsSoundVirtual, outside_ports}
+use Rattle.agreement.specs.Fitting.{SizesFit}
+use Rattle.agreement.specs.Premises.{HasWay, IsSoundPlacing, IsSoundSetting, IsSoundVirtual, outside_ports}
 use Rattle.agreement.specs.Worked.{SpreadAgrees, spread_out, two_switches}
 use Rattle.agreement.proofs.Agreed.{agreed}
 use Rattle.agreement.proofs.Finding.{find-gives, if-found, is_some-find, only}
@@ -108,7 +109,7 @@ sound-placing = record {
   together = λ v u p q a b n _ e f. let x = found v p a e in never v (sym x.1 ∙ x.0.v) n;
 }
 
-sound-sizes : (v : ℕ) → hop_size (fabric_of spread_out.network) spread_out.hops v ≤ GREATEST_SIZE
+sound-sizes : SizesFit spread_out
 sound-sizes zero = lit≤ tt
 sound-sizes (suc v) = lit≤ tt
 

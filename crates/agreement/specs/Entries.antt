@@ -48,19 +48,25 @@ placed w site outside e = if enters_on w site outside e.port then filter_map (λ
 abbrev pub entries_for : Setting → ℕ → ℕ × VirtualSwitch → List PhysEntry
 entries_for s switch (v, x) = flat_map (placed s.wiring (site_at switch v x) x.outside) (entering s.network s.hops v (Some x))
 
+-- the switch is all of this virtual switch
+abbrev pub is_all_of : Setting → ℕ → ℕ × VirtualSwitch → Bool
+is_all_of s switch (v, x) = x.whole && stands_on s.wiring switch v x.outside
+
 -- the switch is all of a virtual switch, so that the ports that are no outside ports have entries that drop
 abbrev pub is_whole : Setting → ℕ → Bool
-is_whole s switch = list_any (λ (x : ℕ × VirtualSwitch). x.1.whole && stands_on s.wiring switch x.0 x.1.outside) (enumerate_from 0 s.network.switches)
+is_whole s switch = list_any (is_all_of s switch) (enumerate_from 0 s.network.switches)
 
 -- the ports of a switch
 abbrev pub ports_at : Setting → ℕ → List ℕ
 ports_at s switch = option_map_or (λ (x : PhysicalSwitch). x.ports) (slice_get s.switches switch) []
 
+-- the entries that drop
+abbrev pub dropping : Setting → ℕ → List PhysEntry
+dropping s switch = if is_whole s switch then drops s.wiring switch (ports_at s switch) else []
+
 -- the entries that are put on a switch: those of each virtual switch, and those that don't hang on tables
 abbrev pub entries_of : Setting → ℕ → List PhysEntry
-entries_of s switch =
-    flat_map (entries_for s switch) (enumerate_from 0 s.network.switches)
-    ++ (fixed_entries s.wiring switch ++ (if is_whole s switch then drops s.wiring switch (ports_at s switch) else []))
+entries_of s switch = flat_map (entries_for s switch) (enumerate_from 0 s.network.switches) ++ (fixed_entries s.wiring switch ++ dropping s switch)
 
 -- the table that a switch is to have
 abbrev pub table_of : Setting → ℕ → List FlowEntry

@@ -1,3 +1,4 @@
+pub mod Fitting
 pub mod Reach
 pub mod Entries
 pub mod Seeing

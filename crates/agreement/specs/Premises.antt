@@ -9,10 +9,9 @@ use Rattle.of10_actions.specs.declared.port.TheConstants.{MAX}
 use Rattle.policy_expr.specs.Policy.{policy_of}
 use Rattle.policy_meaning.specs.CentralFact.{EachMember}
 use Rattle.policy_meaning.specs.EveryNode.{IsSoundNetwork}
-use Rattle.policy_meaning.specs.Hops.{hop_size}
 use Rattle.policy_meaning.specs.Leaf.{has_port}
 use Rattle.policy_meaning.specs.LeafFact.{EachPair}
-use Rattle.policy_meaning.specs.Networks.{fabric_of, switch_spread}
+use Rattle.policy_meaning.specs.Networks.{switch_spread}
 use Rattle.policy_meaning.specs.declared.leaf.LeafEntry.{LeafEntry}
 use Rattle.policy_meaning.specs.declared.leaf.LeafTable.{LeafTable}
 use Rattle.policy_meaning.specs.declared.network.VirtualSwitch.{VirtualSwitch}
@@ -23,11 +22,8 @@ use Rattle.switch_meaning.specs.declared.wiring.Outside.{Outside}
 use Rattle.switch_meaning.specs.declared.wiring.Spot.{Spot}
 use Rattle.switch_meaning.specs.declared.wiring.Wiring.{Wiring}
 use Rattle.agreement.specs.declared.state.Setting.{Setting}
+use Rattle.agreement.specs.Fitting.{SizesFit}
 use Rattle.agreement.specs.Reach.{LeadsTo}
-
--- the greatest size over hops: priorities, one above levels, leave 65,535 to fixed entries
-abbrev pub GREATEST_SIZE : ℕ
-GREATEST_SIZE = 65534
 
 -- an out goes to a port of this virtual switch, if it goes to one by number
 abbrev pub GoesWithin : ℕ → Dest → Type 0
@@ -137,4 +133,4 @@ pub record IsSoundSetting (s : Setting) : Type 0 where
   pub virtuals : (v : ℕ) (x : VirtualSwitch) → slice_get s.network.switches v ≡ Some x → IsSoundVirtual s v x
   pub placing : IsSoundPlacing s
   pub hops : 0 < s.hops
-  pub sizes : (v : ℕ) → hop_size (fabric_of s.network) s.hops v ≤ GREATEST_SIZE
+  pub sizes : SizesFit s

@@ -39,7 +39,7 @@ fn lies_on(wiring: &Wiring, switch: u32, v: u32, port: u16) -> bool
 }
 
 /// Whether some of these ports lies on the switch.
-fn stands_on(wiring: &Wiring, switch: u32, v: u32, outside: &List<u16>) -> bool
+pub(crate) fn stands_on(wiring: &Wiring, switch: u32, v: u32, outside: &List<u16>) -> bool
     ensures { result ≡ stands_on_of wiring.now switch v outside.now }
 {
     outside

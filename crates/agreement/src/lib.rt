@@ -6,11 +6,13 @@ pub mod entries;
 pub mod laws;
 pub mod seeing;
 pub mod state;
+pub mod tables;
 pub mod worked;
 
 pub use entries::{flat, levels_fit, placed};
 pub use seeing::expected;
-pub use state::{PhysicalSwitch, Setting};
+pub use state::{GREATEST_SIZE, PhysicalSwitch, Setting};
+pub use tables::{entries_of, table_of};
 
 #[cfg(test)]
 mod tests;

@@ -1,7 +1,14 @@
 //! What the machine reads of a policy and of its state.
+ghost use Rattle.std.specs.Prelude.{◌<◌, ◌^◌, ◌↔◌, All, IsTrue, length};
+ghost use Rattle.agreement.specs.Fitting.{IsFittingSetting, SizesFit};
+ghost use Rattle.policy_meaning.specs.Fitting.{IsFittingTable};
+
 use cv_io::List;
-use policy_meaning::Network;
-use switch_meaning::Wiring;
+use policy_meaning::{Network, hop_size, tables_fit};
+use switch_meaning::{Wiring, are_tags_in_range};
+
+/// The greatest size over hops: priorities, one above levels, leave 65,535 to fixed entries.
+pub const GREATEST_SIZE: u64 = 65534;
 
 /// A physical switch.
 #[derive(Debug, Drop)]
@@ -22,4 +29,32 @@ pub struct Setting {
     pub wiring: Wiring,
     /// The physical switches, by number.
     pub switches: List<PhysicalSwitch>,
+}
+
+impl Setting {
+    /// Whether the entries of its switches can be made: levels, kinds of leaves, numbers of virtual
+    /// switches and tags fit their types, and packets have a hop.
+    pub fn fits(&self) -> bool
+        ensures { IsTrue result ↔ IsFittingSetting self.now }
+    {
+        tables_fit(&self.network.tables)
+            && self.hops > 0
+            && self.network.switches.len() < 1 << 32
+            && self.sizes_fit()
+            && are_tags_in_range(&self.wiring)
+    }
+
+    /// Whether the sizes over hops leave room for priorities.
+    fn sizes_fit(&self) -> bool
+        requires tables { All IsFittingTable self.now.network.tables }
+        requires switches { length self.now.network.switches < 2 ^ 32 }
+        ensures { IsTrue result ↔ SizesFit self.now }
+    {
+        for v in 0..self.network.switches.len() {
+            if hop_size(&self.network, self.hops, v as u32) > GREATEST_SIZE {
+                return false;
+            }
+        }
+        true
+    }
 }

@@ -6,7 +6,7 @@ use policy_expr::Expr;
 use policy_meaning::{Entering, LeafEntry, LeafTable, Network, Rule, VirtualSwitch, walk};
 use std::alloc::Global;
 use std::test::Fail;
-use switch_meaning::{Copied, Left, Outside, PhysEntry, Site, Spot, Wiring};
+use switch_meaning::{Copied, FlowEntry, Left, Outside, PhysEntry, Site, Spot, Wiring};
 
 const SERVER: u32 = 0x0200_0001;
 
@@ -37,6 +37,18 @@ fn to(alloc: Global, rewrite: Rewrite, port: u16) -> Result<List<Out>, Fail> {
     Ok(outs)
 }
 
+/// Packets to 2.0.0.0/24.
+fn to_servers() -> Match {
+    Match {
+        dl_type: Some(0x0800),
+        nw_dst: Some(Prefix {
+            addr: 0x0200_0000,
+            len: 24,
+        }),
+        ..Match::everything()
+    }
+}
+
 /// A router with one entry, which sends packets to 2.0.0.0/24 to port 1.
 fn router(alloc: Global) -> Result<LeafTable, Fail> {
     let mut region = List::new(alloc);
@@ -45,14 +57,7 @@ fn router(alloc: Global) -> Result<LeafTable, Fail> {
     entries.push(LeafEntry {
         serial: 1,
         rank: 100,
-        m: Match {
-            dl_type: Some(0x0800),
-            nw_dst: Some(Prefix {
-                addr: 0x0200_0000,
-                len: 24,
-            }),
-            ..Match::everything()
-        },
+        m: to_servers(),
         level: 4,
         effects: Effects {
             outs: to(alloc, Rewrite::new(), 1)?,
@@ -69,7 +74,8 @@ fn router(alloc: Global) -> Result<LeafTable, Fail> {
     })
 }
 
-fn network(alloc: Global) -> Result<Network, Fail> {
+/// One virtual switch, of which the router is the one member.
+fn network(alloc: Global, whole: bool) -> Result<Network, Fail> {
     let mut tables = List::new(alloc);
     tables.push(router(alloc)?)?;
     let mut switches = List::new(alloc);
@@ -78,7 +84,7 @@ fn network(alloc: Global) -> Result<Network, Fail> {
         outside: List::from_slice(alloc, &[1, 2, 3, 4])?,
         links: List::new(alloc),
         spread: false,
-        whole: false,
+        whole,
     })?;
     Ok(Network { tables, switches })
 }
@@ -105,7 +111,7 @@ fn packet(in_port: u16, address: u32) -> Header {
 fn packets_are_to_be_seen(rt: HostRuntime) -> Result<(), Fail> {
     let alloc = rt.alloc();
     let wiring = one_switch(alloc)?;
-    let network = network(alloc)?;
+    let network = network(alloc, false)?;
     // To the server a packet leaves by port 1, but not where it came by it; of others a copy is made.
     for (in_port, address, outs, copies) in [(2, SERVER, 1, 0), (1, SERVER, 0, 0), (3, 5, 0, 1)] {
         let header = packet(in_port, address);
@@ -188,5 +194,59 @@ fn rules_are_placed(rt: HostRuntime) -> Result<(), Fail> {
         let entries = placed(alloc, &wiring, site, &outside, &entering)?;
         assert_eq!(rt; entries.as_slice(), &[want][..count]);
     }
+    Ok(())
+}
+
+/// The switch has a fifth port, which is no outside port.
+fn routed(alloc: Global) -> Result<Setting, Fail> {
+    let mut switches = List::new(alloc);
+    switches.push(PhysicalSwitch {
+        ports: List::from_slice(alloc, &[1, 2, 3, 4, 5])?,
+        up: true,
+    })?;
+    Ok(Setting {
+        network: network(alloc, true)?,
+        hops: 4,
+        wiring: one_switch(alloc)?,
+        switches,
+    })
+}
+
+/// For all ports the entry of a miss and the router's, and one that drops what comes by the fifth.
+fn routed_table(alloc: Global) -> Result<List<FlowEntry>, Fail> {
+    let mut table = List::new(alloc);
+    let told = Action::Output {
+        port: 0xfffd,
+        max_len: 65535,
+    };
+    let sent = Action::Output {
+        port: 1,
+        max_len: 0,
+    };
+    let fifth = Match {
+        in_port: Some(5),
+        ..Match::everything()
+    };
+    table.push(entry(alloc, Match::everything(), 2, &[told])?)?;
+    table.push(entry(alloc, to_servers(), 5, &[sent])?)?;
+    table.push(entry(alloc, fifth, 65535, &[])?)?;
+    Ok(table)
+}
+
+fn entry(alloc: Global, m: Match, priority: u16, actions: &[Action]) -> Result<FlowEntry, Fail> {
+    Ok(FlowEntry {
+        m,
+        priority,
+        actions: List::from_slice(alloc, actions)?,
+    })
+}
+
+#[test]
+fn table_is_made(rt: HostRuntime) -> Result<(), Fail> {
+    let alloc = rt.alloc();
+    let setting = routed(alloc)?;
+    assert!(rt; setting.fits());
+    let table = table_of(alloc, &setting, 0)?;
+    assert_eq!(rt; table, routed_table(alloc)?);
     Ok(())
 }

@@ -1,4 +1,7 @@
 //! Entries: of a switch's table, and as they are put there.
+ghost use Rattle.std.specs.Prelude.{◌≡◌};
+ghost use Rattle.switch_meaning.specs.Keys.{flow_of};
+
 use cv_io::{Duplicate, Leaf, List, Memory};
 use of10_actions::{Action, Out};
 use of10_match::Match;
@@ -59,6 +62,19 @@ pub struct PhysEntry {
 pub struct Difference {
     pub deletes: List<PhysEntry>,
     pub adds: List<PhysEntry>,
+}
+
+impl PhysEntry {
+    /// The entry as a switch has it.
+    pub fn into_flow(self) -> FlowEntry
+        ensures { result ≡ flow_of self }
+    {
+        FlowEntry {
+            m: self.m,
+            priority: self.priority,
+            actions: self.actions,
+        }
+    }
 }
 
 impl Duplicate for PhysEntry {
