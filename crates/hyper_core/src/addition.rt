@@ -1,6 +1,7 @@
 //! The one kind of message that the member may send so far: a FLOW_MOD that adds an entry whose
 //! actions are outputs to ports (section 5.3.3 of the OpenFlow Switch Specification 1.0.0).
-ghost use Rattle.std.specs.Prelude.{◌≡◌, ◌/◌, length};
+ghost use Rattle.std.specs.Prelude.{◌≡◌, ◌/◌, ◌<◌, Some, None, length, nat_lt, if◌then◌else◌};
+ghost use Rattle.hyper_core.specs.Placing.{port_at, port_of};
 
 use crate::policy::PORTS;
 use byteorder::{BigEndian, ByteOrder};
@@ -93,6 +94,7 @@ fn are_outputs(actions: &[u8]) -> bool {
 /// The port of an OUTPUT.
 fn port_of(action: &[u8]) -> u16
     requires { length action.now ≡ 8 }
+    ensures { result ≡ port_of action.now }
 {
     BigEndian::read_u16(&action[4..6])
 }
@@ -106,7 +108,10 @@ impl Addition<'_> {
     }
 
     /// The port of an output by its number.
-    pub(crate) fn port(&self, number: usize) -> Option<u16> {
+    #[tactic(auto, unfolding(crate::specs::Placing::port_at))]
+    pub(crate) fn port(&self, number: usize) -> Option<u16>
+        ensures { let actions = self.now.actions.now in result ≡ (if nat_lt number (length actions / 8) then Some (port_at actions number) else None) }
+    {
         if number < self.outputs() {
             Some(port_of(&self.actions[number * OUTPUT..number * OUTPUT + OUTPUT]))
         } else {
