@@ -1,5 +1,7 @@
 //! The machine.
-ghost use Rattle.std.specs.Prelude.{◌≡◌, ◌+◌, ◌<◌, ◌==◌, ◌⊎◌, [], IfOk, OnSome, IsTrue, length, if◌then◌else◌};
+ghost use Rattle.std.specs.Prelude.{◌≡◌, ◌+◌, ◌<◌, ◌==◌, ◌⊎◌, ◌&&◌, [], IfOk, nat_lt, OnSome, IsTrue, length, if◌then◌else◌};
+ghost use Rattle.std.specs.List.{list_all};
+ghost use Rattle.hyper_core.specs.Adding.{stands_beside};
 ghost use Rattle.hyper_core.specs.Machines.{Adds, Answers, Changes, Takes, IsFresh, MayAdd, OnlySends, Same, is_ours, TellsBuilt, next_round, outbox_of, taking};
 
 use crate::addition::{self, Addition};
@@ -63,11 +65,7 @@ impl Hyper {
     }
 
     /// One step. An event that isn't built changes nothing and is answered `Closed`.
-    pub fn step<G: Ledger>(
-        &mut self,
-        event: &Event,
-        _steps: &mut Steps<G>,
-    ) -> Result<Reply, Memory>
+    pub fn step<G: Ledger>(&mut self, event: &Event, _steps: &mut Steps<G>) -> Result<Reply, Memory>
         ensures answer { IfOk result (Answers self.old event.now) }
         ensures changes { Changes event.now self.old self.new }
         ensures closed { result ≡ Ok Reply.Closed → Same self.old self.new }
@@ -98,7 +96,7 @@ impl Hyper {
 
     /// The table has room, and every entry has the rank of the new one and no header in common.
     fn admits(&self, added: &Addition) -> bool
-        ensures { IsTrue result → length self.now.table < ENTRIES }
+        ensures { result ≡ (list_all (stands_beside added.now) self.now.table && nat_lt (length self.now.table) ENTRIES) }
     {
         for entry in self.table.as_slice() {
             if entry.rank != added.rank || entry.normal.overlaps(&added.normal) {
