@@ -1,8 +1,9 @@
 //! A replay: the events of a script, one after the other, and the report of what each puts into the
 //! outboxes.
-ghost use Rattle.std.specs.Prelude.{◌≡◌, ⊤, IfErr, OnOk};
+ghost use Rattle.std.specs.Prelude.{◌≡◌, ◌∷◌, [], ⊤, IfErr, IfOk, OnOk, slice_index};
 ghost use Rattle.cv_io.specs.Outside.{Rose};
 ghost use Rattle.covisor_proxy.specs.Ended.{IsAtEnd};
+ghost use Rattle.covisor_proxy.specs.Rounds.{place_of};
 ghost use Rattle.covisor_proxy.specs.Stops.{Explains};
 
 use crate::lines::{Lines, Taken};
@@ -29,7 +30,10 @@ pub(crate) struct Runner {
 }
 
 impl Runner {
-    fn new(alloc: Global) -> Result<Runner, Memory> {
+    fn new(alloc: Global) -> Result<Runner, Memory>
+        ensures number { IfOk result (λ runner. runner.number ≡ 0) }
+        ensures rounds { IfOk result (λ runner. runner.rounds ≡ 0 ∷ 0 ∷ []) }
+    {
         Ok(Runner {
             alloc,
             machine: Hyper::open_built_in(alloc)?,
@@ -39,7 +43,9 @@ impl Runner {
     }
 
     /// The session in its present round.
-    fn session(&self, who: Who) -> Session {
+    fn session(&self, who: Who) -> Session
+        ensures { result ≡ record { who = who; round = slice_index self.now.rounds (place_of who) } }
+    {
         let round = match who {
             Who::Member(_) => self.rounds[0],
             _ => self.rounds[1],
