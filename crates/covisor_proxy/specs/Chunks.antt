@@ -1,8 +1,14 @@
 -- What a source gave.
-use Rattle.std.specs.Prelude.{◌≡◌, ◌++◌, ℕ, List, Option, Some, None}
+use Rattle.std.specs.Prelude.{◌≡◌, ◌==◌, ◌++◌, ℕ, List, Option, Some, None, length, nat_lt, if◌then◌else◌}
+use Rattle.std.specs.List.{position_or_len}
 
 -- these bytes were read, where it is told what was there
 abbrev pub Gave : Option (List ℕ) → Option (List ℕ) → List ℕ → Type 0
 Gave None after bytes = after ≡ None
 Gave (Some left) None bytes = ⊥
 Gave (Some left) (Some rest) bytes = left ≡ bytes ++ rest
+
+-- the place of the first byte that is the wanted one
+abbrev pub place_of : ℕ → List ℕ → Option ℕ
+place_of wanted bytes =
+    if nat_lt (position_or_len (λ byte. byte == wanted) bytes) (length bytes) then Some (position_or_len (λ byte. byte == wanted) bytes) else None

@@ -5,3 +5,4 @@ pub mod Written
 pub mod Reported
 pub mod Chunks
 pub mod Rounds
+pub mod Script

@@ -1,8 +1,8 @@
 //! The lines of a script, which is read a chunk at a time and never held whole.
-ghost use Rattle.std.specs.Prelude.{◌≡◌, ◌≤◌, ◌<◌, ◌+◌, ◌^◌, [], true, false, IsTrue, OnOk, OnErr, IfOk, slice_range};
+ghost use Rattle.std.specs.Prelude.{◌≡◌, ◌≤◌, ◌<◌, ◌+◌, ◌^◌, [], true, false, IsTrue, OnOk, OnErr, IfOk, IfSome, length, slice_range};
 ghost use Rattle.std.specs.Vec.{vec_len};
 ghost use Rattle.cv_io.specs.Outside.{Rose};
-ghost use Rattle.covisor_proxy.specs.Chunks.{Gave};
+ghost use Rattle.covisor_proxy.specs.Chunks.{Gave, place_of};
 ghost use Rattle.covisor_proxy.specs.Ended.{IsAtEnd};
 
 use cv_io::{Bytes, Failed, Memory, Source};
@@ -81,7 +81,7 @@ impl Lines {
         ensures { self.new.is_ended ≡ self.old.is_ended }
     {
         let unread = &self.chunk.as_slice()[self.start..self.end];
-        let feed = unread.iter().position(|byte| *byte == b'\n');
+        let feed = place_of(unread, b'\n');
         let (part, used) = match feed {
             Some(place) => (&unread[..place], place + 1),
             None => (unread, unread.len()),
@@ -114,4 +114,12 @@ impl Lines {
         self.is_ended = read == 0;
         Ok(())
     }
+}
+
+/// The place of the first byte that is the wanted one.
+pub(crate) fn place_of(bytes: &[u8], wanted: u8) -> Option<usize>
+    ensures place { result ≡ place_of wanted bytes.now }
+    ensures within { IfSome result (λ place. place < length bytes.now) }
+{
+    bytes.iter().position(|byte| *byte == wanted)
 }

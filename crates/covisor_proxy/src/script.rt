@@ -1,4 +1,8 @@
 //! The lines of a script.
+ghost use Rattle.std.specs.Prelude.{◌≡◌, IfOk};
+ghost use Rattle.covisor_proxy.specs.Script.{from_line};
+
+use crate::lines::place_of;
 use crate::stop::Stop;
 use cv_io::{Bytes, Memory, Session, Who};
 use hex::FromHexError;
@@ -36,8 +40,10 @@ pub(crate) fn read(alloc: Global, line: &[u8]) -> Result<Line, Memory> {
 }
 
 /// Reads what follows `from `: a name and the digits of at least one byte.
-fn from(alloc: Global, words: &[u8]) -> Result<Line, Memory> {
-    let Some(blank) = words.iter().position(|byte| *byte == b' ') else {
+fn from(alloc: Global, words: &[u8]) -> Result<Line, Memory>
+    ensures { IfOk result (λ line. line ≡ from_line words.now) }
+{
+    let Some(blank) = place_of(words, b' ') else {
         return Ok(Line::Unknown);
     };
     let Some(who) = policy::named(&words[..blank]) else {
