@@ -1,5 +1,5 @@
 -- What the lines of a script say.
-use Rattle.std.specs.Prelude.{◌+◌, ℕ, List, [], ◌∷◌, Option, Some, None, Result, Ok, Err, codes, drop, length, nat_eq, take, if◌then◌else◌}
+use Rattle.std.specs.Prelude.{◌≡◌, ◌+◌, ◌==◌, ℕ, Bool, true, List, [], ◌∷◌, Option, Some, None, Result, Ok, Err, codes, drop, length, nat_eq, take, if◌then◌else◌}
 use Rattle.std.specs.Cmp.Lexicographic.{pointwise}
 use Rattle.cv_io.specs.declared.leaf.Who.{Who}
 use Rattle.hex.specs.Hex.{decode_of}
@@ -35,5 +35,24 @@ parted None words = Unknown
 parted (Some place) words = sent_by (named (take place words)) (drop (place + 1) words)
 
 -- what follows `from `
-abbrev pub from_line : List ℕ → Line
+unfoldable pub from_line : List ℕ → Line
 from_line words = parted (place_of 32 words) words
+
+-- what a line says that doesn't begin with `up `
+abbrev pub from_or : Option (List ℕ) → Line
+from_or None = Unknown
+from_or (Some words) = from_line words
+
+-- what a line says, by what stands behind `up `
+abbrev pub up_or : Option (List ℕ) → List ℕ → Line
+up_or None line = from_or (behind (codes "from ") line)
+up_or (Some name) line = up_line (named name)
+
+-- a line is empty or a comment
+abbrev pub is_blank : List ℕ → Bool
+is_blank [] = true
+is_blank (byte ∷ rest) = byte == 35
+
+-- what a line says, without its line feed
+unfoldable pub line_of : List ℕ → Line
+line_of line = if is_blank line then Blank else up_or (behind (codes "up ") line) line

@@ -1,8 +1,8 @@
 //! The lines of a script, which is read a chunk at a time and never held whole.
-ghost use Rattle.std.specs.Prelude.{◌≡◌, ◌≤◌, ◌<◌, ◌+◌, ◌^◌, [], true, false, IsTrue, OnOk, OnErr, IfOk, IfSome, length, slice_range};
+ghost use Rattle.std.specs.Prelude.{◌≡◌, ◌≤◌, ◌<◌, ◌+◌, ◌^◌, ◌-◌, ◌++◌, ◌⊎◌, [], None, true, false, IsTrue, OnOk, OnErr, IfOk, IfSome, length, slice_range};
 ghost use Rattle.std.specs.Vec.{vec_len};
 ghost use Rattle.cv_io.specs.Outside.{Rose};
-ghost use Rattle.covisor_proxy.specs.Chunks.{Gave, place_of};
+ghost use Rattle.covisor_proxy.specs.Chunks.{EndsAt, Gave, place_of};
 ghost use Rattle.covisor_proxy.specs.Ended.{IsAtEnd};
 
 use cv_io::{Bytes, Failed, Memory, Source};
@@ -78,7 +78,11 @@ impl Lines {
 
     /// Takes bytes of the chunk into the present line, up to its line feed.
     pub(crate) fn take(&mut self) -> Result<Taken, Memory>
-        ensures { self.new.is_ended ≡ self.old.is_ended }
+        ensures whole { let unread = slice_range self.old.chunk.items self.old.start self.old.end in result ≡ Ok Taken.Whole → EndsAt (place_of 10 unread) unread self.old.line self.new.line self.old.start self.new.start }
+        ensures part { let unread = slice_range self.old.chunk.items self.old.start self.old.end in result ≡ Ok Taken.Part → (place_of 10 unread ≡ None) × (self.new.line ≡ self.old.line ++ unread) × (self.new.start ≡ self.new.end) }
+        ensures chunk { (self.new.chunk.items ≡ self.old.chunk.items) × (self.new.end ≡ self.old.end) }
+        ensures long { result ≡ Ok Taken.Long → (SCRIPT < self.old.taken + (self.old.end - self.old.start)) ⊎ (LINE < length self.old.line + (self.old.end - self.old.start)) }
+        ensures ended { self.new.is_ended ≡ self.old.is_ended }
     {
         let unread = &self.chunk.as_slice()[self.start..self.end];
         let feed = place_of(unread, b'\n');
