@@ -1,5 +1,5 @@
 -- The report: its lines, and when it was written.
-use Rattle.std.specs.Prelude.{◌≡◌, ◌∷◌, ◌++◌, ◌⊎◌, [], ℕ, List, Option, codes}
+use Rattle.std.specs.Prelude.{◌∷◌, ◌++◌, ◌⊎◌, [], ℕ, List, Option, codes}
 use Rattle.cv_io.specs.Outside.{Rose}
 use Rattle.hex.specs.Hex.{encode_lower}
 use Rattle.covisor_proxy.specs.Written.{Appends}
