@@ -1,5 +1,5 @@
 -- What is known where a replay stops.
-use Rattle.std.specs.Prelude.{ℕ, ⊤}
+use Rattle.std.specs.Prelude.{⊤}
 use Rattle.covisor_proxy.specs.declared.stop.Stop.{Stop}
 use Rattle.covisor_proxy.specs.declared.stop.Stop.TheVariants.{Unbuilt, Read, Write, Memory}
 

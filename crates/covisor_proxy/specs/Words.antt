@@ -1,5 +1,5 @@
 -- The forms of the command line.
-use Rattle.std.specs.Prelude.{ℕ, Bool, true, false, List, [], ◌∷◌, nat_eq, codes}
+use Rattle.std.specs.Prelude.{Bool, false, List, [], ◌∷◌, nat_eq, codes}
 use Rattle.std.specs.Cmp.Lexicographic.{pointwise}
 use Rattle.std.specs.String.{string_bytes}
 use Rattle.std.specs.declared.string.String.{String}

@@ -1,8 +1,10 @@
 //! A replay: the events of a script, one after the other, and the report of what each puts into the
 //! outboxes.
-ghost use Rattle.std.specs.Prelude.{◌≡◌, ⊤, IfErr, OnOk};
+ghost use Rattle.std.specs.Prelude.{◌≡◌, ◌+◌, ◌∷◌, [], ⊤, IfErr, IfOk, OnOk, min};
 ghost use Rattle.cv_io.specs.Outside.{Rose};
 ghost use Rattle.covisor_proxy.specs.Ended.{IsAtEnd};
+ghost use Rattle.covisor_proxy.specs.Rounds.{Means, Names, Refuses, session_of};
+ghost use Rattle.covisor_proxy.specs.Script.{line_of};
 ghost use Rattle.covisor_proxy.specs.Stops.{Explains};
 
 use crate::lines::{Lines, Taken};
@@ -29,7 +31,10 @@ pub(crate) struct Runner {
 }
 
 impl Runner {
-    fn new(alloc: Global) -> Result<Runner, Memory> {
+    fn new(alloc: Global) -> Result<Runner, Memory>
+        ensures number { IfOk result (λ runner. runner.number ≡ 0) }
+        ensures rounds { IfOk result (λ runner. runner.rounds ≡ 0 ∷ 0 ∷ []) }
+    {
         Ok(Runner {
             alloc,
             machine: Hyper::open_built_in(alloc)?,
@@ -39,7 +44,9 @@ impl Runner {
     }
 
     /// The session in its present round.
-    fn session(&self, who: Who) -> Session {
+    fn session(&self, who: Who) -> Session
+        ensures { result ≡ session_of self.now.rounds who }
+    {
         let round = match who {
             Who::Member(_) => self.rounds[0],
             _ => self.rounds[1],
@@ -57,7 +64,10 @@ impl Runner {
 
     /// The event of a line, or none of a blank one.
     fn event(&self, line: &[u8]) -> Result<Option<Event>, Stop>
-        ensures { IfErr result (λ stop. Explains stop ⊤ ⊥ ⊥) }
+        ensures means { IfOk result (Means self.now.rounds (line_of line.now)) }
+        ensures refuses { IfErr result (Refuses (line_of line.now)) }
+        ensures names { IfErr result (Names self.now.number) }
+        ensures explains { IfErr result (λ stop. Explains stop ⊤ ⊥ ⊥) }
     {
         match script::read(self.alloc, line)? {
             Line::Blank => Ok(None),
@@ -83,6 +93,8 @@ impl Runner {
     ) -> Result<(), Stop>
         ensures quiet { OnOk result (K.faults out.new ≡ K.faults out.old) }
         ensures fault { IfErr result (λ stop. Explains stop (K.faults out.new ≡ K.faults out.old) ⊥ (Rose (K.faults out.old) (K.faults out.new))) }
+        ensures number { self.new.number ≡ min (self.old.number + 1) 18446744073709551615 }
+        ensures names { IfErr result (Names self.new.number) }
     {
         self.number = self.number.saturating_add(1);
         let Some(event) = self.event(line)? else {
@@ -117,6 +129,8 @@ impl Runner {
     ) -> Result<(), Stop>
         ensures quiet { OnOk result (K.faults out.new ≡ K.faults out.old) }
         ensures fault { IfErr result (λ stop. Explains stop (K.faults out.new ≡ K.faults out.old) ⊥ (Rose (K.faults out.old) (K.faults out.new))) }
+        ensures kept { (self.new.number ≡ self.old.number) × (self.new.rounds ≡ self.old.rounds) }
+        ensures names { IfErr result (Names self.new.number) }
     {
         let session = self.session(who);
         for _ in 0..u64::MAX {

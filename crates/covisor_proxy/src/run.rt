@@ -1,7 +1,10 @@
 //! The top call.
-ghost use Rattle.std.specs.Prelude.{◌≡◌, ◌↔◌, ◌⊎◌, false};
+ghost use Rattle.std.specs.Prelude.{◌≡◌, ◌↔◌, ◌⊎◌, ◌++◌, codes, false};
 ghost use Rattle.cv_io.specs.Outside.{Rose};
 ghost use Rattle.covisor_proxy.specs.Ended.{IsAtEnd};
+ghost use Rattle.covisor_proxy.specs.Reported.{IsWritten, as_line};
+ghost use Rattle.covisor_proxy.specs.Written.{Appends};
+ghost use Rattle.std.specs.Fmt.{decimal};
 ghost use Rattle.covisor_proxy.specs.Words.{is_replay};
 
 use crate::replay::replay;
@@ -41,6 +44,7 @@ pub fn run<S: Source, K: Sink, G: Ledger>(
     steps: &mut Steps<G>,
 ) -> u8
     ensures usage { (result ≡ USAGE) ↔ (is_replay words.now ≡ false) }
+    ensures usage_line { result ≡ USAGE → IsWritten (K.held out.old) (K.held out.new) (K.faults out.old) (K.faults out.new) (codes "fault usage\n") }
     ensures read_fault { result ≡ READ → Rose (S.faults input.old) (S.faults input.new) }
     ensures write_fault { result ≡ WRITE → Rose (K.faults out.old) (K.faults out.new) }
     ensures whole { result ≡ DONE → IsAtEnd (S.remaining input.new) }
@@ -62,7 +66,8 @@ pub fn run<S: Source, K: Sink, G: Ledger>(
 
 /// Writes the last line of a fault. The status stays where that fails.
 fn faulty<K: Sink>(out: &mut K, line: &[u8], status: u8) -> u8
-    ensures { result ≡ status }
+    ensures status { result ≡ status }
+    ensures written { IsWritten (K.held out.old) (K.held out.new) (K.faults out.old) (K.faults out.new) line.now }
 {
     let _written = write_all(out, line);
     status
@@ -71,6 +76,7 @@ fn faulty<K: Sink>(out: &mut K, line: &[u8], status: u8) -> u8
 /// Writes what waits and the last line of a script that was done.
 fn ended<K: Sink>(alloc: Global, lines: u64, out: &mut K, report: &mut Report) -> u8
     ensures statuses { (result ≡ DONE) ⊎ (result ≡ WRITE) ⊎ (result ≡ MEMORY) }
+    ensures last_line { result ≡ DONE → Appends (K.held out.old) (K.held out.new) (report.old.waiting ++ as_line (codes "end lines=" ++ decimal lines)) }
     ensures written { result ≡ DONE → K.faults out.new ≡ K.faults out.old }
     ensures write_fault { result ≡ WRITE → Rose (K.faults out.old) (K.faults out.new) }
 {

@@ -1,4 +1,8 @@
 //! The lines of a script.
+ghost use Rattle.std.specs.Prelude.{◌≡◌, IfOk};
+ghost use Rattle.covisor_proxy.specs.Script.{from_line, line_of};
+
+use crate::lines::place_of;
 use crate::stop::Stop;
 use cv_io::{Bytes, Memory, Session, Who};
 use hex::FromHexError;
@@ -19,7 +23,10 @@ pub(crate) enum Line {
 }
 
 /// Reads a line without its line feed. Its words are separated by one blank.
-pub(crate) fn read(alloc: Global, line: &[u8]) -> Result<Line, Memory> {
+#[tactic(auto, unfolding(crate::specs::Script::line_of))]
+pub(crate) fn read(alloc: Global, line: &[u8]) -> Result<Line, Memory>
+    ensures { IfOk result (λ read. read ≡ line_of line.now) }
+{
     if line.is_empty() || line.starts_with(b"#") {
         return Ok(Line::Blank);
     }
@@ -36,8 +43,11 @@ pub(crate) fn read(alloc: Global, line: &[u8]) -> Result<Line, Memory> {
 }
 
 /// Reads what follows `from `: a name and the digits of at least one byte.
-fn from(alloc: Global, words: &[u8]) -> Result<Line, Memory> {
-    let Some(blank) = words.iter().position(|byte| *byte == b' ') else {
+#[tactic(auto, unfolding(crate::specs::Script::from_line))]
+fn from(alloc: Global, words: &[u8]) -> Result<Line, Memory>
+    ensures { IfOk result (λ line. line ≡ from_line words.now) }
+{
+    let Some(blank) = place_of(words, b' ') else {
         return Ok(Line::Unknown);
     };
     let Some(who) = policy::named(&words[..blank]) else {

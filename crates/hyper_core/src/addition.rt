@@ -1,10 +1,14 @@
 //! The one kind of message that the member may send so far: a FLOW_MOD that adds an entry whose
 //! actions are outputs to ports (section 5.3.3 of the OpenFlow Switch Specification 1.0.0).
-ghost use Rattle.std.specs.Prelude.{◌≡◌, ◌/◌, length};
+ghost use Rattle.std.specs.Prelude.{◌≡◌, ◌/◌, ◌<◌, IfSome, IsTrue, OnSome, Some, None, drop, length, slice_range, nat_lt, if◌then◌else◌};
+ghost use Rattle.of10_frames.specs.Frames.{IsFrame};
+ghost use Rattle.of10_match.specs.Wildcards.{normal_of};
+ghost use Rattle.hyper_core.specs.Adding.{is_granted};
+ghost use Rattle.hyper_core.specs.Placing.{port_at, port_of};
 
 use crate::policy::PORTS;
 use byteorder::{BigEndian, ByteOrder};
-use of10_frames::wire::VERSION;
+use of10_frames::wire::{VERSION, is_frame};
 use of10_match::Match;
 
 const FLOW_MOD: u8 = 14;
@@ -37,11 +41,16 @@ pub(crate) struct Addition<'a> {
 
 /// The entry that a frame adds, where it is one whole FLOW_MOD of that kind and the grant allows
 /// what it names.
-pub(crate) fn read(frame: &[u8]) -> Option<Addition<'_>> {
+pub(crate) fn read(frame: &[u8]) -> Option<Addition<'_>>
+    ensures frame { OnSome result (IsFrame frame.now) }
+    ensures matched { IfSome result (λ added. added.normal ≡ normal_of (slice_range frame.now 8 48)) }
+    ensures granted { IfSome result (λ added. IsTrue (is_granted added.normal)) }
+    ensures actions { IfSome result (λ added. added.actions.now ≡ drop 72 frame.now) }
+{
     if frame.len() < FIXED || frame[0] != VERSION || frame[1] != FLOW_MOD {
         return None;
     }
-    if BigEndian::read_u16(&frame[2..4]) as usize != frame.len() {
+    if !is_frame(frame) {
         return None;
     }
     let command = BigEndian::read_u16(&frame[56..58]);
@@ -75,7 +84,9 @@ pub(crate) fn read(frame: &[u8]) -> Option<Addition<'_>> {
 }
 
 /// The grant names every field but dl_vlan_pcp, and shows the ports of the virtual switch.
-fn is_granted(normal: &Match) -> bool {
+fn is_granted(normal: &Match) -> bool
+    ensures { result ≡ is_granted normal.now }
+{
     normal.dl_vlan_pcp.is_none() && normal.in_port.is_none_or(|port| PORTS.contains(&port))
 }
 
@@ -93,6 +104,7 @@ fn are_outputs(actions: &[u8]) -> bool {
 /// The port of an OUTPUT.
 fn port_of(action: &[u8]) -> u16
     requires { length action.now ≡ 8 }
+    ensures { result ≡ port_of action.now }
 {
     BigEndian::read_u16(&action[4..6])
 }
@@ -106,7 +118,10 @@ impl Addition<'_> {
     }
 
     /// The port of an output by its number.
-    pub(crate) fn port(&self, number: usize) -> Option<u16> {
+    #[tactic(auto, unfolding(crate::specs::Placing::port_at))]
+    pub(crate) fn port(&self, number: usize) -> Option<u16>
+        ensures { let actions = self.now.actions.now in result ≡ (if nat_lt number (length actions / 8) then Some (port_at actions number) else None) }
+    {
         if number < self.outputs() {
             Some(port_of(&self.actions[number * OUTPUT..number * OUTPUT + OUTPUT]))
         } else {

@@ -1,4 +1,4 @@
-use Rattle.std.proofs.Common.{◌≡◌, ◌∙◌}
+use Rattle.std.proofs.Common.{◌∙◌}
 use Rattle.covisor_proxy.proofs.Appending.{appends-more}
 use Rattle.covisor_proxy.proofs.report.write_all.Goals as goal
 

@@ -1,4 +1,4 @@
-use Rattle.std.proofs.Common.{◌≡◌, nat_eq, arith}
+use Rattle.std.proofs.Common.{arith}
 use Rattle.covisor_proxy.proofs.Ending.{at_end}
 use Rattle.covisor_proxy.proofs.lines.Lines.fill.Goals as goal
 
