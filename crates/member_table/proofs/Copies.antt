@@ -1,11 +1,13 @@
 -- Entries are copied one after the other.
-use Rattle.std.proofs.Common.{◌≡◌, ℕ, zero, suc, ◌<◌, ◌≤◌, ◌+◌, Bool, true, false, ◌==◌, List, [], ◌∷◌, length, take, map, slice_get, refl, sym, ap₂, subst, ◌∙◌, arith, true≢false, Some, None, eqb-true, eq-eqb}
+use Rattle.std.proofs.Common.{◌≡◌, ℕ, zero, suc, ◌<◌, ◌≤◌, ◌+◌, Bool, true, false, ◌==◌, List, [], ◌∷◌, length, take, map, slice_get, refl, sym, ap₂, subst, ◌∙◌, arith, true≢false, Some, None}
 use Rattle.std.specs.List.{list_any, AllByRecursion, IsDistinct}
 use Rattle.std.proofs.lemmas.Option.{slice_get_within, get_or_from_slice_get}
 use Rattle.member_table.specs.Entries.{identity_of, has_serial, is_at, put}
 use Rattle.member_table.specs.Orders.{OrderOf}
 use Rattle.member_table.specs.Sound.{AreApart, EachPair}
 use Rattle.member_table.specs.declared.entry.Entry.{Entry}
+use Rattle.std.proofs.lemmas.Bool.Decides.{Decides-eqb}
+use Rattle.member_table.proofs.Keyed.{flipped}
 use Rattle.member_table.proofs.Lists.{take_pushed}
 use Rattle.member_table.proofs.Means.{near_itself}
 use Rattle.member_table.proofs.Steps.{identity_decides, put-none}
@@ -15,10 +17,6 @@ at_place : {X : Type 0} (P : X → Type 0) (xs : List X) (i : ℕ) (x : X) → A
 at_place P [] i x a g = absurd (cc)
 at_place P (y ∷ xs) zero x a g = let e : y ≡ x = cc in subst P e a.0
 at_place P (y ∷ xs) (suc i) x a g = at_place P xs i x a.1 g
-
-flipped : (m n : ℕ) → (m == n) ≡ false → (b : Bool) → (n == m) ≡ b → (n == m) ≡ false
-flipped m n h true t = absurd (true≢false (sym (eq-eqb m n (sym (eqb-true n m t))) ∙ h))
-flipped m n h false t = t
 
 numbers_at : (k : ℕ) (es : List Entry) → AllByRecursion (λ y. (k == y) ≡ false) (map (λ (x : Entry). x.serial) es) → AllByRecursion (λ (e : Entry). (k == e.serial) ≡ false) es
 numbers_at k [] a = tt
@@ -32,7 +30,7 @@ fresh_before [] (suc i) e d g = refl
 fresh_before (x ∷ es) zero e d g = refl
 fresh_before (x ∷ es) (suc i) e d g =
     let h = at_place (λ (y : Entry). (x.serial == y.serial) ≡ false) es i e (numbers_at x.serial es d.0) g in
-    rw (flipped x.serial e.serial h (e.serial == x.serial) refl) (fresh_before es i e d.1 g)
+    rw (flipped ◌==◌ Decides-eqb (λ (y : Entry). y.serial) e.serial x.serial ∙ h) (fresh_before es i e d.1 g)
 
 not_at : (x e : Entry) → AreApart x e → (b : Bool) → is_at (identity_of e) x ≡ b → is_at (identity_of e) x ≡ false
 not_at x e p true t = absurd (true≢false (sym (near_itself e x ((identity_decides (identity_of e) (identity_of x)).0 t)) ∙ p))

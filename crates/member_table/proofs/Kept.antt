@@ -1,6 +1,7 @@
 -- A table is kept whole when its parts change together.
-use Rattle.std.proofs.Common.{◌≡◌, ℕ, ◌<◌, ◌≤◌, ◌+◌, ◌-◌, Bool, true, false, not, List, [], ◌∷◌, map, filter, find, refl, sym, ap, ap₂, subst, ◌∙◌, arith, Some, None, count_by, option_map, is_some}
+use Rattle.std.proofs.Common.{◌≡◌, ℕ, ◌<◌, ◌≤◌, ◌+◌, ◌-◌, Bool, true, false, not, List, [], ◌∷◌, map, filter, find, refl, sym, ap, ap₂, subst, ◌∙◌, arith, Some, None, count_by, option_map, is_some, ◌==◌}
 use Rattle.std.specs.List.{list_any}
+use Rattle.std.proofs.lemmas.Bool.Decides.{Decides-eqb}
 use Rattle.member_table.specs.Entries.{identity_of, has_serial, is_at, put}
 use Rattle.member_table.specs.Orders.{OrderOf}
 use Rattle.member_table.specs.Ranking.{RanksOf, ranked_of, same_ranked, Exchanges, AddsTo}
@@ -8,7 +9,7 @@ use Rattle.member_table.specs.Sound.{IsKept, IsSound}
 use Rattle.member_table.specs.Tables.{TableOf}
 use Rattle.member_table.specs.declared.entry.Entry.{Entry}
 use Rattle.member_table.proofs.Lists.{any_find, filter-none}
-use Rattle.member_table.proofs.Steps.{once_serial}
+use Rattle.member_table.proofs.Keyed.{once_key}
 use Rattle.member_table.proofs.Sounds.{sound_map, sound_filter, sound_put, is_blocked}
 use Rattle.member_table.proofs.Counts.{count_dropped, exchange_follows, same_any, any_found}
 
@@ -37,7 +38,7 @@ pub kept_drop : (s next limit room : ℕ) (order order' : OrderOf) (ranks ranks'
     → AddsTo (ranked_of e) ranks'.items ranks.items → ranks.room ≤ ranks'.room → IsKept (table_of order'.entries next limit) room order' ranks'
 kept_drop s next limit room order order' ranks ranks' e k es r f a q = record {
   sound = let P : List Entry → Type 0 = λ es. IsSound (table_of es next limit) in subst P (sym es) (sound_filter (table_of order.entries next limit) (λ x. not (has_serial s x)) k.sound);
-  ranked = λ p. (let one = k.ranked p in let two = a p in let three = count_dropped p s order.entries e (once_serial s order.entries k.sound.once) (sym f) in
+  ranked = λ p. (let one = k.ranked p in let two = a p in let three = count_dropped p s order.entries e (once_key ◌==◌ Decides-eqb (λ e. e.serial) s order.entries k.sound.once) (sym f) in
       let four = ap (λ xs. count_by p (map ranked_of xs)) es in omega (arith, one, two, three, four));
   order_room = (let b = k.order_room in omega arith);
   ranks_room = (let b = k.ranks_room in omega arith);

@@ -1,5 +1,7 @@
 pub mod Lists
+pub mod Keyed
 pub mod Steps
+pub mod Indexed
 pub mod Falling
 pub mod Least
 pub mod SameRanked

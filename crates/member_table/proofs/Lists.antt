@@ -1,7 +1,7 @@
 -- The first of a list that passes a test, and the list without it or with another in its place.
-use Rattle.std.proofs.Common.{◌≡◌, ℕ, zero, suc, ◌<◌, ◌+◌, Bool, true, false, not, cond, ◌||◌, List, [], ◌∷◌, ◌++◌, length, get_or, set, map, filter, find, remove, position, slice_get, Some, None, refl, sym, ap, ◌∙◌, arith, if◌then◌else◌, true≢false, ap₂, take, ◌-◌, swap_remove, length-append, length-set, suc-add, lt-ltb, is_some}
+use Rattle.std.proofs.Common.{◌≡◌, ℕ, zero, suc, ◌<◌, ◌+◌, Bool, true, false, not, cond, ◌||◌, List, [], ◌∷◌, ◌++◌, length, get_or, set, map, filter, find, remove, position, slice_get, Some, None, refl, sym, ap, ◌∙◌, arith, if◌then◌else◌, true≢false, ap₂, take, ◌-◌, swap_remove, length-append, length-set, suc-add, lt-ltb, is_some, option_map, subst, nat_lt, ltb-true, ◌≤◌}
 use Rattle.std.proofs.lemmas.List.{set-append_left}
-use Rattle.std.specs.List.{list_any, position_or_len}
+use Rattle.std.specs.List.{list_any, position_or_len, AllByRecursion}
 use Rattle.std.proofs.lemmas.List.Quantifiers.{position-Some}
 
 -- the first that passes stands at this place
@@ -131,3 +131,90 @@ any_find p (x ∷ xs) = by (p x) (any_find p xs)
     by : (b : Bool) → list_any p xs ≡ is_some (find p xs) → (b || list_any p xs) ≡ is_some (cond b (Some x) (find p xs))
     by true e = refl
     by false e = e
+
+-- what is found passes
+pub found_passes : {X : Type 0} (p : X → Bool) (xs : List X) (x : X) → find p xs ≡ Some x → p x ≡ true
+found_passes p [] x e = absurd (cc)
+found_passes p (y ∷ xs) x e = by (p y) refl e (λ h. found_passes p xs x h)
+  where
+    by : (b : Bool) → p y ≡ b → cond b (Some y) (find p xs) ≡ Some x → (find p xs ≡ Some x → p x ≡ true) → p x ≡ true
+    by true t e r = let s : y ≡ x = cc in ap p (sym s) ∙ t
+    by false t e r = r e
+
+-- what is found in a list without what passes another test
+pub find_kept : {X : Type 0} (p q : X → Bool) (xs : List X) → AllByRecursion (λ x. q x ≡ true → p x ≡ false) xs → find p (filter (λ x. not (q x)) xs) ≡ find p xs
+find_kept p q [] a = refl
+find_kept p q (x ∷ xs) a = by (q x) refl (find_kept p q xs a.1)
+  where
+    by : (b : Bool) → q x ≡ b → find p (filter (λ y. not (q y)) xs) ≡ find p xs → find p (cond (not b) (x ∷ filter (λ y. not (q y)) xs) (filter (λ y. not (q y)) xs)) ≡ find p (x ∷ xs)
+    by true t r = r ∙ sym (ap (λ c. cond c (Some x) (find p xs)) (a.0 t))
+    by false t r = ap (cond (p x) (Some x)) r
+
+pub find_gone : {X : Type 0} (p q : X → Bool) (xs : List X) → AllByRecursion (λ x. p x ≡ true → q x ≡ true) xs → find p (filter (λ x. not (q x)) xs) ≡ None
+find_gone p q [] a = refl
+find_gone p q (x ∷ xs) a = by (q x) refl (p x) refl (find_gone p q xs a.1)
+  where
+    by : (b : Bool) → q x ≡ b → (c : Bool) → p x ≡ c → find p (filter (λ y. not (q y)) xs) ≡ None → find p (cond (not b) (x ∷ filter (λ y. not (q y)) xs) (filter (λ y. not (q y)) xs)) ≡ None
+    by true t c s r = r
+    by false t true s r = absurd (true≢false (sym (a.0 s) ∙ t))
+    by false t false s r = ap (λ d. cond d (Some x) (find p (filter (λ y. not (q y)) xs))) s ∙ r
+
+-- the one that passes is what is found
+none_passes : {X : Type 0} (p : X → Bool) (x : X) (xs : List X) → list_any p xs ≡ false → AllByRecursion (λ y. p y ≡ true → y ≡ x) xs
+none_passes p x [] n = tt
+none_passes p x (y ∷ xs) n = let o = or_false (p y) (list_any p xs) n in (λ t. absurd (true≢false (sym t ∙ o.0)), none_passes p x xs o.1)
+
+pub only_one : {X : Type 0} (p : X → Bool) (xs : List X) (x : X) → IsOnce p xs → find p xs ≡ Some x → AllByRecursion (λ y. p y ≡ true → y ≡ x) xs
+only_one p [] x o f = tt
+only_one p (y ∷ xs) x o f = by (p y) refl f (λ h. only_one p xs x o.1 h)
+  where
+    by : (b : Bool) → p y ≡ b → cond b (Some y) (find p xs) ≡ Some x → (find p xs ≡ Some x → AllByRecursion (λ z. p z ≡ true → z ≡ x) xs) → (p y ≡ true → y ≡ x) × AllByRecursion (λ z. p z ≡ true → z ≡ x) xs
+    by true t f r = (λ s. cc, none_passes p x xs (o.0 t))
+    by false t f r = (λ s. absurd (true≢false (sym s ∙ t)), r f)
+
+-- what is true of each is true of what is found
+pub found_has : {X : Type 0} (P : X → Type 0) (p : X → Bool) (xs : List X) (x : X) → AllByRecursion P xs → find p xs ≡ Some x → P x
+found_has P p [] x a e = absurd (cc)
+found_has P p (y ∷ xs) x a e = by (p y) e (λ h. found_has P p xs x a.1 h)
+  where
+    by : (b : Bool) → cond b (Some y) (find p xs) ≡ Some x → (find p xs ≡ Some x → P x) → P x
+    by true e r = let s : y ≡ x = cc in subst P s a.0
+    by false e r = r e
+
+-- where the one that passes one test is the one that passes another, it stands first for both
+pub same_first : {X : Type 0} (p q : X → Bool) (x : X) (xs : List X) (i : ℕ) → AllByRecursion (λ y. q y ≡ true → y ≡ x) xs → AllByRecursion (λ y. p y ≡ true → y ≡ x) xs → q x ≡ true → p x ≡ true → IsFirst q xs i → IsFirst p xs i
+same_first p q x [] i a b s t h = absurd h
+same_first p q x (y ∷ xs) zero a b s t h = ap p (a.0 h) ∙ t
+same_first p q x (y ∷ xs) (suc i) a b s t h = (not_here (p y) refl, same_first p q x xs i a.1 b.1 s t h.1)
+  where
+    not_here : (c : Bool) → p y ≡ c → p y ≡ false
+    not_here true u = absurd (true≢false (sym (ap q (b.0 u) ∙ s) ∙ h.0))
+    not_here false u = u
+
+-- a change that leaves the test as it is
+pub find_map : {X : Type 0} (p : X → Bool) (f : X → X) → ((x : X) → p (f x) ≡ p x) → (xs : List X) → find p (map f xs) ≡ option_map f (find p xs)
+find_map p f same [] = refl
+find_map p f same (x ∷ xs) = by (p x) (same x) (find_map p f same xs)
+  where
+    by : (b : Bool) → p (f x) ≡ b → find p (map f xs) ≡ option_map f (find p xs) → find p (f x ∷ map f xs) ≡ option_map f (cond b (Some x) (find p xs))
+    by true t r = ap (λ c. cond c (Some (f x)) (find p (map f xs))) t
+    by false t r = ap (λ c. cond c (Some (f x)) (find p (map f xs))) t ∙ r
+
+pub each_false : {X : Type 0} (p : X → Bool) (xs : List X) → list_any p xs ≡ false → AllByRecursion (λ x. p x ≡ false) xs
+each_false p [] n = tt
+each_false p (x ∷ xs) n = let o = or_false (p x) (list_any p xs) n in (o.0, each_false p xs o.1)
+
+-- what stands at a place
+pub slice_got : {X : Type 0} (xs : List X) (i : ℕ) (x : X) → true ≡ nat_lt i (length xs) → x ≡ get_or xs i x → slice_get xs i ≡ Some x
+slice_got xs i x b e = by xs i (ltb-true i (length xs) (sym b)) e
+  where
+    by : (ys : List _) (j : ℕ) → j < length ys → x ≡ get_or ys j x → slice_get ys j ≡ Some x
+    by [] j h e = absurd (omega arith)
+    by (y ∷ ys) zero h e = ap Some (sym e)
+    by (y ∷ ys) (suc j) h e = by ys j (omega arith) e
+
+pub slice_past : {X : Type 0} (xs : List X) (i : ℕ) → length xs ≤ i → slice_get xs i ≡ None
+slice_past [] zero h = refl
+slice_past [] (suc i) h = refl
+slice_past (x ∷ xs) zero h = absurd (omega arith)
+slice_past (x ∷ xs) (suc i) h = slice_past xs i (omega arith)

@@ -1,5 +1,5 @@
 -- The entries that a message means, and what a change of them makes.
-use Rattle.std.proofs.Common.{◌≡◌, ℕ, Bool, true, false, cond, ◌||◌, ◌&&◌, ◌==◌, List, [], ◌∷◌, map, filter, find, refl, sym, ap, ap₂, ◌∙◌, if◌then◌else◌, true≢false, Option, Some, None, eqb-true, eq-eqb}
+use Rattle.std.proofs.Common.{◌≡◌, ℕ, Bool, true, false, cond, ◌||◌, ◌&&◌, ◌==◌, List, [], ◌∷◌, map, filter, find, refl, sym, ap, ap₂, ◌∙◌, if◌then◌else◌, true≢false, Option, Some, None, eq-eqb}
 use Rattle.std.specs.List.{list_any, AllByRecursion, IsDistinct}
 use Rattle.of10_match.proofs.MeetSelf.{meet_self}
 use Rattle.of10_match.specs.Fields.{MatchOf}
@@ -12,6 +12,8 @@ use Rattle.member_table.specs.Tables.{with_actions}
 use Rattle.member_table.specs.Timeouts.{serials_of}
 use Rattle.member_table.specs.declared.entry.Entry.{Entry}
 use Rattle.member_table.specs.declared.entry.Identity.{Identity}
+use Rattle.std.proofs.lemmas.Bool.Decides.{Decides-eqb}
+use Rattle.member_table.proofs.Keyed.{flipped}
 use Rattle.member_table.proofs.Lists.{IsOnce, or_false}
 use Rattle.member_table.proofs.Steps.{identity_decides}
 use Rattle.member_table.proofs.Falling.{none_each, each_weaker}
@@ -62,15 +64,8 @@ not_among : (k : ℕ) (test : Entry → Bool) (es : List Entry) → AllByRecursi
 not_among k test [] a = refl
 not_among k test (e ∷ es) a = by (test e) (not_among k test es a.1)
   where
-    flipped : (m n : ℕ) → (m == n) ≡ false → (n == m) ≡ false
-    flipped m n h = flip (n == m) refl
-      where
-        flip : (b : Bool) → (n == m) ≡ b → (n == m) ≡ false
-        flip true t = absurd (true≢false (sym (eq-eqb m n (sym (eqb-true n m t))) ∙ h))
-        flip false t = t
-
     by : (b : Bool) → is_among (serials_of test es) k ≡ false → is_among (map (λ (x : Entry). x.serial) (cond b (e ∷ filter test es) (filter test es))) k ≡ false
-    by true r = rw (flipped k e.serial a.0) r
+    by true r = rw (flipped ◌==◌ Decides-eqb (λ (y : Entry). y.serial) e.serial k ∙ a.0) r
     by false r = r
 
 among_more : (test : Entry → Bool) (e : Entry) (es : List Entry) → AllByRecursion (λ y. (e.serial == y) ≡ false) (map (λ (x : Entry). x.serial) es)

@@ -1,6 +1,7 @@
 -- What is true of every table stays true when entries go, change or come.
 use Rattle.std.proofs.Common.{◌≡◌, ℕ, ◌<◌, ◌+◌, Bool, true, false, not, cond, ◌&&◌, ◌==◌, List, [], ◌∷◌, map, filter, refl, sym, ap, ap₂, subst, ◌∙◌, arith, if◌then◌else◌, ne_eqb, ◌≢◌}
 use Rattle.std.specs.List.{list_any, AllByRecursion, IsDistinct}
+use Rattle.std.proofs.lemmas.Bool.Decides.{Decides-eqb}
 use Rattle.member_table.specs.Entries.{identity_of, has_serial, is_at, is_near, put}
 use Rattle.member_table.specs.Sound.{AreApart, EachPair, IsSound}
 use Rattle.member_table.specs.Tables.{TableOf}
@@ -8,6 +9,8 @@ use Rattle.member_table.specs.declared.entry.Entry.{Entry}
 use Rattle.member_table.proofs.Lists.{or_false}
 use Rattle.member_table.proofs.Steps.{identity_decides}
 use Rattle.member_table.proofs.Falling.{each_weaker}
+use Rattle.member_table.proofs.Keyed.{keys_map, once_filter, once_put}
+use Rattle.member_table.proofs.Means.{once_identity}
 
 -- entries go
 kept_more : {X : Type 0} (P : X → Type 0) (b : Bool) (x : X) (xs : List X) → P x → AllByRecursion P xs → AllByRecursion P (cond b (x ∷ xs) xs)
@@ -26,25 +29,8 @@ pair_filter : (p : Entry → Bool) (es : List Entry) → EachPair AreApart es �
 pair_filter p [] a = tt
 pair_filter p (e ∷ es) a = pair_kept (p e) e (filter p es) (each_filter (AreApart e) p es a.0) (pair_filter p es a.1)
 
-other_numbers : (k : ℕ) (p : Entry → Bool) (es : List Entry) → AllByRecursion (λ y. (k == y) ≡ false) (map (λ (x : Entry). x.serial) es) → AllByRecursion (λ y. (k == y) ≡ false) (map (λ (x : Entry). x.serial) (filter p es))
-other_numbers k p [] a = tt
-other_numbers k p (e ∷ es) a = by (p e) (other_numbers k p es a.1)
-  where
-    by : (b : Bool) → AllByRecursion (λ y. (k == y) ≡ false) (map (λ (x : Entry). x.serial) (filter p es)) → AllByRecursion (λ y. (k == y) ≡ false) (map (λ (x : Entry). x.serial) (cond b (e ∷ filter p es) (filter p es)))
-    by true r = (a.0, r)
-    by false r = r
-
-once_filter : (p : Entry → Bool) (es : List Entry) → IsDistinct ◌==◌ (map (λ (x : Entry). x.serial) es) → IsDistinct ◌==◌ (map (λ (x : Entry). x.serial) (filter p es))
-unfolding IsDistinct
-once_filter p [] d = tt
-once_filter p (e ∷ es) d = by (p e) (other_numbers e.serial p es d.0) (once_filter p es d.1)
-  where
-    by : (b : Bool) → AllByRecursion (λ y. (e.serial == y) ≡ false) (map (λ (x : Entry). x.serial) (filter p es)) → IsDistinct ◌==◌ (map (λ (x : Entry). x.serial) (filter p es)) → IsDistinct ◌==◌ (map (λ (x : Entry). x.serial) (cond b (e ∷ filter p es) (filter p es)))
-    by true o r = (o, r)
-    by false o r = r
-
 pub sound_filter : (t : TableOf) (p : Entry → Bool) → IsSound t → IsSound (record t { entries = filter p t.entries })
-sound_filter t p s = record { begun = s.begun; given = each_filter (λ e. (0 < e.serial) × (e.serial < t.next)) p t.entries s.given; once = once_filter p t.entries s.once; apart = pair_filter p t.entries s.apart }
+sound_filter t p s = record { begun = s.begun; given = each_filter (λ e. (0 < e.serial) × (e.serial < t.next)) p t.entries s.given; once = once_filter ◌==◌ Decides-eqb (λ e. e.serial) p t.entries s.once; apart = pair_filter p t.entries s.apart }
 
 -- entries change in all but their number and identity
 pub either_way : {Y : Type 0} (F : Entry → Y) (b : Bool) (x y : Entry) → F x ≡ F y → F (if b then x else y) ≡ F y
@@ -56,10 +42,6 @@ module _ (f : Entry → Entry) (numbers : (e : Entry) → (f e).serial ≡ e.ser
   given_map next [] a = tt
   given_map next (e ∷ es) a = let P : ℕ → Type 0 = λ n. (0 < n) × (n < next) in (subst P (sym (numbers e)) a.0, given_map next es a.1)
 
-  numbers_map : (es : List Entry) → map (λ (x : Entry). x.serial) (map f es) ≡ map (λ (x : Entry). x.serial) es
-  numbers_map [] = refl
-  numbers_map (e ∷ es) = ap₂ (λ n ns. n ∷ ns) (numbers e) (numbers_map es)
-
   each_apart_map : (e : Entry) (es : List Entry) → AllByRecursion (AreApart e) es → AllByRecursion (AreApart (f e)) (map f es)
   each_apart_map e [] a = tt
   each_apart_map e (x ∷ es) a = (ap₂ is_near (identities x) (identities e) ∙ a.0, each_apart_map e es a.1)
@@ -69,7 +51,7 @@ module _ (f : Entry → Entry) (numbers : (e : Entry) → (f e).serial ≡ e.ser
   apart_map (e ∷ es) a = (each_apart_map e es a.0, apart_map es a.1)
 
   pub sound_map : (t : TableOf) → IsSound t → IsSound (record t { entries = map f t.entries })
-  sound_map t s = record { begun = s.begun; given = given_map t.next t.entries s.given; once = (let P : List ℕ → Type 0 = IsDistinct ◌==◌ in subst P (sym (numbers_map t.entries)) s.once); apart = apart_map t.entries s.apart }
+  sound_map t s = record { begun = s.begun; given = given_map t.next t.entries s.given; once = (let P : List ℕ → Type 0 = IsDistinct ◌==◌ in subst P (sym (keys_map ◌==◌ Decides-eqb (λ e. e.serial) f numbers t.entries)) s.once); apart = apart_map t.entries s.apart }
 
 -- an entry comes
 pub each_put : (P : Entry → Type 0) (new : Entry) (es : List Entry) → P new → AllByRecursion P es → AllByRecursion P (put new es)
@@ -79,30 +61,6 @@ each_put P new (e ∷ es) h a = by (is_at (identity_of new) e) (each_put P new e
     by : (b : Bool) → AllByRecursion P (put new es) → AllByRecursion P (if b then new ∷ es else e ∷ put new es)
     by true r = (h, a.1)
     by false r = (a.0, r)
-
-below_not : (n : ℕ) (es : List Entry) → AllByRecursion (λ (x : Entry). x.serial < n) es → AllByRecursion (λ y. (n == y) ≡ false) (map (λ (x : Entry). x.serial) es)
-below_not n [] a = tt
-below_not n (e ∷ es) a = let h = a.0 in let d : n ≢ e.serial = omega arith in (ne_eqb n e.serial d, below_not n es a.1)
-
-not_put : (k : ℕ) (new : Entry) (es : List Entry) → k ≢ new.serial → AllByRecursion (λ y. (k == y) ≡ false) (map (λ (x : Entry). x.serial) es) → AllByRecursion (λ y. (k == y) ≡ false) (map (λ (x : Entry). x.serial) (put new es))
-not_put k new [] d a = (ne_eqb k new.serial d, tt)
-not_put k new (e ∷ es) d a = by (is_at (identity_of new) e) (not_put k new es d a.1)
-  where
-    by : (b : Bool) → AllByRecursion (λ y. (k == y) ≡ false) (map (λ (x : Entry). x.serial) (put new es)) → AllByRecursion (λ y. (k == y) ≡ false) (map (λ (x : Entry). x.serial) (if b then new ∷ es else e ∷ put new es))
-    by true r = (ne_eqb k new.serial d, a.1)
-    by false r = (a.0, r)
-
-once_put : (new : Entry) (es : List Entry) → AllByRecursion (λ (x : Entry). x.serial < new.serial) es → IsDistinct ◌==◌ (map (λ (x : Entry). x.serial) es) → IsDistinct ◌==◌ (map (λ (x : Entry). x.serial) (put new es))
-unfolding IsDistinct
-once_put new [] a d = (tt, tt)
-once_put new (e ∷ es) a d = by (is_at (identity_of new) e) (once_put new es a.1 d.1)
-  where
-    other : (n k : ℕ) → n < k → n ≢ k
-    other n k h = omega arith
-
-    by : (b : Bool) → IsDistinct ◌==◌ (map (λ (x : Entry). x.serial) (put new es)) → IsDistinct ◌==◌ (map (λ (x : Entry). x.serial) (if b then new ∷ es else e ∷ put new es))
-    by true r = (below_not new.serial es a.1, d.1)
-    by false r = (not_put e.serial new es (other e.serial new.serial a.0) d.0, r)
 
 -- it overlaps none of its rank but the identical one
 abbrev pub is_blocked : Entry → Entry → Bool
@@ -127,15 +85,19 @@ pub sound_put : (t : TableOf) (new : Entry) → IsSound t → new.serial ≡ t.n
 sound_put t new s n blocked = record {
   begun = omega arith;
   given = each_put (λ e. (0 < e.serial) × (e.serial < t.next + 1)) new t.entries (begun_new s.begun) (each_weaker (λ e. (0 < e.serial) × (e.serial < t.next)) (λ e. (0 < e.serial) × (e.serial < t.next + 1)) (λ e h. (h.0, up e.serial h.1)) t.entries s.given);
-  once = once_put new t.entries (each_weaker (λ e. (0 < e.serial) × (e.serial < t.next)) (λ e. e.serial < new.serial) (λ e h. fresh e.serial h.1) t.entries s.given) s.once;
+  once = once_put ◌==◌ Decides-eqb (λ e. e.serial) new t.entries (once_identity (identity_of new) t.entries s.apart)
+      (each_weaker (λ e. (0 < e.serial) × (e.serial < t.next)) (λ e. is_at (identity_of new) e ≡ false → (new.serial == e.serial) ≡ false) (λ e h _. fresh e.serial h.1) t.entries s.given) s.once;
   apart = apart_put new t.entries blocked s.apart;
 }
   where
     up : (k : ℕ) → k < t.next → k < t.next + 1
     up k h = omega arith
 
-    fresh : (k : ℕ) → k < t.next → k < new.serial
-    fresh k h = omega arith
+    fresh : (k : ℕ) → k < t.next → (new.serial == k) ≡ false
+    fresh k h = ne_eqb new.serial k (other k h)
+      where
+        other : (k : ℕ) → k < t.next → new.serial ≢ k
+        other k h = omega arith
 
     begun_new : 0 < t.next → (0 < new.serial) × (new.serial < t.next + 1)
     begun_new h = (omega arith, omega arith)

@@ -5,6 +5,7 @@ pub mod Changes
 pub mod Planning
 pub mod Best
 pub mod Timeouts
+pub mod Wanting
 pub mod Sound
 pub mod Orders
 pub mod Ranking

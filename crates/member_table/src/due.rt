@@ -4,6 +4,7 @@ ghost use Rattle.member_table.specs.Timeouts.{ListsRising, is_hard_due, is_idle_
 
 use crate::change::Due;
 use crate::table::Table;
+use crate::wanted::Wanted;
 use cv_io::{List, Memory};
 
 /// The same numbers, rising.
@@ -20,8 +21,8 @@ impl Table {
         ensures hard { IfOk result (λ due. ListsRising (serials_of (is_hard_due now) self.now.table.entries) due.hard) }
         ensures idle { IfOk result (λ due. ListsRising (serials_of (is_idle_due now) self.now.table.entries) due.idle) }
     {
-        let hard = rising(self.order.hard_due(self.alloc, now)?)?;
-        let idle = rising(self.order.idle_due(self.alloc, now)?)?;
+        let hard = rising(self.order.wanted(self.alloc, &Wanted::HardDue { now })?)?;
+        let idle = rising(self.order.wanted(self.alloc, &Wanted::IdleDue { now })?)?;
         Ok(Due { hard, idle })
     }
 }

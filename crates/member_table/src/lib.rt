@@ -11,12 +11,14 @@ mod due;
 pub mod entry;
 pub mod fault;
 mod order;
+mod places;
 mod plan;
 mod ranked;
 mod ranks;
 pub mod table;
 #[cfg(test)]
 mod tests;
+mod wanted;
 
 pub use change::{Change, Due, Modified};
 pub use command::Command;

@@ -1,56 +1,85 @@
 //! Entries in the order of insertion.
-ghost use Rattle.std.specs.Prelude.{◌≡◌, ◌==◌, ◌<◌, ◌≤◌, ◌+◌, ◌&&◌, Bool, [], OnOk, IfOk, length, find, filter, map, not, false, true, if◌then◌else◌, IfSome, nat_eq};
+ghost use Rattle.std.specs.Prelude.{◌≡◌, ◌==◌, ◌<◌, ◌≤◌, ◌+◌, ◌-◌, ◌&&◌, ℕ, Bool, [], None, cond, nat_eq, OnOk, IfOk, length, find, filter, map, not, false, true, if◌then◌else◌, vec_len, vec_capacity};
 ghost use Rattle.std.specs.List.{list_any, slice_get};
-ghost use Rattle.std.specs.Option.{option_copied};
-ghost use Rattle.indexmap.specs.IndexSet.{IsUnique, spare as spare_keys};
-ghost use Rattle.of10_match.specs.Matching.{covers};
-ghost use Rattle.member_table.specs.Orders.{numbered};
-ghost use Rattle.member_table.specs.Tables.{outputs_to};
-ghost use Rattle.member_table.specs.Timeouts.{is_hard_due, is_idle_due, serials_of};
+ghost use Rattle.std.specs.Option.{option_and_then, option_copied, option_map_or};
+ghost use Rattle.indexmap.specs.IndexMap.{get, spare};
+ghost use Rattle.member_table.specs.Changes.{is_number};
+ghost use Rattle.member_table.specs.Orders.{numbered, unnumbered};
+ghost use Rattle.member_table.specs.Timeouts.{serials_of};
+ghost use Rattle.member_table.specs.Wanting.{is_wanted as is_wanted_of};
 ghost use Rattle.member_table.specs.Entries.{has_serial, identity_of, is_at, put as put_of};
 
 use crate::entry::{Entry, Identity};
+use crate::places::place_of;
+use crate::wanted::Wanted;
 use cv_io::{List, Memory};
-use indexmap::{IndexMap, IndexSet};
+use indexmap::IndexMap;
 use of10_actions::Action;
-use of10_match::Match;
 use std::alloc::{AllocError, Global};
 use std::marker::Model;
 
-/// The entries of a table in the order of insertion. The map finds an entry by its identity, and the
-/// set finds its place by its serial number: both have the same order.
+/// The entries of a table in the order of insertion. One map finds an entry by its serial number, and
+/// another the number by the entry's identity. The order is that of the numbers alone: so little is
+/// moved where one is taken out.
 #[derive(Drop)]
 pub struct Order {
-    entries: IndexMap<Identity, Entry>,
-    serials: IndexSet<u64>,
+    serials: Vec<u64>,
+    entries: IndexMap<u64, Entry>,
+    numbers: IndexMap<Identity, u64>,
 }
 
 impl Model for Order {
-    ghost use Rattle.std.specs.Prelude.{min};
-    ghost use Rattle.indexmap.specs.IndexMap.{values, spare};
-    ghost use Rattle.indexmap.specs.IndexSet.{spare as spare_keys};
-    ghost use Rattle.member_table.specs.Orders.{OrderOf, IsInStep};
+    ghost use Rattle.std.specs.Prelude.{◌-◌, min, nat_eq, vec_capacity, vec_len};
+    ghost use Rattle.indexmap.specs.IndexMap.{get, spare};
+    ghost use Rattle.member_table.specs.Entries.{same_identity};
+    ghost use Rattle.member_table.specs.Orders.{OrderOf, IsInStep, listed};
 
     ghost Value = { OrderOf };
 
-    ghost view = { λ a. record { entries = values a.entries; room = min (spare a.entries) (spare_keys a.serials) } };
+    ghost view = { λ a. record { entries = listed (get nat_eq a.entries) a.serials.items; room = min (vec_capacity a.serials - vec_len a.serials) (min (spare a.entries) (spare a.numbers)) } };
 
-    ghost invariant = { λ a. IsInStep a.entries.entries a.serials.keys };
+    ghost invariant = { λ a. IsInStep a.serials.items (get nat_eq a.entries) (get same_identity a.numbers) };
 }
 
 /// Puts a number in the place of another, or last.
-fn number(serials: &mut IndexSet<u64>, place: Option<usize>, serial: u64)
-    requires room { 0 < spare_keys serials.old }
-    requires fresh { list_any (nat_eq serial) serials.old.keys ≡ false }
-    requires there { IfSome place (λ i. i < length serials.old.keys) }
-    ensures numbers { serials.new.keys ≡ numbered place serial serials.old.keys }
-    ensures once { IsUnique nat_eq serials.new }
-    ensures room { spare_keys serials.old ≤ spare_keys serials.new + 1 }
+fn number(serials: &mut Vec<u64>, replaced: Option<u64>, serial: u64)
+    requires { vec_len serials.old < vec_capacity serials.old }
+    ensures numbers { serials.new.items ≡ numbered replaced serial serials.old.items }
+    ensures room { vec_capacity serials.old - vec_len serials.old ≤ vec_capacity serials.new - vec_len serials.new + 1 }
 {
-    serials.insert(serial).unwrap();
-    if let Some(place) = place {
-        // The last takes the place of the one that goes.
-        serials.swap_remove_index(place);
+    let place = match replaced {
+        Some(old) => place_of(serials, &old),
+        None => None,
+    };
+    match place {
+        Some(place) => {
+            serials[place] = serial;
+        }
+        None => {
+            serials.push(serial).unwrap();
+        }
+    }
+}
+
+/// Takes out the entry of a number, if one is given.
+fn take(entries: &mut IndexMap<u64, Entry>, replaced: Option<u64>) -> Option<Entry>
+    ensures taken { result ≡ option_and_then (get nat_eq entries.old) replaced }
+    ensures others { (q : ℕ) → get nat_eq entries.new q ≡ cond (is_number replaced q) None (get nat_eq entries.old q) }
+    ensures room { spare entries.old ≤ spare entries.new }
+{
+    match replaced {
+        Some(serial) => entries.swap_remove(&serial),
+        None => None,
+    }
+}
+
+/// Takes a number out. The others keep their order.
+fn forget(serials: &mut Vec<u64>, serial: u64)
+    ensures numbers { serials.new.items ≡ unnumbered serial serials.old.items }
+    ensures room { vec_capacity serials.old - vec_len serials.old ≤ vec_capacity serials.new - vec_len serials.new }
+{
+    if let Some(place) = place_of(serials, &serial) {
+        serials.remove(place);
     }
 }
 
@@ -59,8 +88,9 @@ impl Order {
         ensures { result.entries ≡ [] }
     {
         Order {
+            serials: Vec::new(alloc),
             entries: IndexMap::new(alloc),
-            serials: IndexSet::new(alloc),
+            numbers: IndexMap::new(alloc),
         }
     }
 
@@ -70,23 +100,24 @@ impl Order {
         ensures room { OnOk result (more ≤ self.new.room) }
         ensures kept { self.old.room ≤ self.new.room }
     {
-        self.entries.reserve(more)?;
         self.serials.reserve(more)?;
+        self.entries.reserve(more)?;
+        self.numbers.reserve(more)?;
         Ok(())
     }
 
     pub fn len(&self) -> usize
         ensures { result ≡ length self.now.entries }
     {
-        self.entries.len()
+        self.serials.len()
     }
 
     /// The entry at a place of the order, from 0.
     pub fn at(&self, place: usize) -> Option<&Entry>
         ensures { option_copied result ≡ slice_get self.now.entries place }
     {
-        match self.entries.get_index(place) {
-            Some((_, entry)) => Some(entry),
+        match self.serials.get(place) {
+            Some(serial) => self.entries.get(serial),
             None => None,
         }
     }
@@ -95,17 +126,17 @@ impl Order {
     pub fn get(&self, serial: u64) -> Option<&Entry>
         ensures { option_copied result ≡ find (has_serial serial) self.now.entries }
     {
-        match self.serials.get_index_of(&serial) {
-            Some(place) => self.at(place),
-            None => None,
-        }
+        self.entries.get(&serial)
     }
 
     /// The entry of an identity.
     pub fn identical(&self, identity: &Identity) -> Option<&Entry>
         ensures { option_copied result ≡ find (is_at identity.now) self.now.entries }
     {
-        self.entries.get(identity)
+        match self.numbers.get(identity) {
+            Some(serial) => self.entries.get(serial),
+            None => None,
+        }
     }
 
     /// Puts an entry in the place of the identical one, else last, and gives the one that it replaces.
@@ -116,28 +147,24 @@ impl Order {
         ensures replaced { result ≡ find (is_at (identity_of entry)) self.old.entries }
         ensures room { self.old.room ≤ self.new.room + 1 }
     {
-        let identity = entry.identity();
-        let place = self.entries.get_index_of(&identity);
-        number(&mut self.serials, place, entry.serial);
-        self.entries.insert(identity, entry).unwrap()
+        let serial = entry.serial;
+        let replaced = self.numbers.insert(entry.identity(), serial).unwrap();
+        number(&mut self.serials, replaced, serial);
+        let old = take(&mut self.entries, replaced);
+        self.entries.insert(serial, entry).unwrap();
+        old
     }
 
-    /// Takes an entry out. The others keep their order, so those behind it move up.
+    /// Takes an entry out. The others keep their order.
     pub fn remove(&mut self, serial: u64) -> Option<Entry>
         ensures entries { self.new.entries ≡ filter (λ e. not (has_serial serial e)) self.old.entries }
         ensures removed { result ≡ find (has_serial serial) self.old.entries }
         ensures room { self.old.room ≤ self.new.room }
     {
-        match self.serials.get_index_of(&serial) {
-            Some(place) => {
-                self.serials.shift_remove_index(place);
-                match self.entries.shift_remove_index(place) {
-                    Some((_, entry)) => Some(entry),
-                    None => None,
-                }
-            }
-            None => None,
-        }
+        let entry = self.entries.swap_remove(&serial)?;
+        self.numbers.swap_remove(&entry.identity());
+        forget(&mut self.serials, serial);
+        Some(entry)
     }
 
     /// Gives an entry other actions; false where there is no such entry.
@@ -146,7 +173,7 @@ impl Order {
         ensures found { result ≡ list_any (has_serial serial) self.old.entries }
         ensures room { self.old.room ≤ self.new.room }
     {
-        match self.serials.get_index_of(&serial) {
+        match self.entries.get_index_of(&serial) {
             Some(place) => {
                 self.entries[place].actions = actions;
                 true
@@ -161,7 +188,7 @@ impl Order {
         ensures found { result ≡ list_any (has_serial serial) self.old.entries }
         ensures room { self.old.room ≤ self.new.room }
     {
-        match self.serials.get_index_of(&serial) {
+        match self.entries.get_index_of(&serial) {
             Some(place) => {
                 self.entries[place].last = now;
                 true
@@ -170,37 +197,36 @@ impl Order {
         }
     }
 
-    /// The numbers of the entries whose match the filter covers and that have an OUTPUT to the port,
-    /// in their order. A filter must look at every entry.
-    pub fn covered(&self, alloc: Global, filter: &Match, port: u16) -> Result<Vec<u64>, AllocError>
-        ensures { IfOk result (λ v. v.items ≡ serials_of (λ e. covers filter.now e.normal && outputs_to port e) self.now.entries) }
+    /// Whether a number is that of an entry that is asked for.
+    fn is_wanted(&self, serial: u64, wanted: &Wanted) -> bool
+        ensures { result ≡ option_map_or (is_wanted_of wanted.now) (find (has_serial serial) self.now.entries) false }
     {
-        self.entries
-            .values()
-            .filter(|entry| filter.covers(&entry.normal) && entry.outputs_to(port))
-            .map(|entry| entry.serial)
-            .collect(alloc)
+        match self.get(serial) {
+            Some(entry) => wanted.holds(entry),
+            None => false,
+        }
     }
 
-    /// The numbers of the entries that have stood too long.
-    pub fn hard_due(&self, alloc: Global, now: u64) -> Result<Vec<u64>, AllocError>
-        ensures { IfOk result (λ v. v.items ≡ serials_of (is_hard_due now) self.now.entries) }
+    /// The numbers of the entries that are asked for, in their order.
+    pub fn wanted(&self, alloc: Global, wanted: &Wanted) -> Result<Vec<u64>, AllocError>
+        ensures { IfOk result (λ v. v.items ≡ serials_of (is_wanted_of wanted.now) self.now.entries) }
     {
-        self.entries
-            .values()
-            .filter(|entry| entry.is_hard_due(now))
-            .map(|entry| entry.serial)
-            .collect(alloc)
+        wanted_among(alloc, self, &self.serials, wanted)
     }
+}
 
-    /// Of the others, those whose count hasn't risen for too long.
-    pub fn idle_due(&self, alloc: Global, now: u64) -> Result<Vec<u64>, AllocError>
-        ensures { IfOk result (λ v. v.items ≡ serials_of (is_idle_due now) self.now.entries) }
-    {
-        self.entries
-            .values()
-            .filter(|entry| entry.is_idle_due(now))
-            .map(|entry| entry.serial)
-            .collect(alloc)
-    }
+/// Those of some numbers whose entry is asked for.
+fn wanted_among(
+    alloc: Global,
+    order: &Order,
+    serials: &[u64],
+    wanted: &Wanted,
+) -> Result<Vec<u64>, AllocError>
+    ensures { IfOk result (λ v. v.items ≡ filter (λ s. option_map_or (is_wanted_of wanted.now) (find (has_serial s) order.now.entries) false) serials.now) }
+{
+    serials
+        .iter()
+        .copied()
+        .filter(|serial| order.is_wanted(*serial, wanted))
+        .collect(alloc)
 }

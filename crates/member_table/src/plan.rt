@@ -13,6 +13,7 @@ use crate::command::Command;
 use crate::entry::{Entry, Identity};
 use crate::fault::TableFault;
 use crate::table::Table;
+use crate::wanted::Wanted;
 use cv_io::{Duplicate, List, Memory};
 use of10_actions::{Action, port};
 use of10_msgs::FlowMod;
@@ -115,7 +116,11 @@ impl Table {
         if strict {
             self.meant_strictly(asked, port)
         } else {
-            Ok(self.order.covered(self.alloc, &asked.normal, port)?)
+            let wanted = Wanted::Covered {
+                filter: asked.normal,
+                port,
+            };
+            Ok(self.order.wanted(self.alloc, &wanted)?)
         }
     }
 

@@ -1,8 +1,8 @@
 //! Matches in the order of their ranks, the highest first.
-ghost use Rattle.std.specs.Prelude.{◌≡◌, ◌<◌, ◌≤◌, length, take, drop, find, position};
+ghost use Rattle.std.specs.Prelude.{◌≡◌, ◌<◌, ◌≤◌, length, take, drop, find};
 ghost use Rattle.std.specs.List.{AllByRecursion};
 ghost use Rattle.std.specs.Option.{option_copied};
-ghost use Rattle.member_table.specs.Ranking.{IsLeastOf, RanksFall, holds_it, is_in_way as is_in_way_of, lesser as lesser_of, ranked_of, same_ranked};
+ghost use Rattle.member_table.specs.Ranking.{IsLeastOf, RanksFall, holds_it, is_in_way as is_in_way_of, lesser as lesser_of, ranked_of};
 
 use crate::entry::{Entry, Identity};
 use of10_match::Header;
@@ -33,13 +33,6 @@ pub fn count_from(items: &[Ranked], rank: u64) -> usize
     ensures after { AllByRecursion (λ r. r.identity.rank < rank) (drop result items.now) }
 {
     items.partition_point(|item| u64::from(item.identity.rank) >= rank)
-}
-
-/// Where an item stands.
-pub fn place_of(items: &[Ranked], item: &Ranked) -> Option<usize>
-    ensures { result ≡ position (same_ranked item.now) items.now }
-{
-    items.iter().position(|other| *item == *other)
 }
 
 /// Whether a match overlaps a new one of its rank, and isn't the same.

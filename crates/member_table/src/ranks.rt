@@ -5,7 +5,8 @@ ghost use Rattle.std.specs.Option.{ForSome};
 ghost use Rattle.member_table.specs.Ranking.{AddsTo, Exchanges, ranked_of, IsLeastOf, IsTop, holds_it, is_in_way, same_ranked};
 
 use crate::entry::{Entry, Identity};
-use crate::ranked::{Ranked, count_from, first_that_holds, least_in_way, place_of};
+use crate::places::place_of;
+use crate::ranked::{Ranked, count_from, first_that_holds, least_in_way};
 use cv_io::Memory;
 use of10_match::Header;
 use std::alloc::Global;

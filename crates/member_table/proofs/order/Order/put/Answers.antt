@@ -1,42 +1,35 @@
-use Rattle.std.proofs.Common.{◌≡◌, ◌∙◌, ap, find, subst, position, is_some, OnOk, IfOk, Result, Ok}
+use Rattle.std.proofs.Common.{◌≡◌, ◌∙◌, ap, subst, find, nat_eq, OnOk, IfOk, Result, Ok}
 use Rattle.std.specs.List.{list_any}
-use Rattle.std.specs.Map.{keys_of, values_of, lookup}
-use Rattle.indexmap.specs.IndexMap.{insert_entry}
-use Rattle.std.proofs.lemmas.Map.Made.{is_some-lookup}
-use Rattle.member_table.specs.Entries.{has_serial, identity_of, is_at, same_identity, put}
-use Rattle.member_table.specs.declared.entry.Identity.{Identity}
-use Rattle.member_table.proofs.Steps.{no_serial, in_step-put, values-put, lookup-find}
+use Rattle.std.specs.Option.{option_and_then}
+use Rattle.indexmap.specs.IndexMap.{get}
+use Rattle.member_table.specs.Entries.{has_serial, identity_of, is_at, put, same_identity}
+use Rattle.member_table.specs.Orders.{IsInStep, listed}
+use Rattle.member_table.proofs.Indexed.{in_step_put, replaced_is}
 use Rattle.member_table.proofs.order.Order.put.Goals as goal
 
 -- what stands after a success
 put_by : {X E : Type 0} (r : Result X E) (x : X) → r ≡ Ok x → (P : Type 0) → OnOk r P → P
 put_by r x e P h = let Q : Result _ _ → Type 0 = λ o. OnOk o P in subst Q e h
 
-pub number-requires-clause-fresh : goal.number-requires-clause-fresh
-number-requires-clause-fresh c =
-    no_serial c.self.inside.entries.entries c.self.inside.serials.keys c.args.entry.serial c.self.invariant ∙ (ap (λ o. list_any (has_serial c.args.entry.serial) o.entries) c.self.view_is ∙ c.requires.serial)
+replaced : (c : goal.Joined-unwrap) → c.unwrap-replaced.result ≡ get same_identity c.self.inside.numbers c.identity.result
+replaced c = let Old : Result _ _ → Type 0 = λ r. IfOk r (λ old. old ≡ get same_identity c.self.inside.numbers c.identity.result) in subst Old c.unwrap-replaced.ensures c.insert.ensures.old
+
+put_in : (c : goal.Joined-unwrap) → IsInStep c.number.new.serials.items (get nat_eq c.insert-2.new.self) (get same_identity c.insert.new.self)
+    × (listed (get nat_eq c.insert-2.new.self) c.number.new.serials.items ≡ put c.args.entry (listed (get nat_eq c.self.inside.entries) c.self.inside.serials.items))
+put_in c =
+    in_step_put c.self.inside.serials.items _ (get nat_eq c.self.inside.entries) (get nat_eq c.take-old.new.entries) _ (get same_identity c.self.inside.numbers) _ c.args.entry c.identity.result c.unwrap-replaced.result
+    c.self.invariant c.identity.ensures (ap (λ o. list_any (has_serial c.args.entry.serial) o.entries) c.self.view_is ∙ c.requires.serial) (replaced c) c.take-old.ensures.others
+    (put_by c.insert-2.result c.unwrap.result c.unwrap.ensures _ c.insert-2.ensures.updates).0
+    (put_by c.insert.result c.unwrap-replaced.result c.unwrap-replaced.ensures _ c.insert.ensures.updates).0 c.number.ensures.numbers
 
 pub invariant_of-self : goal.invariant_of-self
-invariant_of-self c =
-    let pairs = c.self.inside.entries.entries in
-    let same = c.identity-identity.ensures in
-    let At : Identity → Type 0 = λ k. c.get_index_of-place.result ≡ position (same_identity k) (keys_of pairs) in
-    let There : Identity → Type 0 = λ k. is_some c.get_index_of-place.result ≡ list_any (same_identity k) (keys_of pairs) in
-    let Put : Identity → Type 0 = λ k. c.insert.new.self.entries ≡ insert_entry same_identity pairs k c.args.entry in
-    in_step-put c.args.entry pairs c.self.inside.serials.keys c.get_index_of-place.result _ _ c.self.invariant
-    (subst At same c.get_index_of-place.ensures.index)
-    (subst There same (c.get_index_of-place.ensures.found ∙ is_some-lookup (same_identity c.identity-identity.result) pairs))
-    (subst Put same (put_by c.insert.result c.unwrap.result c.unwrap.ensures _ c.insert.ensures.entries))
-    c.number.ensures.numbers c.insert.ensures.unique c.number.ensures.once
+invariant_of-self c = (put_in c).0
 
 pub returns-clause-entries : goal.returns-clause-entries
-returns-clause-entries c =
-    let pairs = c.self.inside.entries.entries in
-    let Put : Identity → Type 0 = λ k. c.insert.new.self.entries ≡ insert_entry same_identity pairs k c.args.entry in
-    ap values_of (subst Put c.identity-identity.ensures (put_by c.insert.result c.unwrap.result c.unwrap.ensures _ c.insert.ensures.entries)) ∙ (values-put c.args.entry pairs c.self.invariant.identities ∙ ap (λ o. put c.args.entry o.entries) c.self.view_is)
+returns-clause-entries c = (put_in c).1 ∙ ap (λ o. put c.args.entry o.entries) c.self.view_is
 
 pub returns-clause-replaced : goal.returns-clause-replaced
 returns-clause-replaced c =
-    let pairs = c.self.inside.entries.entries in
-    let Old : Result _ _ → Type 0 = λ r. IfOk r (λ old. old ≡ lookup (same_identity c.identity-identity.result) pairs) in
-    subst Old c.unwrap.ensures c.insert.ensures.old ∙ (lookup-find c.identity-identity.result pairs c.self.invariant.identities ∙ (ap (λ k. find (is_at k) (values_of pairs)) c.identity-identity.ensures ∙ ap (λ o. find (is_at (identity_of c.args.entry)) o.entries) c.self.view_is))
+    c.take-old.ensures.taken ∙ (ap (option_and_then (get nat_eq c.self.inside.entries)) (replaced c)
+    ∙ (replaced_is c.self.inside.serials.items (get nat_eq c.self.inside.entries) (get same_identity c.self.inside.numbers) c.identity.result c.self.invariant
+    ∙ (ap (λ k. find (is_at k) (listed (get nat_eq c.self.inside.entries) c.self.inside.serials.items)) c.identity.ensures ∙ ap (λ o. find (is_at (identity_of c.args.entry)) o.entries) c.self.view_is)))

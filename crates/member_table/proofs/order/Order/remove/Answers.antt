@@ -1,34 +1,32 @@
-use Rattle.std.proofs.Common.{◌≡◌, ◌∙◌, sym, ap, map, not, filter, find, option_map}
-use Rattle.std.proofs.lemmas.Option.{slice_get-map}
-use Rattle.member_table.specs.Entries.{has_serial}
-use Rattle.member_table.proofs.Lists.{filter-first, filter-none, find-first, find-none, map-remove}
-use Rattle.member_table.proofs.Steps.{first_serial, no_serial, once_in_step, in_step-remove}
+use Rattle.std.proofs.Common.{◌≡◌, ◌∙◌, sym, ap, subst, not, filter, is_some, List, ℕ, nat_eq}
+use Rattle.std.specs.Map.{lookup}
+use Rattle.indexmap.specs.IndexMap.{get}
+use Rattle.member_table.specs.Entries.{has_serial, same_identity}
+use Rattle.member_table.specs.Orders.{IsInStep, listed}
+use Rattle.member_table.specs.declared.entry.Entry.{Entry}
+use Rattle.member_table.proofs.Indexed.{in_step_remove}
+use Rattle.member_table.proofs.Lists.{any_find, filter-none}
 use Rattle.member_table.proofs.order.Order.remove.Goals as goal
-use Rattle.member_table.proofs.order.Order.remove.Goals.{in-Some-shift_remove_index, in-None-shift_remove_index}
+
+removed : (c : goal.After-forget) → IsInStep c.forget.new.serials.items (get nat_eq c.swap_remove.new.self) (get same_identity c.swap_remove-2.new.self)
+    × (listed (get nat_eq c.swap_remove.new.self) c.forget.new.serials.items ≡ filter (λ x. not (has_serial c.args.serial x)) (listed (get nat_eq c.self.inside.entries) c.self.inside.serials.items))
+removed c = in_step_remove c.self.inside.serials.items _ (get nat_eq c.self.inside.entries) _ (get same_identity c.self.inside.numbers) _ c.args.serial c.in_ok-entry.entry c.identity.result c.self.invariant
+    c.in_ok-entry.ensures.value c.identity.ensures c.swap_remove.ensures.updates.0 c.swap_remove-2.ensures.updates.0 c.forget.ensures.numbers
+
+pub invariant_of-self-2 : goal.invariant_of-self-2
+invariant_of-self-2 c = (removed c).0
+
+pub returns-clause-entries : goal.returns-clause-entries
+returns-clause-entries c = (removed c).1 ∙ ap (λ o. filter (λ x. not (has_serial c.args.serial x)) o.entries) c.self.view_is
 
 pub invariant_of-self : goal.invariant_of-self
-invariant_of-self c = in_step-remove c.self.inside.entries.entries c.self.inside.serials.keys c.in-Some.place _ _ c.self.invariant
-    c.shift_remove_index-in-Some.ensures.entries c.shift_remove_index.ensures.keys c.shift_remove_index-in-Some.ensures.unique c.shift_remove_index.ensures.unique
+invariant_of-self c =
+    let P : List (ℕ × Entry) → Type 0 = λ ps. IsInStep c.self.inside.serials.items (λ s. lookup (nat_eq s) ps) (get same_identity c.self.inside.numbers) in
+    subst P (sym c.in_err-entry.ensures.unchanged) c.self.invariant
 
-pub returns-after-shift_remove_index-clause-entries : goal.returns-after-shift_remove_index-clause-entries
-returns-after-shift_remove_index-clause-entries c =
-    let first = first_serial c.self.inside.entries.entries c.self.inside.serials.keys c.args.serial c.in-Some.place c.self.invariant (sym c.in-Some.ensures.index) in
-    let once = once_in_step c.self.inside.entries.entries c.self.inside.serials.keys c.args.serial c.self.invariant in
-    ap (map (λ p. p.1)) c.shift_remove_index-in-Some.ensures.entries ∙ (map-remove (λ p. p.1) c.self.inside.entries.entries c.in-Some.place ∙ (sym (filter-first (has_serial c.args.serial) _ _ once first) ∙ ap (λ o. filter (λ e. not (has_serial c.args.serial e)) o.entries) c.self.view_is))
-
-pub returns-after-shift_remove_index-clause-removed : goal.returns-after-shift_remove_index-clause-removed
-returns-after-shift_remove_index-clause-removed c =
-    let first = first_serial c.self.inside.entries.entries c.self.inside.serials.keys c.args.serial c.in-Some.place c.self.invariant (sym c.in-Some.ensures.index) in
-    let there = sym (slice_get-map (λ p. p.1) c.self.inside.entries.entries c.in-Some.place ∙ ap (option_map (λ p. p.1)) (sym c.shift_remove_index-in-Some.ensures.entry)) in
-    let given : c.match-shift_remove_index.result ≡ option_map (λ p. p.1) c.shift_remove_index-in-Some.result = elim c.match-shift_remove_index.branch [ in-Some-shift_remove_index w ↦ cc | in-None-shift_remove_index w ↦ w.result-is ∙ sym (ap (option_map (λ p. p.1)) w.in-None-shift_remove_index.is) ] in
-    given ∙ (there ∙ (sym (find-first (has_serial c.args.serial) _ _ first) ∙ ap (λ o. find (has_serial c.args.serial) o.entries) c.self.view_is))
-
-pub returns-in-None-clause-entries : goal.returns-in-None-clause-entries
-returns-in-None-clause-entries c =
-    let none = sym (no_serial c.self.inside.entries.entries c.self.inside.serials.keys c.args.serial c.self.invariant) ∙ sym c.in-None.ensures.found in
-    ap (λ o. o.entries) (sym c.self.view_is) ∙ (sym (filter-none (has_serial c.args.serial) _ none) ∙ ap (λ o. filter (λ e. not (has_serial c.args.serial e)) o.entries) c.self.view_is)
-
-pub returns-in-None-clause-removed : goal.returns-in-None-clause-removed
-returns-in-None-clause-removed c =
-    let none = sym (no_serial c.self.inside.entries.entries c.self.inside.serials.keys c.args.serial c.self.invariant) ∙ sym c.in-None.ensures.found in
-    sym (find-none (has_serial c.args.serial) _ none) ∙ ap (λ o. find (has_serial c.args.serial) o.entries) c.self.view_is
+pub returns-in_err-entry-clause-entries : goal.returns-in_err-entry-clause-entries
+returns-in_err-entry-clause-entries c =
+    let es = listed (get nat_eq c.self.inside.entries) c.self.inside.serials.items in
+    let none = any_find (has_serial c.args.serial) es ∙ ap is_some (sym (c.self.invariant.indexed.found c.args.serial) ∙ sym c.in_err-entry.ensures.value) in
+    ap (λ ps. listed (λ s. lookup (nat_eq s) ps) c.self.inside.serials.items) c.in_err-entry.ensures.unchanged
+    ∙ (sym (filter-none (has_serial c.args.serial) es none) ∙ ap (λ o. filter (λ x. not (has_serial c.args.serial x)) o.entries) c.self.view_is)

@@ -1,12 +1,12 @@
 use Rattle.std.proofs.Common.{◌≡◌, ◌∙◌, sym, ap, subst, None, find, option_map}
-use Rattle.member_table.specs.Changes.{CanCommit, committed}
+use Rattle.member_table.specs.Changes.{CanCommit}
 use Rattle.member_table.specs.Entries.{is_at}
 use Rattle.member_table.specs.Planning.{adding}
 use Rattle.member_table.specs.Refusals.{refusal_of}
 use Rattle.member_table.specs.Tables.{entry_of}
 use Rattle.member_table.specs.declared.change.Change.{Change}
 use Rattle.member_table.specs.declared.entry.Identity.{Identity}
-use Rattle.member_table.proofs.Plans.{adding_is, ready_is}
+use Rattle.member_table.proofs.Plans.{ready_is}
 use Rattle.member_table.proofs.table.Table.plan_entry.Goals as goal
 
 pub returns-clause-change : goal.returns-clause-change
