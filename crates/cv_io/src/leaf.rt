@@ -1,4 +1,7 @@
 //! Names: of sessions, and of the leaves of a policy.
+ghost use Rattle.std.specs.Prelude.{◌≡◌, List};
+ghost use Rattle.cv_io.specs.declared.leaf.Leaf.{Leaf};
+
 use crate::list::{Duplicate, List};
 use crate::memory::Memory;
 
@@ -33,6 +36,10 @@ impl Duplicate for Leaf {
 
 /// What is made of leaves.
 pub trait Named: Duplicate {
+    // The leaves that it was made of.
+    ghost leaves: { Self → List Leaf };
+
     /// The leaves that it was made of, in the order of the policy's expression.
-    fn ancestry(&self) -> &List<Leaf>;
+    fn ancestry(&self) -> &List<Leaf>
+        ensures { result.now ≡ leaves self.now };
 }

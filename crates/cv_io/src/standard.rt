@@ -15,7 +15,9 @@ pub struct Incoming<R> {
 }
 
 impl<R: Read> Incoming<R> {
-    pub fn new(reader: R) -> Self {
+    pub fn new(reader: R) -> Self
+        ensures { result.faults ≡ 0 }
+    {
         Incoming { reader, faults: 0 }
     }
 }
@@ -48,7 +50,9 @@ pub struct Outgoing<W> {
 }
 
 impl<W: Write> Outgoing<W> {
-    pub fn new(writer: W) -> Self {
+    pub fn new(writer: W) -> Self
+        ensures { result.faults ≡ 0 }
+    {
         Outgoing { writer, faults: 0 }
     }
 }

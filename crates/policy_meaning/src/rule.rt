@@ -52,9 +52,9 @@ impl Duplicate for Rule {
 }
 
 impl Named for Rule {
-    fn ancestry(&self) -> &List<Leaf>
-        ensures { result.now ≡ self.now.ancestry }
-    {
+    ghost leaves = { λ rule. rule.ancestry };
+
+    fn ancestry(&self) -> &List<Leaf> {
         &self.ancestry
     }
 }
