@@ -9,3 +9,4 @@ pub mod Wanting
 pub mod Sound
 pub mod Orders
 pub mod Ranking
+pub mod Worked

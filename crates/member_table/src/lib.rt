@@ -19,6 +19,7 @@ pub mod table;
 #[cfg(test)]
 mod tests;
 mod wanted;
+pub mod worked;
 
 pub use change::{Change, Due, Modified};
 pub use command::Command;

@@ -1,0 +1,16 @@
+//! A worked example, computed by the checker.
+ghost use Rattle.member_table.specs.Worked.{ActionsChange, ChangesAreNamed, EntriesAreRefused, EntriesCome, EntriesGo, ExactIsAbove, HighestIsBest, TimesAreUp};
+
+/// A table of two entries, what the five commands make of it, what is refused, which entry is best,
+/// and when time is up.
+#[tactic(auto, unfolding(crate::specs::Tables::is_output_to))]
+pub fn worked_table()
+    ensures entries_come { EntriesCome }
+    ensures actions_change { ActionsChange }
+    ensures entries_go { EntriesGo }
+    ensures changes_are_named { ChangesAreNamed }
+    ensures entries_are_refused { EntriesAreRefused }
+    ensures exact_is_above { ExactIsAbove }
+    ensures highest_is_best { HighestIsBest }
+    ensures times_are_up { TimesAreUp }
+{}
