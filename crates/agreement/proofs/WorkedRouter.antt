@@ -79,7 +79,7 @@ module _ (whole : Bool) where
   no-peer zero p q e = cc
   no-peer (suc v) p q e = cc
 
-  alone : IsAlone (routed whole) 0 (record { expr = Member 0; outside = four_ports; links = []; spread = false; whole = whole })
+  alone : IsAlone (routed whole) 0 (record { expr = member 0; outside = four_ports; links = []; spread = false; whole = whole })
   alone = record {
     links = refl;
     lone = refl;

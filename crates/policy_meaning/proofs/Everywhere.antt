@@ -3,7 +3,7 @@ use Rattle.std.proofs.Common.{◌≡◌, ℕ, Bool, true, List, Option, Some, No
 use Rattle.std.specs.Prelude.{slice_get}
 use Rattle.std.specs.List.{AllByRecursion}
 use Rattle.of10_match.specs.Fields.{HeaderOf}
-use Rattle.policy_expr.specs.Policy.{Policy, member, parallel, sequential, override, policy_of}
+use Rattle.policy_expr.specs.Policy.{Policy, member, parallel, sequential, override}
 use Rattle.policy_meaning.specs.Leaf.{has_port}
 use Rattle.policy_meaning.specs.Networks.{ports_of, table_meaning, table_rules, table_size, switch_meaning, switch_rules, switch_size, switch_has, switch_spread, fabric_of, ground_of}
 use Rattle.policy_meaning.specs.Walk.{takes}
@@ -51,19 +51,19 @@ module _ (tables : List LeafTable) (s : VirtualSwitch) (good : IsSoundSwitch tab
   abbrev port : ℕ → Bool
   port p = has_port (ports_of s) p
 
-  members : EachMember (AreSoundLeaves port sizes rules (λ i. table_meaning (slice_get tables i))) (policy_of s.expr)
+  members : EachMember (AreSoundLeaves port sizes rules (λ i. table_meaning (slice_get tables i))) s.expr
   members =
       each-member (λ i. HasSoundTable (slice_get tables i)) (AreSoundLeaves port sizes rules (λ i. table_meaning (slice_get tables i)))
-      (λ i t. record { says = λ h at. table-says (ports_of s) (slice_get tables i) t h at; sound = table-sound (ports_of s) (slice_get tables i) t }) (policy_of s.expr) good.members
+      (λ i t. record { says = λ h at. table-says (ports_of s) (slice_get tables i) t h at; sound = table-sound (ports_of s) (slice_get tables i) t }) s.expr good.members
 
   pub switch-says : (h : HeaderOf) → port h.in_port ≡ true → Says h (switch_rules tables (Some s)) (switch_size tables (Some s)) (switch_meaning tables (Some s) h)
-  switch-says h at = central port sizes rules (λ i. table_meaning (slice_get tables i)) (policy_of s.expr) members h at
+  switch-says h at = central port sizes rules (λ i. table_meaning (slice_get tables i)) s.expr members h at
 
   pub switch-sound : AllByRecursion IsSound (switch_rules tables (Some s))
   switch-sound =
-      rules-are-sound sizes rules (policy_of s.expr)
-      (each-member (λ i. HasSoundTable (slice_get tables i)) (λ i. AllByRecursion IsSound (rules i)) (λ i t. table-sound (ports_of s) (slice_get tables i) t) (policy_of s.expr) good.members)
-      (each-left (λ i. HasPlainTable (slice_get tables i)) (IsPlainLeaf rules) (λ i t. table-plain (ports_of s) (slice_get tables i) t) (policy_of s.expr) good.lefts)
+      rules-are-sound sizes rules s.expr
+      (each-member (λ i. HasSoundTable (slice_get tables i)) (λ i. AllByRecursion IsSound (rules i)) (λ i t. table-sound (ports_of s) (slice_get tables i) t) s.expr good.members)
+      (each-left (λ i. HasPlainTable (slice_get tables i)) (IsPlainLeaf rules) (λ i t. table-plain (ports_of s) (slice_get tables i) t) s.expr good.lefts)
 
 module _ (tables : List LeafTable) where
   any-says : (o : Option VirtualSwitch) → ((s : VirtualSwitch) → o ≡ Some s → IsSoundSwitch tables s) → (h : HeaderOf) → switch_has o h.in_port ≡ true → Says h (switch_rules tables o) (switch_size tables o) (switch_meaning tables o h)

@@ -2,7 +2,6 @@
 use Rattle.std.proofs.Common.{◌≡◌, ℕ, suc, true, Some, refl}
 use Rattle.std.specs.Prelude.{slice_get}
 use Rattle.of10_match.specs.Fields.{HeaderOf}
-use Rattle.policy_expr.specs.Policy.{policy_of}
 use Rattle.policy_meaning.specs.Meaning.{evaluate}
 use Rattle.policy_meaning.specs.Hops.{leads}
 use Rattle.policy_meaning.specs.Networks.{table_meaning, ground_of}
@@ -16,7 +15,7 @@ use Rattle.policy_meaning.specs.declared.walking.Walked.{Walked}
 -- what the virtual switch gives, and then what the walk gives at the place to which its tail leads
 pub walk-on : (net : Network) (hops n v : ℕ) (h : HeaderOf) (s : VirtualSwitch) (m : Meaning) (w next : Walked) (on : Onward) → hops ≡ suc n →
     slice_get net.switches v ≡ Some s → takes s.spread h ≡ true →
-    m ≡ evaluate (λ i. table_meaning (slice_get net.tables i)) (policy_of s.expr) h →
+    m ≡ evaluate (λ i. table_meaning (slice_get net.tables i)) s.expr h →
     w ≡ here v h.in_port m.outs → leads m.tail s.links h.in_port ≡ Some on →
     next ≡ walk (ground_of net) n on.place.v (arriving on.rewrite on.place.port h) →
     both_walked w (walked_after on.rewrite next) ≡ walk (ground_of net) hops v h

@@ -2,7 +2,6 @@
 use Rattle.std.specs.Prelude.{◌≡◌, ℕ, true, false, Option, Some, None, List, slice_get}
 use Rattle.std.specs.List.{AllByRecursion}
 use Rattle.of10_match.specs.Fields.{HeaderOf}
-use Rattle.policy_expr.specs.Policy.{policy_of}
 use Rattle.policy_meaning.specs.LeafFact.{IsSoundTable}
 use Rattle.policy_meaning.specs.CentralFact.{ArePlain, EachMember, EachLeft}
 use Rattle.policy_meaning.specs.Networks.{fabric_of, ground_of, enters, switch_has, switch_spread, switch_links}
@@ -27,8 +26,8 @@ HasPlainTable (Some t) = AllByRecursion (λ (e : LeafEntry). ArePlain e.effects.
 
 -- each member of the virtual switch has a sound table, and those of left operands of `+` set nothing and pass nothing on
 pub record IsSoundSwitch (tables : List LeafTable) (s : VirtualSwitch) : Type 0 where
-  pub members : EachMember (λ i. HasSoundTable (slice_get tables i)) (policy_of s.expr)
-  pub lefts : EachLeft (λ i. HasPlainTable (slice_get tables i)) (policy_of s.expr)
+  pub members : EachMember (λ i. HasSoundTable (slice_get tables i)) s.expr
+  pub lefts : EachLeft (λ i. HasPlainTable (slice_get tables i)) s.expr
 
 -- what is asked of a network
 pub record IsSoundNetwork (net : Network) : Type 0 where

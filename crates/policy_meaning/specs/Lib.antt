@@ -1,3 +1,4 @@
+pub mod Switches
 pub mod Meaning
 pub mod Leaf
 pub mod LeafRules

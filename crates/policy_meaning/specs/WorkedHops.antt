@@ -4,7 +4,6 @@ use Rattle.of10_match.specs.Matching.{everything}
 use Rattle.of10_actions.specs.Rewriting.{no_rewrite}
 use Rattle.of10_actions.specs.declared.effects.Tail.{Tail}
 use Rattle.policy_expr.specs.Policy.{member, parallel, sequential}
-use Rattle.policy_expr.specs.declared.expr.Expr.TheVariants.{Member}
 use Rattle.policy_meaning.specs.Meaning.{evaluate}
 use Rattle.policy_meaning.specs.Hops.{node, hop_size}
 use Rattle.policy_meaning.specs.Walk.{walk}
@@ -41,8 +40,8 @@ joined v port = record { port = port; peer = record { v = v; port = port } }
 abbrev pub split_switch : ℕ → Bool → Network
 split_switch size leaves = record {
   tables = first_member size leaves ∷ second_member size ∷ [];
-  switches = record { expr = Member 0; outside = 1 ∷ 2 ∷ []; links = joined 1 8 ∷ joined 1 9 ∷ []; spread = false; whole = false }
-      ∷ record { expr = Member 1; outside = 1 ∷ 2 ∷ []; links = joined 0 8 ∷ joined 0 9 ∷ []; spread = false; whole = false } ∷ [];
+  switches = record { expr = member 0; outside = 1 ∷ 2 ∷ []; links = joined 1 8 ∷ joined 1 9 ∷ []; spread = false; whole = false }
+      ∷ record { expr = member 1; outside = 1 ∷ 2 ∷ []; links = joined 0 8 ∷ joined 0 9 ∷ []; spread = false; whole = false } ∷ [];
 }
 
 -- the sizes over one to four hops

@@ -1,7 +1,6 @@
 //! The rules of virtual switches and of the nodes of their ports, from scratch.
 ghost use Rattle.std.specs.Prelude.{◌≡◌, ◌+◌, ◌*◌, ◌<◌, ◌≤◌, ◌^◌, ◌++◌, All, IfOk, OnOk, IfSome, filter_map, map, slice_get};
 ghost use Rattle.alg_priority.specs.Levels.{capped};
-ghost use Rattle.policy_expr.specs.Policy.{policy_of};
 ghost use Rattle.policy_meaning.specs.Fitting.{IsFittingTable, levels_of};
 ghost use Rattle.policy_meaning.specs.Hops.{hop_size as hop_size_of, hops_on, last_rule as last_rule_of, node, peers_size as peers_size_of};
 ghost use Rattle.policy_meaning.specs.LeafRules.{at_port as at_port_of, rule_met as rule_met_of};
@@ -35,7 +34,7 @@ pub fn switch_rules(
     switch: &VirtualSwitch,
 ) -> Result<List<Rule>, Memory>
     requires tables { All IsFittingTable tables.now }
-    requires size { levels_of tables.now (policy_of switch.now.expr) < 2 ^ 64 }
+    requires size { levels_of tables.now switch.now.expr < 2 ^ 64 }
     ensures { IfOk result (λ rules. rules ≡ switch_rules_of tables.now (Some switch.now)) }
 {
     let ports = switch.ports(alloc)?;

@@ -7,14 +7,14 @@ use Rattle.of10_match.specs.Fields.{HeaderOf, MatchOf}
 use Rattle.of10_match.specs.Matching.{holds}
 use Rattle.switch_meaning.specs.BestLaw.{BestIsUsed, IsBest, IsBestEntry, IsGated, first, later}
 use Rattle.switch_meaning.specs.Keys.{ancestry_cmp, displaces, flow_of, one_per_key, same_key}
-use Rattle.switch_meaning.specs.MayUse.{IsIn, IsTop, IsUsable, MayUse, here, there, is_exact, priority_of, rank_of}
+use Rattle.switch_meaning.specs.MayUse.{IsTop, IsUsable, MayUse, is_exact, priority_of, rank_of}
 use Rattle.of10_match.specs.Same.{same_match}
 use Rattle.switch_meaning.specs.declared.entry.FlowEntry.{FlowEntry}
 use Rattle.switch_meaning.specs.declared.entry.PhysEntry.{PhysEntry}
 use Rattle.of10_match.proofs.Same.{match_decides}
 use Rattle.switch_meaning.proofs.Equal.{ancestry_cmp-self}
 use Rattle.switch_meaning.proofs.Items.{all-filter, all-in-map, fails, split_and}
-use Rattle.switch_meaning.proofs.Members.{in-all}
+use Rattle.switch_meaning.proofs.Members.{IsIn, from-place, here, in-all, there}
 
 -- the best item passes the test
 pub best-passes : {A : Type 0} {passes : A → Bool} {by : A → ℕ} {xs : List A} {x : A} → IsBest passes by xs x → passes x ≡ true
@@ -122,7 +122,7 @@ module _ (h : HeaderOf) where
 
   best-used : {table : List FlowEntry} {b : FlowEntry} → IsBestFlow table b → AllByRecursion (Gated b.priority) table → (used : Option FlowEntry) → MayUse table h used → used ≡ Some b
   best-used best g None none = let p = best-passes best in let q = best-at (λ (d : FlowEntry). holds d.m h ≡ false) best none in cc
-  best-used {b = b} best g (Some e) u = same-used best (in-all (Gated b.priority) u.stands g) u (in-best u.stands best u.holds_it)
+  best-used {table = table} {b = b} best g (Some e) u = let i = from-place e table u.stands in same-used best (in-all (Gated b.priority) i g) u (in-best i best u.holds_it)
 
 -- the law
 pub best-is-used : BestIsUsed

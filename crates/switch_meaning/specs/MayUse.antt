@@ -1,6 +1,6 @@
 -- The entries that a switch may use for a packet.
 use Rattle.std.specs.Prelude.{◌≡◌, ℕ, ◌≤◌, ◌⊎◌, Bool, true, false, ◌==◌, Option, Some, None, is_some, if◌then◌else◌, List, ◌∷◌}
-use Rattle.std.specs.List.{AllByRecursion}
+use Rattle.std.specs.List.{AllByRecursion, Contains}
 use Rattle.of10_match.specs.Fields.{HeaderOf, MatchOf}
 use Rattle.of10_match.specs.Matching.{holds, each}
 use Rattle.of10_match.specs.declared.header.Prefix.{Prefix}
@@ -24,18 +24,13 @@ rank_of e = if is_exact e.m then 65536 else e.priority
 abbrev pub priority_of : FlowEntry → ℕ
 priority_of e = e.priority
 
--- the item stands in the list
-pub data IsIn {A : Type 0} (x : A) : List A → Type 0 where
-  here : {xs : List A} → IsIn x (x ∷ xs)
-  there : {y : A} {xs : List A} → IsIn x xs → IsIn x (y ∷ xs)
-
 -- no entry that holds the header is above this one
 abbrev pub IsTop : (FlowEntry → ℕ) → List FlowEntry → HeaderOf → FlowEntry → Type 0
 IsTop by table h e = AllByRecursion (λ (d : FlowEntry). holds d.m h ≡ true → by d ≤ by e) table
 
 -- the entry stands in the table, holds the header, and is the highest by one reading of rank or the other
 pub record IsUsable (table : List FlowEntry) (h : HeaderOf) (e : FlowEntry) : Type 0 where
-  pub stands : IsIn e table
+  pub stands : Contains table e
   pub holds_it : holds e.m h ≡ true
   pub highest : IsTop rank_of table h e ⊎ IsTop priority_of table h e
 
