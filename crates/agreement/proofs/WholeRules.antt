@@ -3,7 +3,7 @@ use Rattle.std.proofs.Common.{◌≡◌, ℕ, Bool, true, false, List, [], ◌�
 use Rattle.std.specs.Prelude.{IfSome, flat_map, if◌then◌else◌, map, slice_get}
 use Rattle.std.specs.List.{AllByRecursion}
 use Rattle.of10_match.specs.Fields.{MatchOf}
-use Rattle.of10_match.specs.Matching.{either, meet}
+use Rattle.of10_match.specs.Matching.{at_port, either, meet}
 use Rattle.of10_actions.specs.Fields.{RewriteOf}
 use Rattle.of10_actions.specs.declared.effects.Tail.{Tail}
 use Rattle.of10_actions.specs.declared.effects.Tail.TheVariants.{Nothing, Pass, Link}
@@ -12,7 +12,7 @@ use Rattle.policy_expr.specs.Policy.{Policy, member, parallel, sequential, overr
 use Rattle.policy_expr.specs.Sizes.{size_of}
 use Rattle.policy_meaning.specs.CentralFact.{EachMember}
 use Rattle.policy_meaning.specs.Leaf.{has_port}
-use Rattle.policy_meaning.specs.LeafRules.{at_port, cells, cut, entry_rule, has_outside, hides, in_cells, miss_rule, outside_rule, rule_met}
+use Rattle.policy_meaning.specs.LeafRules.{cells, cut, entry_rule, has_outside, hides, in_cells, miss_rule, outside_rule, rule_met}
 use Rattle.policy_meaning.specs.Networks.{ports_of, switch_rules, table_rules, table_size}
 use Rattle.policy_meaning.specs.Rules.{chain_rule, chained, chains_by, chains_with, lifted, rules_of, shifts_with, sum_rule, summed, sums_with}
 use Rattle.policy_meaning.specs.declared.leaf.LeafEntry.{LeafEntry}

@@ -1,11 +1,10 @@
 -- Small policies: the tables that switches are to have, computed, and what is to be seen of packets.
 use Rattle.std.specs.Prelude.{◌≡◌, ℕ, Bool, ◌+◌, ◌*◌, true, false, Some, None, List, [], ◌∷◌}
 use Rattle.of10_match.specs.Fields.{HeaderOf, MatchOf}
-use Rattle.of10_match.specs.Matching.{everything}
+use Rattle.of10_match.specs.Matching.{at_port, everything}
 use Rattle.of10_actions.specs.declared.action.Action.{Action}
 use Rattle.of10_actions.specs.declared.action.Action.TheVariants.{Output, SetVlanVid, StripVlan}
 use Rattle.policy_expr.specs.Policy.{member}
-use Rattle.policy_meaning.specs.LeafRules.{at_port}
 use Rattle.policy_meaning.specs.Networks.{ground_of}
 use Rattle.policy_meaning.specs.Walk.{walk}
 use Rattle.policy_meaning.specs.WorkedHops.{split_switch}

@@ -1,5 +1,6 @@
 -- What the code of nodes does, step by step.
 use Rattle.std.proofs.Common.{◌≡◌, ℕ, suc, ◌+◌, ◌*◌, ◌<◌, ◌≤◌, ◌^◌, List, [], ◌∷◌, Option, Some, None, refl, subst, sym, ◌∙◌, arith, length, get_or}
+use Rattle.of10_match.specs.Matching.{at_port}
 use Rattle.std.specs.Prelude.{filter_map, flat_map, map, slice_get, All, IfSome, max}
 use Rattle.std.specs.List.{AllByRecursion}
 use Rattle.std.proofs.lemmas.List.Elements.{All-from_recursion}
@@ -12,7 +13,7 @@ use Rattle.policy_expr.specs.Policy.{Policy, parallel, sequential}
 use Rattle.policy_meaning.specs.Best.{Below}
 use Rattle.policy_meaning.specs.Fitting.{IsFittingTable, levels_of}
 use Rattle.policy_meaning.specs.Hops.{at_node, hop_size, hops_on, leads, node, peers_size}
-use Rattle.policy_meaning.specs.LeafRules.{at_port, rule_met}
+use Rattle.policy_meaning.specs.LeafRules.{rule_met}
 use Rattle.policy_meaning.specs.Networks.{fabric_of, ports_of, switch_rules}
 use Rattle.policy_meaning.specs.declared.leaf.LeafTable.{LeafTable}
 use Rattle.policy_meaning.specs.declared.network.Link.{Link}

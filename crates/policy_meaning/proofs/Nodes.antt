@@ -3,13 +3,13 @@ use Rattle.std.proofs.Common.{◌≡◌, ℕ, zero, suc, ◌*◌, ◌<◌, ◌�
 use Rattle.std.specs.Prelude.{filter_map}
 use Rattle.std.specs.List.{AllByRecursion}
 use Rattle.of10_match.specs.Fields.{HeaderOf, MatchOf}
-use Rattle.of10_match.specs.Matching.{holds, overlaps, both, fits, agree, either}
+use Rattle.of10_match.specs.Matching.{agree, at_port, both, either, fits, holds, overlaps}
 use Rattle.of10_actions.specs.Fields.{RewriteOf}
 use Rattle.of10_actions.specs.Rewriting.{apply, can_pull, pulled, no_rewrite}
 use Rattle.of10_actions.specs.declared.effects.Tail.{Tail}
 use Rattle.of10_actions.specs.declared.effects.Tail.TheVariants.{Nothing, Link}
 use Rattle.alg_priority.specs.Levels.{concat_level}
-use Rattle.policy_meaning.specs.LeafRules.{rule_met, at_port}
+use Rattle.policy_meaning.specs.LeafRules.{rule_met}
 use Rattle.policy_meaning.specs.Hops.{Fabric, node, hop_size, peers_size, outs_at, at_node, hop_lone, hopped, hop_rule, leads, hops_on, without_port, last_rule}
 use Rattle.policy_meaning.specs.Walk.{Ground, walk, here, nowhere, both_walked, walked_after, arriving, takes}
 use Rattle.policy_meaning.specs.Best.{EachAt, Below, IsBest, first, IsSound}

@@ -42,6 +42,21 @@ pub struct LeafTable {
     pub entries: List<LeafEntry>,
 }
 
+impl Duplicate for LeafEntry {
+    fn copy(&self) -> Result<LeafEntry, Memory> {
+        Ok(LeafEntry {
+            serial: self.serial,
+            rank: self.rank,
+            m: self.m,
+            level: self.level,
+            effects: Effects {
+                outs: self.effects.outs.copy()?,
+                tail: self.effects.tail.copy()?,
+            },
+        })
+    }
+}
+
 /// Whether a port is one of these.
 pub(crate) fn has_port(ports: &List<u16>, port: u16) -> bool
     ensures { result ≡ has_port_of ports.now port }

@@ -5,7 +5,7 @@ use Rattle.std.specs.List.{AllByRecursion, cons_option}
 use Rattle.std.specs.Option.{option_and_then}
 use Rattle.std.proofs.Common.{inl, inr}
 use Rattle.of10_match.specs.Fields.{HeaderOf}
-use Rattle.of10_match.specs.declared.normal.TheConstants.{UNTAGGED}
+use Rattle.of10_match.specs.Numbers.{UNTAGGED}
 use Rattle.of10_actions.specs.Fields.{RewriteOf}
 use Rattle.of10_actions.specs.Rewriting.{apply, and_then, no_rewrite, Extends}
 use Rattle.of10_actions.specs.Effects.{EachExtends}

@@ -20,8 +20,8 @@ pub mod table;
 pub mod wiring;
 pub mod worked;
 
-pub use batching::difference;
-pub use choosing::{Reading, is_exact, usable};
+pub use batching::{difference, is_same};
+pub use choosing::{Reading, usable};
 pub use entry::{Change, Difference, FlatRule, FlowEntry, PhysEntry, Site};
 pub use fired::{Copied, Fired, Left, Seen, Sent};
 pub use firing::fire;

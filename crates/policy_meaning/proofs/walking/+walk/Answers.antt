@@ -14,8 +14,8 @@ returns t c =
     let next : c.in_ok-next-in-Some-leads.next ≡ walk_of (ground_of c.args.network.now) (c.args.hops - 1) on.place.v (arriving_of on.rewrite on.place.port c.args.header.now) = rw (← c.arriving.ensures) c.in_ok-next-in-Some-leads.ensures in
     let more : c.args.hops ≡ suc (c.args.hops - 1) = omega arith in
     subst (λ (z : Walked). IfOk c.both_walked.result (λ walked. walked ≡ z))
-    (walk-on c.args.network.now c.args.hops (c.args.hops - 1) c.args.v c.args.header.now c.in-Some.switch.now c.in_ok-meaning.meaning c.in_ok-walked.walked c.in_ok-next-in-Some-leads.next on
-    more (sym c.in-Some.ensures.value) (sym c.takes.ensures ∙ c.if-not-takes.false) c.in_ok-meaning.ensures
+    (walk-on c.args.network.now c.args.hops (c.args.hops - 1) c.args.v c.args.header.now _ c.in_ok-meaning.meaning c.in_ok-walked.walked c.in_ok-next-in-Some-leads.next on
+    more (sym c.in-Some.ensures.value ∙ ap Some (sym c.switch.view_is)) (sym c.takes.ensures ∙ c.if-not-takes.false) c.in_ok-meaning.ensures
     (subst (λ p. c.in_ok-walked.walked ≡ here_of c.args.v p c.in_ok-meaning.meaning.outs) came c.in_ok-walked.ensures)
-    (subst (λ p. leads_of c.in_ok-meaning.meaning.tail c.in-Some.switch.now.links p ≡ Some on) came (sym c.leads.ensures ∙ c.in-Some-leads.is)) next)
+    (subst (λ p. leads_of c.in_ok-meaning.meaning.tail c.switch.inside.links p ≡ Some on) came (sym c.leads.ensures ∙ c.in-Some-leads.is)) next)
     c.both_walked.ensures
