@@ -6,7 +6,7 @@ use Rattle.of10_actions.specs.Rewriting.{apply}
 use Rattle.of10_actions.specs.Effects.{set_by}
 use Rattle.of10_actions.specs.declared.action.Action.{Action}
 use Rattle.of10_actions.specs.declared.action.Action.TheVariants.{Output, SetVlanVid, SetVlanPcp, StripVlan, Enqueue}
-use Rattle.of10_actions.specs.declared.port.TheConstants.{IN_PORT, CONTROLLER}
+use Rattle.of10_actions.specs.Numbers.{IN_PORT, CONTROLLER}
 use Rattle.switch_meaning.specs.declared.entry.FlowEntry.{FlowEntry}
 use Rattle.switch_meaning.specs.declared.fired.Fired.{Fired}
 

@@ -12,7 +12,7 @@ use Rattle.of10_actions.specs.declared.action.Action.TheVariants.{Output, SetVla
 use Rattle.of10_actions.specs.declared.effects.Dest.{Dest}
 use Rattle.of10_actions.specs.declared.effects.Dest.TheVariants.{Port, Flood, Ingress, Tell}
 use Rattle.of10_actions.specs.declared.effects.Out.{Out}
-use Rattle.of10_actions.specs.declared.port.TheConstants.{IN_PORT, CONTROLLER}
+use Rattle.of10_actions.specs.Numbers.{IN_PORT, CONTROLLER}
 use Rattle.switch_meaning.specs.Same.{same_action}
 use Rattle.switch_meaning.specs.Wirings.{outside_at, next_hop}
 use Rattle.switch_meaning.specs.declared.entry.FlatRule.{FlatRule}
