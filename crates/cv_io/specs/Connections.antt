@@ -1,5 +1,5 @@
 -- Connections: which are told, and what one that is given is.
-use Rattle.std.specs.Prelude.{ℕ, Bool, true, false, ◌==◌, ◌&&◌, ◌≡◌, List, [], ◌∷◌, Option, Some, None, nat_eq}
+use Rattle.std.specs.Prelude.{ℕ, Bool, false, ◌==◌, ◌&&◌, ◌≡◌, List, [], ◌∷◌, Option, Some, None, nat_eq}
 use Rattle.std.specs.Cmp.Lexicographic.{pointwise}
 use Rattle.cv_io.specs.declared.links.Endpoint.{Endpoint}
 use Rattle.cv_io.specs.declared.links.Endpoint.TheVariants.{Member, Switch, Standby, Lead}

@@ -1,5 +1,5 @@
 -- What is known of connections in memory.
-use Rattle.std.specs.Prelude.{ℕ, Bool, true, List, [], ◌∷◌, Option, Some, None, if◌then◌else◌}
+use Rattle.std.specs.Prelude.{ℕ, true, List, [], ◌∷◌, Option, Some, None, if◌then◌else◌}
 use Rattle.cv_io.specs.Connections.{Connection, is_same}
 use Rattle.cv_io.specs.declared.links.Endpoint.{Endpoint}
 use Rattle.cv_io.specs.declared.mem_links.MemEnd.{MemEnd}

@@ -14,6 +14,7 @@ pub mod sink;
 pub mod source;
 pub mod standard;
 pub mod steps;
+pub mod tcp;
 pub mod text;
 pub mod works;
 
@@ -29,6 +30,7 @@ pub use sink::{MemSink, Sink};
 pub use source::{MemSource, Source};
 pub use standard::{Incoming, Outgoing};
 pub use steps::Steps;
+pub use tcp::{TcpDial, TcpLinks};
 pub use text::{NotAscii, Text};
 pub use works::{Spawner, Work};
 
