@@ -39,11 +39,11 @@ pub record AtPort (at : ℕ) (b : Rule) : Type 0 where
   pub port : fits b.m.in_port at ≡ true
 
 -- a match of a node holds the header at the node's port where its other fields hold
-port-holds : (m : MatchOf) (h : HeaderOf) (port : ℕ) → fits m.in_port port ≡ true → holds m (record h { in_port = port }) ≡ holds (without_port m) h
+pub port-holds : (m : MatchOf) (h : HeaderOf) (port : ℕ) → fits m.in_port port ≡ true → holds m (record h { in_port = port }) ≡ holds (without_port m) h
 port-holds m h port e = rw e
 
 -- the rule of two
-abbrev link_of : ℕ → RewriteOf → Rule → Rule → Rule
+abbrev pub link_of : ℕ → RewriteOf → Rule → Rule → Rule
 link_of size r a b = hopped size r a b (both a.m (pulled r (without_port b.m)))
 
 -- what is known of a rule of two that holds a header
@@ -90,11 +90,11 @@ best-met h n {a = a} g e p =
     let m = meet_there a.m n h (best_holds h p) e in
     best-filter_map h h (λ x. rule_met x n) IsSound (narrowed a (both a.m n)) (is_met (narrowed a) a.m n m.1) m.0 (λ x y _ u t low. met-lower h n a.level x y u t low) g p
 
-fits-met : (o : Option ℕ) (port : ℕ) → agree o (Some port) ≡ true → fits (either o (Some port)) port ≡ true
+pub fits-met : (o : Option ℕ) (port : ℕ) → agree o (Some port) ≡ true → fits (either o (Some port)) port ≡ true
 fits-met None port e = eq-eqb port port refl
 fits-met (Some w) port e = e
 
-fits-open : (o : Option ℕ) (port : ℕ) → fits o port ≡ true → fits (either o None) port ≡ true
+pub fits-open : (o : Option ℕ) (port : ℕ) → fits o port ≡ true → fits (either o None) port ≡ true
 fits-open None port e = refl
 fits-open (Some w) port e = e
 

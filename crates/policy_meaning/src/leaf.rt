@@ -8,12 +8,9 @@ ghost use Rattle.policy_meaning.specs.Leaf.{best_entry as best_entry_of, has_por
 
 use crate::meaning::{Meaning, outside};
 use cv_io::{Duplicate, List, Memory};
-use of10_actions::{Dest, Effects, Out, Rewrite, Tail};
+use of10_actions::{Dest, Effects, NO_MATCH, Out, Rewrite, Tail};
 use of10_match::{Header, Match};
 use std::alloc::Global;
-
-/// The reason of a PACKET_IN for a packet that no entry holds (section 5.4.1).
-const NO_MATCH: u8 = 0;
 
 /// An entry of a member's table.
 #[derive(PartialEq, Eq, Debug, Drop)]
@@ -49,10 +46,7 @@ impl Duplicate for LeafEntry {
             rank: self.rank,
             m: self.m,
             level: self.level,
-            effects: Effects {
-                outs: self.effects.outs.copy()?,
-                tail: self.effects.tail.copy()?,
-            },
+            effects: self.effects.copy()?,
         })
     }
 }

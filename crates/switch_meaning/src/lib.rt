@@ -29,7 +29,7 @@ pub use fixed::{drops, fixed_entries, guards, transits};
 pub use following::Switches;
 pub use keys::{installed, one_per_key};
 pub use placing::{Way, place};
-pub use ranges::{are_in_range, are_tables_in_range, are_tags_in_range};
+pub use ranges::{are_tables_in_range, are_tags_in_range};
 pub use table::table_after;
 pub use wiring::{Cable, NextHop, Outside, Spot, Wiring};
 
