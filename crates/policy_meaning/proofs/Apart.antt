@@ -12,7 +12,7 @@ use Rattle.policy_meaning.specs.Disjoint.{AreAllDisjoint, AreDisjoint, Begins, D
 use Rattle.policy_meaning.specs.LeafFact.{EachPair}
 use Rattle.policy_meaning.specs.declared.rule.Rule.{Rule}
 use Rattle.policy_meaning.proofs.Booleans.{fails, true_not_false}
-use Rattle.policy_meaning.proofs.Lists.{all-append, all-each, all-filter_map}
+use Rattle.policy_meaning.proofs.Lists.{add-none, all-append, all-each, all-filter_map}
 use Rattle.policy_meaning.proofs.Meeting.{meet_holds, meet_there}
 
 -- a header that a match holds
@@ -78,12 +78,8 @@ narrower k m n p q f g o =
     fails (overlaps p q) (λ t. let w = overlapping p q t in true_not_false (sym (meet_there m n (k w.header) (f w.header w.left) (g w.header w.right)).1 ∙ o))
 
 pub differ : DisjointRulesDiffer
-differ a b d e same =
-    true_not_false (sym (overlaps_self a.m) ∙ (ap (λ (m : MatchOf). overlaps a.m m) same ∙ d.first ([], e ∙ sym (no-more b.ancestry))))
-  where
-    no-more : (xs : List Leaf) → xs ++ [] ≡ xs
-    no-more [] = refl
-    no-more (x ∷ xs) = ap (λ ys. x ∷ ys) (no-more xs)
+differ a b d same e =
+    true_not_false (sym (overlaps_self a.m) ∙ (ap (λ (m : MatchOf). overlaps a.m m) e ∙ d.first ([], same ∙ add-none b.ancestry)))
 
 -- of two lists that one list begins with, one begins with the other
 tails : {x y : Leaf} {xs ys : List Leaf} → x ∷ xs ≡ y ∷ ys → xs ≡ ys

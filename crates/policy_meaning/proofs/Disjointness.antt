@@ -37,26 +37,22 @@ use Rattle.policy_meaning.proofs.Booleans.{fails, join_and, split_and, true_not_
 use Rattle.policy_meaning.proofs.Cells.{narrowed, normal-cells}
 use Rattle.policy_meaning.proofs.Central.{all-normal, each-member}
 use Rattle.policy_meaning.proofs.Chains.{HasNormal, chain_of}
-use Rattle.policy_meaning.proofs.Lists.{all-append, all-each, all-filter_map, all-flat_map, all-map, all-mapped}
+use Rattle.policy_meaning.proofs.Lists.{add-none, all-append, all-each, all-filter_map, all-flat_map, all-map, all-mapped}
 use Rattle.policy_meaning.proofs.Meeting.{meet_holds, some_meet, some_met, some_pulled}
 use Rattle.policy_meaning.proofs.Nodes.{fits-met, fits-open, link_of, port-holds}
 use Rattle.policy_meaning.proofs.Normality.{normal-at_port, normal-everything, normal-without_port}
 use Rattle.policy_meaning.proofs.Pairs.{each-chain, each-shift, each-sum}
 use Rattle.policy_meaning.proofs.Peers.{leading}
 
-no-more : (xs : List Leaf) → xs ≡ xs ++ []
-no-more [] = refl
-no-more (x ∷ xs) = ap (λ ys. x ∷ ys) (no-more xs)
-
 -- a rule that stands alone is made of itself
 itself : (x c : Rule) → c.ancestry ≡ x.ancestry → c.m ≡ x.m → IsMadeOf x c
-itself x c e f = record { more = []; leaves = e ∙ no-more x.ancestry; within = λ h t. subst (λ (m : MatchOf). holds m h ≡ true) f t }
+itself x c e f = record { more = []; leaves = e ∙ add-none x.ancestry; within = λ h t. subst (λ (m : MatchOf). holds m h ≡ true) f t }
 
 -- the rule of a table, narrowed
 met-made : (n : MatchOf) (x c : Rule) → rule_met x n ≡ Some c → IsMadeOf x c
 met-made n x c e =
     let s = some_met (narrowed x) x.m n c e in
-    subst (IsMadeOf x) s.1 (record { more = []; leaves = no-more x.ancestry; within = λ h t. (meet_holds x.m n h t s.0).0 })
+    subst (IsMadeOf x) s.1 (record { more = []; leaves = add-none x.ancestry; within = λ h t. (meet_holds x.m n h t s.0).0 })
 
 -- rules that are made of disjoint rules, where what one makes is disjoint
 module _ (g : Rule → List Rule) (made : (x : Rule) → AllByRecursion (IsMadeOf x) (g x)) (each : (x : Rule) → AreAllDisjoint (g x)) where
@@ -174,10 +170,6 @@ module _ (ports : List ℕ) (t : LeafTable) (good : IsOrderly t) where
       inside (anything inside) inside-other
 
   -- what is outside is of another leaf than all placed rules
-  IsPlaced : Rule → Type 0
-  unfolding IsPlaced
-  IsPlaced c = OtherLeaf (outside_rule t) c
-
   outside-other : AllByRecursion (OtherLeaf (outside_rule t)) inside
   outside-other = (
     record { one = record { member = t.member; kind = 0 }; other = record { member = t.member; kind = 1 }; left = refl; right = refl; differ = λ same. absurd (omega arith) },
@@ -269,33 +261,37 @@ once-right : (xs ys : List ℕ) → EachPair (λ i j. i ≢ j) (xs ++ ys) → Ea
 once-right [] ys p = p
 once-right (x ∷ xs) ys p = once-right xs ys p.1
 
+-- what is kept of a member's rules
+record AreKept (i : ℕ) (rules : List Rule) : Type 0 where
+  disjoint : AreAllDisjoint rules
+  normal : AllByRecursion HasNormal rules
+  starts : AllByRecursion (Starts (i ∷ [])) rules
+
 module _ (sizes : ℕ → ℕ) (rules : ℕ → List Rule) where
-  -- what is kept of a member's rules
-  record AreKept (i : ℕ) : Type 0 where
-    disjoint : AreAllDisjoint (rules i)
-    normal : AllByRecursion HasNormal (rules i)
-    starts : AllByRecursion (Starts (i ∷ [])) (rules i)
+  -- a member's rules are so
+  abbrev Kept : ℕ → Type 0
+  Kept i = AreKept i (rules i)
 
   abbrev of : Policy → List Rule
   of e = rules_of sizes rules e
 
-  each-starts : (e : Policy) → EachMember AreKept e → AllByRecursion (Starts (members_of e)) (of e)
+  each-starts : (e : Policy) → EachMember Kept e → AllByRecursion (Starts (members_of e)) (of e)
   each-starts (member i) p = p.starts
   each-starts (parallel a b) p =
       each-sum (Starts (members_of a)) Any (Starts (members_of a ++ members_of b)) (λ x y s _ o. starts-left (members_of a) (members_of b) x (summed x y (both x.m y.m)) y.ancestry s refl)
       (of a) (of b) (each-starts a p.0) (anything (of b))
   each-starts (sequential a b) p =
       each-chain (Starts (members_of a)) Any (Starts (members_of a ++ members_of b)) (size_of sizes b)
-      (λ x s. starts-left (members_of a) (members_of b) x x [] s (no-more x.ancestry))
+      (λ x s. starts-left (members_of a) (members_of b) x x [] s (add-none x.ancestry))
       (λ x y r t s _ o. starts-left (members_of a) (members_of b) x (chained (size_of sizes b) r x y (both x.m (pulled r y.m))) y.ancestry s refl)
       (of a) (of b) (each-starts a p.0) (anything (of b))
   each-starts (override a b) p =
       each-shift (Starts (members_of a)) Any (Starts (members_of a ++ members_of b)) (size_of sizes b)
-      (λ x s. starts-left (members_of a) (members_of b) x x [] s (no-more x.ancestry))
+      (λ x s. starts-left (members_of a) (members_of b) x x [] s (add-none x.ancestry))
       (of a) (of b) (each-starts a p.0) (all-map (Starts (members_of b)) (Starts (members_of a ++ members_of b)) (of b) (λ x s. starts-right (members_of a) (members_of b) x s) (each-starts b p.1))
 
-  normal-of : (e : Policy) → EachMember AreKept e → AllByRecursion HasNormal (of e)
-  normal-of e p = all-normal sizes rules e (each-member AreKept (λ i. AllByRecursion HasNormal (rules i)) (λ i k. k.normal) e p)
+  normal-of : (e : Policy) → EachMember Kept e → AllByRecursion HasNormal (of e)
+  normal-of e p = all-normal sizes rules e (each-member Kept (λ i. AllByRecursion HasNormal (rules i)) (λ i k. k.normal) e p)
 
   -- what one rule of the left of `+` makes
   module _ (bs : List Rule) (apart : AreAllDisjoint bs) where
@@ -343,7 +339,7 @@ module _ (sizes : ℕ → ℕ) (rules : ℕ → List Rule) where
   shift-each-by size x true = (tt, tt)
   shift-each-by size x false = tt
 
-  pub rules-disjoint : (e : Policy) → EachPair (λ i j. i ≢ j) (members_of e) → EachMember AreKept e → AreAllDisjoint (of e)
+  pub rules-disjoint : (e : Policy) → EachPair (λ i j. i ≢ j) (members_of e) → EachMember Kept e → AreAllDisjoint (of e)
   rules-disjoint (member i) once p = p.disjoint
   rules-disjoint (parallel a b) once p =
       let right = rules-disjoint b (once-right (members_of a) (members_of b) once) p.1 in
@@ -366,3 +362,164 @@ module _ (sizes : ℕ → ℕ) (rules : ℕ → List Rule) where
       shifted : (x : Rule) → Starts (members_of a) x → (t : Bool) → AllByRecursion (Starts (members_of a)) (if t then lifted _ x ∷ [] else [])
       shifted x s true = (record { leaf = s.leaf; rest = s.rest; is = s.is; among = s.among }, tt)
       shifted x s false = tt
+
+-- the rules of a member's table
+module _ (ports : List ℕ) (i : ℕ) (t : LeafTable) (good : IsTableOfMember i t) where
+  placed-normal : (a : Rule) → HasNormal a → AllByRecursion HasNormal (in_cells (cells ports t) a)
+  placed-normal a n =
+      all-filter_map IsNormal HasNormal (rule_met a) (cells ports t)
+      (λ m c e k. let s = some_met (narrowed a) a.m m c e in subst HasNormal s.1 (IsNormal-both a.m m s.0 n k)) (normal-cells ports t good.normal.boxes)
+
+  outer-normal : (b : Bool) → AllByRecursion HasNormal (if b then outside_rule t ∷ [] else [])
+  outer-normal true = (normal-everything, tt)
+  outer-normal false = tt
+
+  table-normal : AllByRecursion HasNormal (leaf_rules ports t)
+  table-normal =
+      all-append HasNormal (if has_outside ports t then outside_rule t ∷ [] else []) (flat_map (in_cells (cells ports t)) (miss_rule t ∷ map (entry_rule t) t.entries)) (outer-normal (has_outside ports t))
+      (all-flat_map HasNormal HasNormal (in_cells (cells ports t)) (miss_rule t ∷ map (entry_rule t) t.entries) placed-normal
+      (normal-everything, all-mapped (λ (e : LeafEntry). IsNormal e.m) HasNormal (entry_rule t) t.entries (λ e n. n) good.normal.entries))
+
+  -- they begin with a leaf of the member
+  own : (r : Rule) (kind : ℕ) → r.ancestry ≡ record { member = t.member; kind = kind } ∷ [] → Starts (i ∷ []) r
+  own r kind e = record { leaf = record { member = t.member; kind = kind }; rest = []; is = e; among = or-left (i == t.member) false (eq-eqb i t.member (sym good.member)) }
+
+  placed-own : (a : Rule) → Starts (i ∷ []) a → AllByRecursion (Starts (i ∷ [])) (in_cells (cells ports t) a)
+  placed-own a s =
+      all-filter_map (λ m. Unit {0}) (Starts (i ∷ [])) (rule_met a) (cells ports t)
+      (λ m c e _. let q = some_met (narrowed a) a.m m c e in subst (Starts (i ∷ [])) q.1 (record { leaf = s.leaf; rest = s.rest; is = s.is; among = s.among })) (all-each (λ m. Unit {0}) (cells ports t) (λ m. tt))
+
+  outer-own : (b : Bool) → AllByRecursion (Starts (i ∷ [])) (if b then outside_rule t ∷ [] else [])
+  outer-own true = (own (outside_rule t) 0 refl, tt)
+  outer-own false = tt
+
+  table-starts : AllByRecursion (Starts (i ∷ [])) (leaf_rules ports t)
+  table-starts =
+      all-append (Starts (i ∷ [])) (if has_outside ports t then outside_rule t ∷ [] else []) (flat_map (in_cells (cells ports t)) (miss_rule t ∷ map (entry_rule t) t.entries)) (outer-own (has_outside ports t))
+      (all-flat_map (Starts (i ∷ [])) (Starts (i ∷ [])) (in_cells (cells ports t)) (miss_rule t ∷ map (entry_rule t) t.entries) placed-own
+      (own (miss_rule t) 1 refl, all-mapped (λ (e : LeafEntry). Unit {0}) (Starts (i ∷ [])) (entry_rule t) t.entries (λ e _. own (entry_rule t e) (2 + e.serial) refl) (all-each (λ (e : LeafEntry). Unit {0}) t.entries (λ e. tt))))
+
+  table-kept : AreKept i (leaf_rules ports t)
+  table-kept = record { disjoint = leaf-disjoint ports t good.orderly; normal = table-normal; starts = table-starts }
+
+member-kept : (ports : List ℕ) (i : ℕ) (o : Option LeafTable) → ((t : LeafTable) → o ≡ Some t → IsTableOfMember i t) → AreKept i (table_rules ports o)
+member-kept ports i None good = record { disjoint = tt; normal = tt; starts = tt }
+member-kept ports i (Some t) good = table-kept ports i t (good t refl)
+
+-- the rules of an expression
+module _ (tables : List LeafTable) (ports : List ℕ) (e : Policy) (good : IsOrderlyPolicy tables e) where
+  abbrev sizes-of : ℕ → ℕ
+  sizes-of i = table_size (slice_get tables i)
+
+  abbrev leaves-of : ℕ → List Rule
+  leaves-of i = table_rules ports (slice_get tables i)
+
+  all-kept : EachMember (Kept sizes-of leaves-of) e
+  all-kept = each-member (HasOrderlyTable tables) (Kept sizes-of leaves-of) (λ i t. member-kept ports i (slice_get tables i) t) e good.members
+
+  pub expression-disjoint : AreAllDisjoint (rules_of sizes-of leaves-of e)
+  expression-disjoint = rules-disjoint sizes-of leaves-of e good.once all-kept
+
+  pub expression-normal : AllByRecursion HasNormal (rules_of sizes-of leaves-of e)
+  expression-normal = normal-of sizes-of leaves-of e all-kept
+
+pub rules-are-disjoint : RulesAreDisjoint
+rules-are-disjoint tables ports e good = expression-disjoint tables ports e good
+
+-- the rules of nodes
+
+-- the rule's match is normal, and holds headers that come by a port
+pub record IsNormalAt (port : ℕ) (b : Rule) : Type 0 where
+  pub is_normal : IsNormal b.m
+  pub port : fits b.m.in_port port ≡ true
+
+met-normal : (port : ℕ) (x y : Rule) → rule_met x (at_port port) ≡ Some y → HasNormal x → IsNormalAt port y
+met-normal port x y e n =
+    let s = some_met (narrowed x) x.m (at_port port) y e in
+    let a : IsNormalAt port (narrowed x (both x.m (at_port port))) = record { is_normal = IsNormal-both x.m (at_port port) s.0 n (normal-at_port port); port = fits-met x.m.in_port port (split_and _ _ s.0).0 } in
+    subst (λ (z : Rule). IsNormalAt port z) s.1 a
+
+module _ (size : ℕ) (r : RewriteOf) (a x y : Rule) (e : hop_rule size r a x ≡ Some y) where
+  linked : (can_pull r (without_port x.m) ≡ true) × (overlaps a.m (pulled r (without_port x.m)) ≡ true) × (link_of size r a x ≡ y)
+  linked = some_pulled (hopped size r a x) a.m (without_port x.m) r y e
+
+  linked-normal : (port to : ℕ) → IsNormalAt port a → IsNormalAt to x → IsNormalAt port y
+  linked-normal port to g k =
+      let b : IsNormalAt port (link_of size r a x) = record {
+        is_normal = IsNormal-both a.m (pulled r (without_port x.m)) linked.1 g.is_normal (normal-pulled r (without_port x.m) (normal-without_port x.m k.is_normal));
+        port = fits-open a.m.in_port port g.port;
+      } in
+      subst (λ (z : Rule). IsNormalAt port z) linked.2 b
+
+  linked-made : IsMadeOf a y
+  linked-made = subst (IsMadeOf a) linked.2 (record { more = x.ancestry; leaves = refl; within = λ h t. (meet_holds a.m (pulled r (without_port x.m)) h t linked.1).0 })
+
+  linked-after : (to : ℕ) → IsNormalAt to x → IsMadeAfter a.ancestry (arriving r to) x y
+  linked-after to k =
+      subst (IsMadeAfter a.ancestry (arriving r to) x) linked.2 (record {
+        leaves = refl;
+        within = λ h t.
+        port-holds x.m (apply r h) to k.port
+        ∙ (sym (holds-pulled r (without_port x.m) h (normal-guarded (without_port x.m) (normal-without_port x.m k.is_normal))) ∙ join_and _ _ (meet_holds a.m (pulled r (without_port x.m)) h t linked.1).1 linked.0);
+      })
+
+module _ (f : Fabric) (normal : (v : ℕ) → AllByRecursion HasNormal (f.rules v)) (apart : (v : ℕ) → AreAllDisjoint (f.rules v)) where
+  abbrev on_port : ℕ → Rule → Option Rule
+  on_port port a = rule_met a (at_port port)
+
+  abbrev makes : ℕ → ℕ → ℕ → Rule → List Rule
+  makes n v port a = hops_on (leads a.tail (f.links v) port) (node f n) (peers_size (hop_size f n) (f.links v)) (at_node v port a)
+
+  starting : (v port : ℕ) → AllByRecursion (IsNormalAt port) (filter_map (on_port port) (f.rules v))
+  starting v port = all-filter_map HasNormal (IsNormalAt port) (on_port port) (f.rules v) (λ x y e n. met-normal port x y e n) (normal v)
+
+  module _ (n : ℕ) (nodes : (u port : ℕ) → AllByRecursion (IsNormalAt port) (node f n u port)) where
+    makes-normal : (v port size : ℕ) (x : Rule) → IsNormalAt port x → (o : Option Onward) → AllByRecursion (IsNormalAt port) (hops_on o (node f n) size (at_node v port x))
+    makes-normal v port size x g None = (record { is_normal = g.is_normal; port = g.port }, tt)
+    makes-normal v port size x g (Some on) =
+        all-filter_map (IsNormalAt on.place.port) (IsNormalAt port) (hop_rule size on.rewrite (at_node v port x)) (node f n on.place.v on.place.port)
+        (λ b y e k. linked-normal size on.rewrite (at_node v port x) b y e port on.place.port (record { is_normal = g.is_normal; port = g.port }) k) (nodes on.place.v on.place.port)
+
+    makes-made : (v port size : ℕ) (x : Rule) (o : Option Onward) → AllByRecursion (IsMadeOf x) (hops_on o (node f n) size (at_node v port x))
+    makes-made v port size x None = (itself x (hop_lone size (at_node v port x)) refl refl, tt)
+    makes-made v port size x (Some on) =
+        all-filter_map Any (IsMadeOf x) (hop_rule size on.rewrite (at_node v port x)) (node f n on.place.v on.place.port)
+        (λ b y e _. let m = linked-made size on.rewrite (at_node v port x) b y e in record { more = m.more; leaves = m.leaves; within = m.within }) (anything (node f n on.place.v on.place.port))
+
+    module _ (before : (u port : ℕ) → AreAllDisjoint (node f n u port)) where
+      makes-each : (v port size : ℕ) (x : Rule) (o : Option Onward) → AreAllDisjoint (hops_on o (node f n) size (at_node v port x))
+      makes-each v port size x None = (tt, tt)
+      makes-each v port size x (Some on) =
+          pairs-filter_map AreDisjoint AreDisjoint (IsNormalAt on.place.port) (hop_rule size on.rewrite (at_node v port x))
+          (λ b d y z p q e g o.
+          after-disjoint x.ancestry (arriving on.rewrite on.place.port) b d y z o (linked-after size on.rewrite (at_node v port x) b y e on.place.port p) (linked-after size on.rewrite (at_node v port x) d z g on.place.port q))
+          (node f n on.place.v on.place.port) (nodes on.place.v on.place.port) (before on.place.v on.place.port)
+
+      step-disjoint : (v port : ℕ) → AreAllDisjoint (flat_map (makes n v port) (filter_map (on_port port) (f.rules v)))
+      step-disjoint v port =
+          composed-disjoint (makes n v port) (λ x. makes-made v port (peers_size (hop_size f n) (f.links v)) x (leads x.tail (f.links v) port))
+          (λ x. makes-each v port (peers_size (hop_size f n) (f.links v)) x (leads x.tail (f.links v) port)) (filter_map (on_port port) (f.rules v))
+          (pairs-filter_map AreDisjoint AreDisjoint Any (on_port port) (λ x y c d _ _ e g o. made-disjoint x y c d o (met-made (at_port port) x c e) (met-made (at_port port) y d g)) (f.rules v) (anything (f.rules v)) (apart v))
+
+  pub node-normal : (n v port : ℕ) → AllByRecursion (IsNormalAt port) (node f n v port)
+  node-normal zero v port = (record { is_normal = normal-everything; port = refl }, tt)
+  node-normal (suc n) v port =
+      all-flat_map (IsNormalAt port) (IsNormalAt port) (makes n v port) (filter_map (on_port port) (f.rules v))
+      (λ x g. makes-normal n (node-normal n) v port (peers_size (hop_size f n) (f.links v)) x g (leads x.tail (f.links v) port)) (starting v port)
+
+  pub node-disjoint : (n v port : ℕ) → AreAllDisjoint (node f n v port)
+  node-disjoint zero v port = (tt, tt)
+  node-disjoint (suc n) v port = step-disjoint n (node-normal n) (node-disjoint n) v port
+
+module _ (tables : List LeafTable) where
+  some-normal : (o : Option SwitchOf) → ((s : SwitchOf) → o ≡ Some s → IsOrderlyPolicy tables s.expr) → AllByRecursion HasNormal (switch_rules tables o)
+  some-normal None good = tt
+  some-normal (Some s) good = expression-normal tables (ports_of s) s.expr (good s refl)
+
+  some-disjoint : (o : Option SwitchOf) → ((s : SwitchOf) → o ≡ Some s → IsOrderlyPolicy tables s.expr) → AreAllDisjoint (switch_rules tables o)
+  some-disjoint None good = tt
+  some-disjoint (Some s) good = expression-disjoint tables (ports_of s) s.expr (good s refl)
+
+pub nodes-are-disjoint : NodesAreDisjoint
+nodes-are-disjoint net good n v port =
+    node-disjoint (fabric_of net) (λ u. some-normal net.tables (slice_get net.switches u) (good u)) (λ u. some-disjoint net.tables (slice_get net.switches u) (good u)) n v port

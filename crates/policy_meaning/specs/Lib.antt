@@ -13,6 +13,7 @@ pub mod HopFact
 pub mod EveryNode
 pub mod Order
 pub mod Fitting
+pub mod Disjoint
 pub mod WorkedTables
 pub mod WorkedRules
 pub mod WorkedHops
