@@ -85,7 +85,7 @@ differ a b d same e =
 tails : {x y : Leaf} {xs ys : List Leaf} → x ∷ xs ≡ y ∷ ys → xs ≡ ys
 tails e = cc
 
-heads : {x y : Leaf} {xs ys : List Leaf} → x ∷ xs ≡ y ∷ ys → x ≡ y
+pub heads : {x y : Leaf} {xs ys : List Leaf} → x ∷ xs ≡ y ∷ ys → x ≡ y
 heads e = cc
 
 pub either-begins : (xs ys us vs : List Leaf) → xs ++ us ≡ ys ++ vs → Begins xs ys ⊎ Begins ys xs

@@ -14,6 +14,7 @@ use Rattle.of10_actions.specs.declared.effects.Tail.TheVariants.{Nothing, Pass, 
 use Rattle.pull_back.specs.Pulling.{can_pull, pulled}
 use Rattle.pull_back.proofs.Normality.{normal-guarded, normal-pulled}
 use Rattle.pull_back.proofs.PulledMatches.{holds-pulled}
+use Rattle.alg_priority.specs.Levels.{concat_level, shift_level}
 use Rattle.policy_expr.specs.Policy.{Policy, member, parallel, sequential, override, members_of}
 use Rattle.policy_expr.specs.Sizes.{size_of}
 use Rattle.policy_meaning.specs.CentralFact.{EachMember}
@@ -191,47 +192,44 @@ pub leaf-disjoint : LeafRulesAreDisjoint
 leaf-disjoint ports t good = with-outside ports t good (has_outside ports t)
 
 -- the leaf that an ancestry begins with is of one of these members
-record Starts (members : List ℕ) (r : Rule) : Type 0 where
-  leaf : Leaf
-  rest : List Leaf
-  is : r.ancestry ≡ leaf ∷ rest
-  among : has_port members leaf.member ≡ true
+pub record Starts (members : List ℕ) (r : Rule) : Type 0 where
+  pub leaf : Leaf
+  pub rest : List Leaf
+  pub is : r.ancestry ≡ leaf ∷ rest
+  pub among : has_port members leaf.member ≡ true
 
 or-left : (a b : Bool) → a ≡ true → (a || b) ≡ true
 or-left a b e = rw e
 
+either : (a b c : Bool) → (b ≡ true → c ≡ true) → (a || b) ≡ true → (a || c) ≡ true
+either true b c f e = refl
+either false b c f e = f e
+
 among-left : (xs ys : List ℕ) (p : ℕ) → has_port xs p ≡ true → has_port (xs ++ ys) p ≡ true
 among-left [] ys p e = cc
-among-left (x ∷ xs) ys p e = by (x == p) refl
-  where
-    by : (b : Bool) → (x == p) ≡ b → ((x == p) || has_port (xs ++ ys) p) ≡ true
-    by true t = rw t
-    by false t = rw t (among-left xs ys p (rw t at e))
+among-left (x ∷ xs) ys p e = either (x == p) (has_port xs p) (has_port (xs ++ ys) p) (λ t. among-left xs ys p t) e
+
+or-second : (a b : Bool) → b ≡ true → (a || b) ≡ true
+or-second true b e = refl
+or-second false b e = e
 
 among-right : (xs ys : List ℕ) (p : ℕ) → has_port ys p ≡ true → has_port (xs ++ ys) p ≡ true
 among-right [] ys p e = e
-among-right (x ∷ xs) ys p e = by (x == p)
-  where
-    by : (b : Bool) → (b || has_port (xs ++ ys) p) ≡ true
-    by true = refl
-    by false = among-right xs ys p e
+among-right (x ∷ xs) ys p e = or-second (x == p) (has_port (xs ++ ys) p) (among-right xs ys p e)
+
+one-or : {P : Type 0} (a b : Bool) → (a ≡ true → P) → (b ≡ true → P) → (a || b) ≡ true → P
+one-or true b f g e = f refl
+one-or false b f g e = g e
 
 none-among : (x : ℕ) (ys : List ℕ) → AllByRecursion (λ y. x ≢ y) ys → has_port ys x ≡ true → ⊥
 none-among x [] n e = cc
-none-among x (y ∷ ys) n e = by (y == x) refl
-  where
-    by : (b : Bool) → (y == x) ≡ b → ⊥
-    by true t = n.0 (sym (eqb-true y x t))
-    by false t = none-among x ys n.1 (rw t at e)
+none-among x (y ∷ ys) n e = one-or (y == x) (has_port ys x) (λ t. n.0 (sym (eqb-true y x t))) (λ t. none-among x ys n.1 t) e
 
 -- no member is among both of two parts
 not-both : (xs ys : List ℕ) (p : ℕ) → EachPair (λ i j. i ≢ j) (xs ++ ys) → has_port xs p ≡ true → has_port ys p ≡ true → ⊥
 not-both [] ys p once e f = cc
-not-both (x ∷ xs) ys p once e f = by (x == p) refl
-  where
-    by : (b : Bool) → (x == p) ≡ b → ⊥
-    by true t = none-among x (xs ++ ys) once.0 (among-right xs ys x (subst (λ z. has_port ys z ≡ true) (sym (eqb-true x p t)) f))
-    by false t = not-both xs ys p once.1 (rw t at e) f
+not-both (x ∷ xs) ys p once e f =
+    one-or (x == p) (has_port xs p) (λ t. none-among x (xs ++ ys) once.0 (among-right xs ys x (subst (λ z. has_port ys z ≡ true) (sym (eqb-true x p t)) f))) (λ t. not-both xs ys p once.1 t f) e
 
 starts-left : (ms ns : List ℕ) (a c : Rule) (more : List Leaf) → Starts ms a → c.ancestry ≡ a.ancestry ++ more → Starts (ms ++ ns) c
 starts-left ms ns a c more s e = record { leaf = s.leaf; rest = s.rest ++ more; is = e ∙ ap (λ xs. xs ++ more) s.is; among = among-left ms ns s.leaf.member s.among }
@@ -262,10 +260,10 @@ once-right [] ys p = p
 once-right (x ∷ xs) ys p = once-right xs ys p.1
 
 -- what is kept of a member's rules
-record AreKept (i : ℕ) (rules : List Rule) : Type 0 where
-  disjoint : AreAllDisjoint rules
-  normal : AllByRecursion HasNormal rules
-  starts : AllByRecursion (Starts (i ∷ [])) rules
+pub record AreKept (i : ℕ) (rules : List Rule) : Type 0 where
+  pub disjoint : AreAllDisjoint rules
+  pub normal : AllByRecursion HasNormal rules
+  pub starts : AllByRecursion (Starts (i ∷ [])) rules
 
 module _ (sizes : ℕ → ℕ) (rules : ℕ → List Rule) where
   -- a member's rules are so
@@ -282,12 +280,12 @@ module _ (sizes : ℕ → ℕ) (rules : ℕ → List Rule) where
       (of a) (of b) (each-starts a p.0) (anything (of b))
   each-starts (sequential a b) p =
       each-chain (Starts (members_of a)) Any (Starts (members_of a ++ members_of b)) (size_of sizes b)
-      (λ x s. starts-left (members_of a) (members_of b) x x [] s (add-none x.ancestry))
+      (λ x s. starts-left (members_of a) (members_of b) x (lifted (concat_level x.level 0 (size_of sizes b)) x) [] s (add-none x.ancestry))
       (λ x y r t s _ o. starts-left (members_of a) (members_of b) x (chained (size_of sizes b) r x y (both x.m (pulled r y.m))) y.ancestry s refl)
       (of a) (of b) (each-starts a p.0) (anything (of b))
   each-starts (override a b) p =
       each-shift (Starts (members_of a)) Any (Starts (members_of a ++ members_of b)) (size_of sizes b)
-      (λ x s. starts-left (members_of a) (members_of b) x x [] s (add-none x.ancestry))
+      (λ x s. starts-left (members_of a) (members_of b) x (lifted (shift_level x.level (size_of sizes b)) x) [] s (add-none x.ancestry))
       (of a) (of b) (each-starts a p.0) (all-map (Starts (members_of b)) (Starts (members_of a ++ members_of b)) (of b) (λ x s. starts-right (members_of a) (members_of b) x s) (each-starts b p.1))
 
   normal-of : (e : Policy) → EachMember Kept e → AllByRecursion HasNormal (of e)
@@ -339,6 +337,10 @@ module _ (sizes : ℕ → ℕ) (rules : ℕ → List Rule) where
   shift-each-by size x true = (tt, tt)
   shift-each-by size x false = tt
 
+  shift-starts : (ms : List ℕ) (level : ℕ) (x : Rule) → Starts ms x → (t : Bool) → AllByRecursion (Starts ms) (if t then lifted level x ∷ [] else [])
+  shift-starts ms level x s true = (record { leaf = s.leaf; rest = s.rest; is = s.is; among = s.among }, tt)
+  shift-starts ms level x s false = tt
+
   pub rules-disjoint : (e : Policy) → EachPair (λ i j. i ≢ j) (members_of e) → EachMember Kept e → AreAllDisjoint (of e)
   rules-disjoint (member i) once p = p.disjoint
   rules-disjoint (parallel a b) once p =
@@ -352,16 +354,12 @@ module _ (sizes : ℕ → ℕ) (rules : ℕ → List Rule) where
   rules-disjoint (override a b) once p =
       let left = flat_map (shifts_with (size_of sizes b)) (of a) in
       let starts : AllByRecursion (Starts (members_of a)) left =
-          all-flat_map (Starts (members_of a)) (Starts (members_of a)) (shifts_with (size_of sizes b)) (of a) (λ x s. shifted x s x.touched) (each-starts a p.0) in
+          all-flat_map (Starts (members_of a)) (Starts (members_of a)) (shifts_with (size_of sizes b)) (of a) (λ x s. shift-starts (members_of a) (shift_level x.level (size_of sizes b)) x s x.touched) (each-starts a p.0) in
       pairs-append AreDisjoint left (of b)
       (composed-disjoint (shifts_with (size_of sizes b)) (λ x. shift-made-by _ x x.touched) (λ x. shift-each-by _ x x.touched) (of a) (rules-disjoint a (once-left (members_of a) (members_of b) once) p.0))
       (rules-disjoint b (once-right (members_of a) (members_of b) once) p.1)
       (all-map (Starts (members_of a)) (λ x. AllByRecursion (AreDisjoint x) (of b)) left
       (λ x s. all-map (Starts (members_of b)) (AreDisjoint x) (of b) (λ y t. parts-disjoint (members_of a) (members_of b) x y once s t) (each-starts b p.1)) starts)
-    where
-      shifted : (x : Rule) → Starts (members_of a) x → (t : Bool) → AllByRecursion (Starts (members_of a)) (if t then lifted _ x ∷ [] else [])
-      shifted x s true = (record { leaf = s.leaf; rest = s.rest; is = s.is; among = s.among }, tt)
-      shifted x s false = tt
 
 -- the rules of a member's table
 module _ (ports : List ℕ) (i : ℕ) (t : LeafTable) (good : IsTableOfMember i t) where
@@ -429,9 +427,9 @@ rules-are-disjoint tables ports e good = expression-disjoint tables ports e good
 -- the rules of nodes
 
 -- the rule's match is normal, and holds headers that come by a port
-pub record IsNormalAt (port : ℕ) (b : Rule) : Type 0 where
+pub record IsNormalAt (at : ℕ) (b : Rule) : Type 0 where
   pub is_normal : IsNormal b.m
-  pub port : fits b.m.in_port port ≡ true
+  pub port : fits b.m.in_port at ≡ true
 
 met-normal : (port : ℕ) (x y : Rule) → rule_met x (at_port port) ≡ Some y → HasNormal x → IsNormalAt port y
 met-normal port x y e n =
