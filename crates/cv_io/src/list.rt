@@ -282,3 +282,38 @@ impl Duplicate for u64 {
         List::from_slice(alloc, items)
     }
 }
+
+impl Duplicate for usize {
+    fn copy(&self) -> Result<usize, Memory> {
+        Ok(*self)
+    }
+
+    fn copies(alloc: Global, items: &[usize]) -> Result<List<usize>, Memory> {
+        List::from_slice(alloc, items)
+    }
+}
+
+impl Duplicate for bool {
+    fn copy(&self) -> Result<bool, Memory> {
+        Ok(*self)
+    }
+
+    fn copies(alloc: Global, items: &[bool]) -> Result<List<bool>, Memory> {
+        List::from_slice(alloc, items)
+    }
+}
+
+impl<T: Duplicate> Duplicate for Option<T> {
+    fn copy(&self) -> Result<Option<T>, Memory> {
+        match self {
+            Some(value) => Ok(Some(value.copy()?)),
+            None => Ok(None),
+        }
+    }
+}
+
+impl<A: Duplicate + Drop, B: Duplicate> Duplicate for (A, B) {
+    fn copy(&self) -> Result<(A, B), Memory> {
+        Ok((self.0.copy()?, self.1.copy()?))
+    }
+}
