@@ -213,6 +213,13 @@ impl<T: Copy> List<T> {
         })
     }
 
+    /// A copy.
+    pub fn copied(&self) -> Result<List<T>, Memory>
+        ensures { IfOk result (λ list. list ≡ self.now) }
+    {
+        List::from_slice(*self.items.allocator(), self.items.as_slice())
+    }
+
     /// Appends a slice's items.
     pub fn extend_from_slice(&mut self, items: &[T]) -> Result<(), Memory>
         ensures extended { OnOk result (self.new ≡ self.old ++ items.now) }
