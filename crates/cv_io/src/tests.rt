@@ -34,3 +34,19 @@ fn the_outside_in_memory(rt: HostRuntime) -> Result<(), Fail> {
     assert!(rt; sink.held.as_slice() == b"ab".as_slice());
     Ok(())
 }
+
+fn crosses_threads<T: Send>(_value: &T) {}
+
+fn lists_cross_threads<T: Send>(list: &List<T>) {
+    crosses_threads(list);
+}
+
+fn texts_cross_threads(text: &Text, source: &MemSource, sink: &MemSink) {
+    crosses_threads(text);
+    crosses_threads(source);
+    crosses_threads(sink);
+}
+
+fn steps_cross_threads<L: std::sync::ledger::Ledger>(steps: &Steps<L>) {
+    crosses_threads(steps);
+}
