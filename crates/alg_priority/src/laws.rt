@@ -1,5 +1,9 @@
-// Laws of the levels: each function does nothing, and its contract is a law over all numbers.
+//! Laws of the levels: each function does nothing, and its contract is a law over all numbers.
+ghost use Rattle.std.specs.Prelude.{◌≡◌};
+ghost use Rattle.alg_priority.specs.Sizes.{WIDEST as widest};
 ghost use Rattle.alg_priority.specs.Laws.{SumIsBelow, SumRises, ConcatIsBelow, ConcatCompares, ShiftIsBelow, ShiftIsAbove, ShiftRises, SumSizeGroups, ConcatSizeGroups, ShiftSizeGroups, SizesArePositive, SaturatesOnce};
+
+use crate::width::WIDEST;
 
 /// Sums of levels stay below the sum's size and rise strictly in each part.
 pub fn sum_keeps_order()
@@ -26,6 +30,11 @@ pub fn sizes_group()
     ensures concatenations { ConcatSizeGroups }
     ensures shifts { ShiftSizeGroups }
     ensures positive { SizesArePositive }
+{}
+
+/// The greatest size is the literal.
+pub fn widest_meets()
+    ensures { WIDEST ≡ widest }
 {}
 
 /// A size that is computed by saturating steps is the size itself, saturated once.

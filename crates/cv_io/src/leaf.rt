@@ -39,6 +39,16 @@ impl Duplicate for Leaf {
     }
 }
 
+impl Duplicate for Session {
+    fn copy(&self) -> Result<Session, Memory> {
+        Ok(*self)
+    }
+
+    fn copies(alloc: Global, items: &[Session]) -> Result<List<Session>, Memory> {
+        List::from_slice(alloc, items)
+    }
+}
+
 /// What is made of leaves.
 pub trait Named: Duplicate {
     // The leaves that it was made of.

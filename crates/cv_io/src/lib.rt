@@ -32,7 +32,7 @@ pub use standard::{Incoming, Outgoing};
 pub use steps::Steps;
 pub use tcp::{TcpDial, TcpLinks};
 pub use text::{NotAscii, Text};
-pub use works::{Spawner, Work};
+pub use works::{ScopeSpawner, Spawner, Work};
 
 #[cfg(test)]
 mod tests;

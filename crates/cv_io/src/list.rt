@@ -213,6 +213,13 @@ impl<T: Copy> List<T> {
         })
     }
 
+    /// A copy.
+    pub fn copied(&self) -> Result<List<T>, Memory>
+        ensures { IfOk result (λ list. list ≡ self.now) }
+    {
+        List::from_slice(*self.items.allocator(), self.items.as_slice())
+    }
+
     /// Appends a slice's items.
     pub fn extend_from_slice(&mut self, items: &[T]) -> Result<(), Memory>
         ensures extended { OnOk result (self.new ≡ self.old ++ items.now) }
@@ -280,5 +287,40 @@ impl Duplicate for u64 {
 
     fn copies(alloc: Global, items: &[u64]) -> Result<List<u64>, Memory> {
         List::from_slice(alloc, items)
+    }
+}
+
+impl Duplicate for usize {
+    fn copy(&self) -> Result<usize, Memory> {
+        Ok(*self)
+    }
+
+    fn copies(alloc: Global, items: &[usize]) -> Result<List<usize>, Memory> {
+        List::from_slice(alloc, items)
+    }
+}
+
+impl Duplicate for bool {
+    fn copy(&self) -> Result<bool, Memory> {
+        Ok(*self)
+    }
+
+    fn copies(alloc: Global, items: &[bool]) -> Result<List<bool>, Memory> {
+        List::from_slice(alloc, items)
+    }
+}
+
+impl<T: Duplicate> Duplicate for Option<T> {
+    fn copy(&self) -> Result<Option<T>, Memory> {
+        match self {
+            Some(value) => Ok(Some(value.copy()?)),
+            None => Ok(None),
+        }
+    }
+}
+
+impl<A: Duplicate + Drop, B: Duplicate> Duplicate for (A, B) {
+    fn copy(&self) -> Result<(A, B), Memory> {
+        Ok((self.0.copy()?, self.1.copy()?))
     }
 }

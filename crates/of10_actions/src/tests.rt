@@ -333,9 +333,8 @@ fn floods_go_by_rising_ports(rt: HostRuntime) -> Result<(), Fail> {
         },
     ];
     assert!(rt; has_effects(rt.alloc(), &FLOODS, &outs, Tail::Pass(tos))?);
-    for outside in [[1, 1], [4, 2]] {
-        assert_eq!(rt; effects_at(rt.alloc(), &FLOODS, &outside)?, None);
-    }
+    assert_eq!(rt; effects_at(rt.alloc(), &FLOODS, &[1, 1])?, None);
+    assert_eq!(rt; effects_at(rt.alloc(), &FLOODS, &[4, 2])?, None);
     Ok(())
 }
 
