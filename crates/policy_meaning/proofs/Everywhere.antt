@@ -24,7 +24,7 @@ use Rattle.policy_meaning.proofs.LeafLemmas.{leaf_fact, leaf_rules_are_sound}
 use Rattle.policy_meaning.proofs.Plain.{rules-plain}
 use Rattle.policy_meaning.proofs.Nodes.{hop_fact}
 
-each-left : (P Q : ℕ → Type 0) → ((i : ℕ) → P i → Q i) → (e : Policy) → EachLeft P e → EachLeft Q e
+pub each-left : (P Q : ℕ → Type 0) → ((i : ℕ) → P i → Q i) → (e : Policy) → EachLeft P e → EachLeft Q e
 each-left P Q f (member i) p = tt
 each-left P Q f (parallel a b) p = (each-member P Q f a p.0, each-left P Q f a p.1, each-left P Q f b p.2)
 each-left P Q f (sequential a b) p = (each-left P Q f a p.0, each-left P Q f b p.1)
@@ -35,11 +35,11 @@ table-says : (ports : List ℕ) (o : Option LeafTable) → HasSoundTable o → (
 table-says ports None s h at = absurd s
 table-says ports (Some t) s h at = leaf_fact ports t s h at
 
-table-sound : (ports : List ℕ) (o : Option LeafTable) → HasSoundTable o → AllByRecursion IsSound (table_rules ports o)
+pub table-sound : (ports : List ℕ) (o : Option LeafTable) → HasSoundTable o → AllByRecursion IsSound (table_rules ports o)
 table-sound ports None s = tt
 table-sound ports (Some t) s = leaf_rules_are_sound ports t s
 
-table-plain : (ports : List ℕ) (o : Option LeafTable) → HasPlainTable o → AllByRecursion IsPlainRule (table_rules ports o)
+pub table-plain : (ports : List ℕ) (o : Option LeafTable) → HasPlainTable o → AllByRecursion IsPlainRule (table_rules ports o)
 table-plain ports None p = tt
 table-plain ports (Some t) p = rules-plain ports t p
 
@@ -88,7 +88,7 @@ module _ (tables : List LeafTable) where
   any-sound None good = tt
   any-sound (Some s) good = switch-sound tables s (good s refl)
 
-sound-fabric : (net : Network) → IsSoundNetwork net → IsSoundFabric (fabric_of net) (ground_of net).means (ground_of net).spread (λ v p. switch_has (slice_get net.switches v) p)
+pub sound-fabric : (net : Network) → IsSoundNetwork net → IsSoundFabric (fabric_of net) (ground_of net).means (ground_of net).spread (λ v p. switch_has (slice_get net.switches v) p)
 sound-fabric net good = record {
   says = λ v h at. any-says net.tables (slice_get net.switches v) (good.switches v) h at;
   sound = λ v. any-sound net.tables (slice_get net.switches v) (good.switches v);

@@ -25,3 +25,5 @@ pub mod LevelsBelow
 pub mod NodeSteps
 pub mod Apart
 pub mod Disjointness
+pub mod Writes
+pub mod WrittenRules

@@ -14,6 +14,7 @@ pub mod EveryNode
 pub mod Order
 pub mod Fitting
 pub mod Disjoint
+pub mod Written
 pub mod WorkedTables
 pub mod WorkedRules
 pub mod WorkedHops

@@ -6,6 +6,7 @@ ghost use Rattle.policy_meaning.specs.Fitting.{NodesAreBelow, RulesAreBelow, Sou
 ghost use Rattle.policy_meaning.specs.HopFact.{HopFact};
 ghost use Rattle.policy_meaning.specs.LeafFact.{LeafFact, LeafRulesAreSound};
 ghost use Rattle.policy_meaning.specs.Order.{OrderKeepsBest};
+ghost use Rattle.policy_meaning.specs.Written.{NodesAreWritten, NodesHaveLeaves, RulesAreWritten, RulesHaveLeaves};
 
 /// Of the rules of a member's table that hold a header exactly one is best, and it means what the
 /// table means.
@@ -45,6 +46,15 @@ pub fn disjointness()
     ensures expressions { RulesAreDisjoint }
     ensures nodes { NodesAreDisjoint }
     ensures differ { DisjointRulesDiffer }
+{}
+
+/// A rule is written by at most so many actions for each of its leaves as the entries of members are, and has
+/// at most the leaves of its expression, and of one for each hop.
+pub fn composed_lists()
+    ensures rules { RulesAreWritten }
+    ensures nodes { NodesAreWritten }
+    ensures leaves { RulesHaveLeaves }
+    ensures node_leaves { NodesHaveLeaves }
 {}
 
 /// In whatever order rules are listed, the same one is best.

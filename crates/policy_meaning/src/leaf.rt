@@ -51,6 +51,19 @@ impl Duplicate for LeafEntry {
     }
 }
 
+impl Duplicate for LeafTable {
+    fn copy(&self) -> Result<LeafTable, Memory> {
+        Ok(LeafTable {
+            member: self.member,
+            size: self.size,
+            region: self.region.copied()?,
+            visible: self.visible.copy()?,
+            misses: self.misses,
+            entries: self.entries.copy()?,
+        })
+    }
+}
+
 /// Whether a port is one of these.
 pub(crate) fn has_port(ports: &List<u16>, port: u16) -> bool
     ensures { result ≡ has_port_of ports.now port }

@@ -100,6 +100,15 @@ impl Duplicate for VirtualSwitch {
     }
 }
 
+impl Duplicate for Network {
+    fn copy(&self) -> Result<Network, Memory> {
+        Ok(Network {
+            tables: self.tables.copy()?,
+            switches: self.switches.copy()?,
+        })
+    }
+}
+
 /// Where a link port leads.
 fn peer_of(links: &List<Link>, port: u16) -> Option<Place>
     ensures { result ≡ peer_of_links links.now port }

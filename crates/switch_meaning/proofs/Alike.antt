@@ -4,13 +4,14 @@ use Rattle.std.specs.Prelude.{◌==◌}
 use Rattle.std.specs.Cmp.Lexicographic.{pointwise, pointwise_decides}
 use Rattle.std.proofs.lemmas.Bool.Decides.{Decides-and, Decides-eqb, Decides-like}
 use Rattle.cv_io.specs.contracts.leaf.LeafPartialEq.TheImpl.{ghosts as derived_leaf}
+use Rattle.cv_io.specs.Leaves.{same_leaf}
 use Rattle.cv_io.specs.declared.leaf.Leaf.{Leaf}
 use Rattle.of10_match.specs.Same.{same_match}
 use Rattle.of10_match.proofs.Same.{match_decides}
 use Rattle.of10_actions.specs.contracts.action.ActionPartialEq.TheImpl.{ghosts as derived_action}
 use Rattle.of10_actions.specs.declared.action.Action.{Action}
 use Rattle.of10_actions.specs.declared.action.Action.TheVariants.{Output, SetVlanVid, SetVlanPcp, StripVlan, SetDlSrc, SetDlDst, SetNwSrc, SetNwDst, SetNwTos, SetTpSrc, SetTpDst, Enqueue}
-use Rattle.switch_meaning.specs.Same.{same_action, same_entry, same_leaf}
+use Rattle.switch_meaning.specs.Same.{same_action, same_entry}
 use Rattle.switch_meaning.specs.declared.entry.PhysEntry.{PhysEntry}
 use Rattle.switch_meaning.proofs.Items.{split_and}
 

@@ -6,7 +6,8 @@ use Rattle.std.specs.Ordering.{is_lt}
 use Rattle.of10_match.specs.Fields.{HeaderOf, MatchOf}
 use Rattle.of10_match.specs.Matching.{holds, is_one_header}
 use Rattle.switch_meaning.specs.BestLaw.{BestIsUsed, IsBest, IsBestEntry, IsGated, first, later}
-use Rattle.switch_meaning.specs.Keys.{ancestry_cmp, displaces, flow_of, one_per_key, same_key}
+use Rattle.cv_io.specs.Leaves.{ancestry_cmp}
+use Rattle.switch_meaning.specs.Keys.{displaces, flow_of, one_per_key, same_key}
 use Rattle.switch_meaning.specs.MayUse.{IsTop, IsUsable, MayUse, priority_of, rank_of}
 use Rattle.of10_match.specs.Same.{same_match}
 use Rattle.switch_meaning.specs.declared.entry.FlowEntry.{FlowEntry}
