@@ -21,3 +21,4 @@ pub mod Guarded
 pub mod Carried
 pub mod ShowingSpread
 pub mod FittingRules
+pub mod Lengths

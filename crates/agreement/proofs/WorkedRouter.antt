@@ -5,6 +5,7 @@ use Rattle.std.specs.List.{AllByRecursion}
 use Rattle.of10_match.specs.Normal.{IsNormal}
 use Rattle.of10_actions.specs.Rewriting.{Extends, no_rewrite}
 use Rattle.of10_actions.specs.Numbers.{MAX}
+use Rattle.policy_expr.specs.Policy.{member}
 use Rattle.policy_meaning.specs.EveryNode.{IsSoundSwitch}
 use Rattle.policy_meaning.specs.Hops.{peer_of}
 use Rattle.policy_meaning.specs.Leaf.{has_port}

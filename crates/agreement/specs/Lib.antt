@@ -4,5 +4,6 @@ pub mod Entries
 pub mod Seeing
 pub mod Agree
 pub mod Premises
+pub mod Lengths
 pub mod Law
 pub mod Worked
