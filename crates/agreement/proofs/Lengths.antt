@@ -27,7 +27,7 @@ use Rattle.policy_meaning.proofs.WrittenRules.{nodes-are-written, nodes-have-lea
 use Rattle.policy_meaning.proofs.Writes.{sets-set, writes-ended, writes-lower}
 use Rattle.switch_meaning.specs.Fixed.{drop_entry, drops, fixed_entries, guard, guards, is_guarded, transit, transit_actions, transits, transits_to}
 use Rattle.switch_meaning.specs.Keys.{installed}
-use Rattle.switch_meaning.specs.Placing.{actions_from, actions_of, entry_of, going, outs_written, retag, set_unless, sets, tells, way_of}
+use Rattle.switch_meaning.specs.Placing.{actions_from, actions_of, entry_of, going, ingress_of, is_silent, outs_written, retag, set_unless, sets, tells, way_of}
 use Rattle.switch_meaning.specs.Same.{same_action}
 use Rattle.switch_meaning.specs.Wirings.{next_hop}
 use Rattle.switch_meaning.specs.declared.entry.FlatRule.{FlatRule}
@@ -164,8 +164,8 @@ module _ (n m : ℕ) where
   unfolding size
   entry-short w site r d short e =
       let u = written w site (flat r) d e in
-      let a = size-of w site.switch _ (outs_written site (flat r)) in
-      let b : writes_from no_rewrite (outs_written site (flat r)) Nothing ≤ writes_from no_rewrite r.outs Nothing = written-by site.whole _ r.outs in
+      let a = size-of w site.switch (ingress_of w site (flat r)) (outs_written site (flat r)) in
+      let b : writes_from no_rewrite (outs_written site (flat r)) Nothing ≤ writes_from no_rewrite r.outs Nothing = written-by site.whole (λ (o : Out). not (is_silent site.v r.m.in_port o.dest)) r.outs in
       let c : writes_from no_rewrite r.outs Nothing ≤ writes r.outs r.tail = writes-ended no_rewrite r.outs r.tail in
       let f : writes r.outs r.tail ≤ n * length r.ancestry = short.written in
       let g : n * length r.ancestry ≤ n * m = mul-le-mul_left n short.leaves in

@@ -22,3 +22,4 @@ pub mod Carried
 pub mod ShowingSpread
 pub mod FittingRules
 pub mod Lengths
+pub mod Twins

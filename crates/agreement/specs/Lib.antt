@@ -5,5 +5,6 @@ pub mod Seeing
 pub mod Agree
 pub mod Premises
 pub mod Lengths
+pub mod OneEntry
 pub mod Law
 pub mod Worked

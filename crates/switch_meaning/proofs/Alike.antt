@@ -47,7 +47,7 @@ action-self (Enqueue p n) = (Decides-and (p == p) (n == n) (Decides-eqb p p) (De
 action_decides : (a b : Action) → Decides (same_action a b) (a ≡ b)
 action_decides a b = (action-is a b, λ e. ap (same_action a) (sym e) ∙ action-self a)
 
-leaf_decides : (a b : Leaf) → Decides (same_leaf a b) (a ≡ b)
+pub leaf_decides : (a b : Leaf) → Decides (same_leaf a b) (a ≡ b)
 leaf_decides a b =
     Decides-like (same_leaf a b) (λ t. λ i. record { member = t.0 i; kind = t.1 i }) (λ e. (ap (λ (z : Leaf). z.member) e, ap (λ (z : Leaf). z.kind) e))
     (Decides-and (a.member == b.member) (a.kind == b.kind) (Decides-eqb a.member b.member) (Decides-eqb a.kind b.kind))
