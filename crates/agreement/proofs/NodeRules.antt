@@ -17,20 +17,11 @@ use Rattle.policy_meaning.proofs.Booleans.{some_injective, split_and}
 use Rattle.policy_meaning.proofs.Cells.{narrowed}
 use Rattle.policy_meaning.proofs.Lists.{all-append, all-each, all-filter_map, all-flat_map, all-mapped}
 use Rattle.policy_meaning.proofs.Meeting.{some_met, some_pulled}
+use Rattle.agreement.specs.Followed.{AreNumbered, IsNumbered}
 
 -- the rule names the port
 abbrev pub Names : ℕ → Rule → Type 0
 Names port r = r.m.in_port ≡ Some port
-
--- the out goes to the ingress under its number, if it goes there
-abbrev pub IsNumbered : Dest → Type 0
-IsNumbered (Port v p) = Unit {0}
-IsNumbered (Flood v p) = Unit {0}
-IsNumbered Ingress = ⊥
-IsNumbered (Tell member reason) = Unit {0}
-
-abbrev pub AreNumbered : List Out → Type 0
-AreNumbered outs = AllByRecursion (λ (o : Out). IsNumbered o.dest) outs
 
 -- anything
 abbrev Any : {A : Type 0} → A → Type 0

@@ -36,7 +36,7 @@ use Rattle.agreement.specs.Seeing.{but_in_port, comes_by, left_at}
 use Rattle.agreement.proofs.Cables.{peer-end}
 use Rattle.agreement.proofs.Carried.{Arrives, carried, final, visits-peer}
 use Rattle.agreement.proofs.Guarded.{has-tag}
-use Rattle.agreement.proofs.NodeRules.{AreNumbered, IsNumbered}
+use Rattle.agreement.specs.Followed.{AreNumbered, IsNumbered}
 use Rattle.agreement.proofs.Showing.{Shows, port-shows}
 
 -- a port, written as IN_PORT where the packet came by it

@@ -6,5 +6,8 @@ pub mod Agree
 pub mod Premises
 pub mod Lengths
 pub mod OneEntry
+pub mod FreeOrder
+pub mod Ways
+pub mod Followed
 pub mod Law
 pub mod Worked

@@ -1,7 +1,10 @@
 //! The laws of entries and agreement: each function's contract is the law.
+ghost use Rattle.agreement.specs.FreeOrder.{BatchIsTheSame, InstalledIsPermuted};
+ghost use Rattle.agreement.specs.Followed.{OnePlacedEntry};
 ghost use Rattle.agreement.specs.Law.{Agreement};
 ghost use Rattle.agreement.specs.Lengths.{AddsFit, ListsAreShort};
 ghost use Rattle.agreement.specs.OneEntry.{NoTwins, OneEntryAKey};
+ghost use Rattle.agreement.specs.Ways.{ShortestHopsAreWays};
 
 /// Switches that have the entries of a setting do with each packet what its policy says: also where
 /// virtual switches are linked, spread over several switches, or all of one.
@@ -21,4 +24,22 @@ pub fn composed_lists_fit()
 pub fn one_entry_a_key()
     ensures twins { NoTwins }
     ensures installed { OneEntryAKey }
+{}
+
+/// In whatever order entries are listed, the same ones are installed; and tables in other orders, with one entry a
+/// key, give the same batch, message for message.
+pub fn order_is_free()
+    ensures installed { InstalledIsPermuted }
+    ensures batch { BatchIsTheSame }
+{}
+
+/// Next hops that lie on shortest paths are ways between switches, as agreement asks for them: over no more cables
+/// and switches than there are, and never back by the cable by which a packet came.
+pub fn ways()
+    ensures { ShortestHopsAreWays }
+{}
+
+/// A packet for which the entry of one rule is used is sent, and carried over cables, to where the rule's outs say.
+pub fn one_placed_entry()
+    ensures { OnePlacedEntry }
 {}

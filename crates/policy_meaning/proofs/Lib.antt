@@ -27,3 +27,5 @@ pub mod Apart
 pub mod Disjointness
 pub mod Writes
 pub mod WrittenRules
+pub mod Rising
+pub mod Listings

@@ -102,7 +102,7 @@ order_keeps_best h xs ys r p b =
 leaf_cmp_total : IsTotalOrder leaf_cmp
 leaf_cmp_total = then_total (on_total (λ (a : Leaf). a.member) nat_cmp_total) (on_total (λ (a : Leaf). a.kind) nat_cmp_total)
 
-by_ancestry_total : IsTotalOrder by_ancestry
+pub by_ancestry_total : IsTotalOrder by_ancestry
 by_ancestry_total =
     then_total (on_total (λ (a : Rule). a.ancestry) (lists_total leaf_cmp_total))
     (then_total (on_total (λ (a : Rule). a.m.in_port) (options_total nat_cmp_total)) (on_total (λ (a : Rule). a.m) by_bytes_total))

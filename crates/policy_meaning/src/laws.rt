@@ -5,7 +5,7 @@ ghost use Rattle.policy_meaning.specs.EveryNode.{EveryExpression, EveryNode, Exp
 ghost use Rattle.policy_meaning.specs.Fitting.{NodesAreBelow, RulesAreBelow, SoundTablesFit};
 ghost use Rattle.policy_meaning.specs.HopFact.{HopFact};
 ghost use Rattle.policy_meaning.specs.LeafFact.{LeafFact, LeafRulesAreSound};
-ghost use Rattle.policy_meaning.specs.Order.{OrderKeepsBest};
+ghost use Rattle.policy_meaning.specs.Order.{ListingIsUnique, OrderKeepsBest};
 ghost use Rattle.policy_meaning.specs.Written.{NodesAreWritten, NodesHaveLeaves, RulesAreWritten, RulesHaveLeaves};
 
 /// Of the rules of a member's table that hold a header exactly one is best, and it means what the
@@ -57,9 +57,11 @@ pub fn composed_lists()
     ensures node_leaves { NodesHaveLeaves }
 {}
 
-/// In whatever order rules are listed, the same one is best.
+/// In whatever order rules are listed, the same one is best; and of disjoint rules there is one listing in their
+/// order.
 pub fn stated_order()
-    ensures { OrderKeepsBest }
+    ensures best { OrderKeepsBest }
+    ensures listing { ListingIsUnique }
 {}
 
 /// Over tables that fit, and sound tables do, the levels of rules are below their expression's or

@@ -20,7 +20,7 @@ use Rattle.switch_meaning.proofs.Gate.{not_true}
 use Rattle.switch_meaning.proofs.Items.{fails, join_and}
 use Rattle.switch_meaning.proofs.Members.{IsIn, distinct-filter, distinct-narrower, filter-in, passes-any}
 
-key_total : IsTotalOrder key_cmp
+pub key_total : IsTotalOrder key_cmp
 key_total = then_total (on_total (λ (e : PhysEntry). e.priority) nat_cmp_total) (on_total (λ (e : PhysEntry). e.m) by_bytes_total)
 
 -- the entry does not come after the first of the list
