@@ -2,7 +2,6 @@
 use Rattle.std.specs.Prelude.{◌≡◌, Some, None}
 use Rattle.of10_match.specs.Fields.{MatchOf}
 use Rattle.of10_match.specs.Matching.{everything}
-use Rattle.of10_match.specs.declared.header.Prefix.{Prefix}
 use Rattle.of10_actions.specs.Fields.{RewriteOf}
 use Rattle.of10_actions.specs.Rewriting.{no_rewrite}
 use Rattle.pull_back.specs.Pulling.{pull, image, whole}
