@@ -24,14 +24,22 @@ pub record Held : Type 0 where
   pub table : TableOf
   pub room : ℕ
 
+-- the entry has the rank
+abbrev pub has_rank : ℕ → Entry → Bool
+has_rank rank e = rank == e.rank
+
 -- the command of a number
 abbrev pub command_of : ℕ → Command
 command_of number =
     if number == 0 then Add else if number == 1 then Modify else if number == 2 then ModifyStrict else if number == 3 then Delete else DeleteStrict
 
--- the rank of a message: above every priority where its match is written without a wildcard
+-- the rank of a match as it is written: above every priority where it is written without a wildcard
+abbrev pub rank_by : List ℕ → ℕ → ℕ
+rank_by written priority = if is_exact (fields_in written) then 65536 else priority
+
+-- the rank of a message
 abbrev pub rank_of : FlowMod → ℕ
-rank_of m = if is_exact (fields_in m.m) then 65536 else m.priority
+rank_of m = rank_by m.m m.priority
 
 -- the rank and the match of a message
 abbrev pub identity_in : FlowMod → Identity

@@ -9,7 +9,7 @@ use Rattle.member_table.specs.declared.change.Change.{Change}
 use Rattle.member_table.specs.declared.command.Command.{Command}
 use Rattle.member_table.specs.declared.command.Command.TheVariants.{Add, Modify, ModifyStrict, Delete, DeleteStrict}
 use Rattle.member_table.specs.declared.fault.TableFault.{TableFault}
-use Rattle.member_table.proofs.Plans.{change_makes}
+use Rattle.member_table.proofs.Plans.{change_makes, removal_ready}
 use Rattle.member_table.proofs.table.Table.plan.Goals as goal
 
 makes : (command : Command) (t : TableOf) (m : FlowMod) (now : ℕ) → IsSound t → command_of m.command ≡ command → (planned : Result Change TableFault)
@@ -31,3 +31,9 @@ returns-in-Delete-clause-planned c = makes Delete c.args.self.now.table c.args.m
 
 pub returns-in-DeleteStrict-clause-planned : goal.returns-in-DeleteStrict-clause-planned
 returns-in-DeleteStrict-clause-planned c = makes DeleteStrict c.args.self.now.table c.args.m.now c.args.now (subst (λ (h : Held). IsSound h.table) c.self.view_is c.self.invariant.sound) (sym c.in-DeleteStrict.ensures) c.plan_removal-in-DeleteStrict.result c.plan_removal-in-DeleteStrict.ensures.change
+
+pub returns-in-Delete-clause-ready : goal.returns-in-Delete-clause-ready
+returns-in-Delete-clause-ready c = removal_ready _ _ c.plan_removal.result c.plan_removal.ensures.change
+
+pub returns-in-DeleteStrict-clause-ready : goal.returns-in-DeleteStrict-clause-ready
+returns-in-DeleteStrict-clause-ready c = removal_ready _ _ c.plan_removal-in-DeleteStrict.result c.plan_removal-in-DeleteStrict.ensures.change
