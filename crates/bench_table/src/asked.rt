@@ -44,7 +44,7 @@ fn number(word: &str, limit: u16) -> Option<u16>
     }
 }
 
-fn phases(word: &str) -> Option<Phases> {
+fn phases_of(word: &str) -> Option<Phases> {
     match word {
         "add" => Some(Phases::Adds),
         "modify" => Some(Phases::AddsAndModifies),
@@ -66,7 +66,7 @@ pub fn read(words: &mut Args) -> Option<Asked> {
     }
     Some(Asked {
         entries: number(&entries, 4096)?,
-        phases: phases(&done)?,
+        phases: phases_of(&done)?,
         priorities: number(&priorities, 4096)?,
     })
 }

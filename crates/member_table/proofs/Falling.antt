@@ -4,7 +4,7 @@ use Rattle.std.specs.List.{list_any, AllByRecursion, AllWithin}
 use Rattle.std.specs.List.Sorted.{IsPartitionedBy}
 use Rattle.std.proofs.lemmas.List.{take-append-drop}
 use Rattle.std.proofs.lemmas.List.Folds.{list_any-append, drop_split}
-use Rattle.member_table.specs.Ranking.{RanksFall, IsTop}
+use Rattle.member_table.specs.InsideRanking.{RanksFall, IsTop}
 use Rattle.member_table.specs.declared.ranked.Ranked.{Ranked}
 
 pub each_at : {X : Type 0} (P : X → Type 0) (xs : List X) → AllByRecursion P xs → (j : ℕ) (d : X) → j < length xs → P (get_or xs j d)

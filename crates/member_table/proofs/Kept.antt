@@ -1,11 +1,12 @@
 -- A table is kept whole when its parts change together.
-use Rattle.std.proofs.Common.{◌≡◌, ℕ, ◌<◌, ◌≤◌, ◌+◌, ◌-◌, ◌^◌, ◌&&◌, Bool, true, false, not, List, [], ◌∷◌, map, filter, find, refl, sym, ap, ap₂, subst, ◌∙◌, arith, Some, None, count_by, option_map, is_some, ◌==◌, cond, if◌then◌else◌, zero-add}
+use Rattle.std.proofs.Common.{◌≡◌, ℕ, ◌<◌, ◌≤◌, ◌+◌, ◌-◌, ◌^◌, ◌&&◌, Bool, true, false, not, List, [], ◌∷◌, map, filter, find, refl, sym, ap, ap₂, subst, ◌∙◌, arith, Some, None, count_by, option_map, is_some, ◌==◌, cond, zero-add}
 use Rattle.std.specs.List.{list_any}
 use Rattle.std.proofs.lemmas.Bool.Decides.{Decides-eqb}
 use Rattle.member_table.specs.Entries.{identity_of, has_serial, is_at, put}
-use Rattle.member_table.specs.Orders.{OrderOf}
-use Rattle.member_table.specs.Ranking.{RanksOf, ranked_of, same_ranked, Exchanges, AddsTo}
-use Rattle.member_table.specs.Sound.{IsAsWritten, IsKept, IsSound}
+use Rattle.member_table.specs.InsideOrders.{OrderOf}
+use Rattle.member_table.specs.InsideRanking.{RanksOf, ranked_of, same_ranked, Exchanges, AddsTo}
+use Rattle.member_table.specs.Sound.{IsAsWritten, IsSound}
+use Rattle.member_table.specs.InsideKept.{IsKept}
 use Rattle.member_table.specs.Tables.{TableOf}
 use Rattle.member_table.specs.declared.entry.Entry.{Entry}
 use Rattle.member_table.specs.declared.ranked.Ranked.{Ranked}

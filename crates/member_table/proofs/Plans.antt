@@ -10,7 +10,7 @@ use Rattle.of10_actions.specs.declared.action.Action.{Action}
 use Rattle.member_table.specs.Changes.{CanAdd, CanCommit, IsInRange, committed, is_among, is_number, stays, changed_by, replaced}
 use Rattle.member_table.specs.Entries.{identity_of, is_at, is_near, put}
 use Rattle.member_table.specs.Planning.{adding, addition, changing, change_by_command, change_of, modification, removal, removing}
-use Rattle.member_table.specs.Ranking.{IsLeastOf, is_in_way, ranked_of}
+use Rattle.member_table.specs.InsideRanking.{IsLeastOf, is_in_way, ranked_of}
 use Rattle.member_table.specs.Refusals.{least, lesser_of, is_overlapped, overlapped, refusal_by, refusal_of}
 use Rattle.member_table.specs.Sound.{IsSound}
 use Rattle.member_table.specs.Tables.{Held, TableOf, after, after_command, command_of, deleted, entry_of, identity_in, is_meant, modified, with_actions, with_entry, outputs_to}

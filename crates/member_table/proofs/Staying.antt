@@ -1,19 +1,19 @@
 -- Which entries stay, by their numbers.
-use Rattle.std.proofs.Common.{◌≡◌, ℕ, Bool, true, false, cond, ◌||◌, not, ◌==◌, List, [], ◌∷◌, ◌++◌, map, filter, find, refl, sym, ap, ap₂, subst, ◌∙◌, Option, Some, None, is_some}
+use Rattle.std.proofs.Common.{◌≡◌, ℕ, Bool, true, false, cond, ◌||◌, not, ◌==◌, List, [], ◌∷◌, ◌++◌, map, filter, refl, sym, ap, ap₂, subst, ◌∙◌, Option, Some, None, is_some}
 use Rattle.std.specs.List.{list_any, AllByRecursion, IsDistinct}
 use Rattle.std.specs.Option.{option_eq}
 use Rattle.std.proofs.lemmas.Bool.Decides.{Decides-eqb}
 use Rattle.member_table.specs.Changes.{is_among, stays}
 use Rattle.member_table.specs.Entries.{has_serial}
-use Rattle.member_table.specs.Orders.{IsIndexed, IsInStep, listed}
+use Rattle.member_table.specs.InsideOrders.{IsIndexed, IsInStep, listed}
 use Rattle.member_table.specs.Timeouts.{serials_of}
 use Rattle.member_table.specs.declared.entry.Entry.{Entry}
 use Rattle.member_table.specs.declared.entry.Identity.{Identity}
 use Rattle.member_table.proofs.Changing.{all_stay, stays_dropped, stays_kept}
 use Rattle.member_table.proofs.Falling.{each_weaker}
-use Rattle.member_table.proofs.Indexed.{in_step, indexed_remove, listed_is}
+use Rattle.member_table.proofs.Indexed.{in_step, listed_is}
 use Rattle.member_table.proofs.Keyed.{flipped}
-use Rattle.member_table.proofs.Lists.{any_find, filter-none, list_any-map}
+use Rattle.member_table.proofs.Lists.{any_find, filter-none}
 use Rattle.member_table.proofs.Means.{among_passing}
 
 -- an entry stands among those that pass where it passes

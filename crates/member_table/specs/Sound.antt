@@ -1,15 +1,12 @@
 -- What is true of every table.
-use Rattle.std.specs.Prelude.{◌≡◌, ℕ, ◌+◌, ◌<◌, ◌≤◌, ◌^◌, ◌==◌, Bool, false, List, [], ◌∷◌, map, count_by}
+use Rattle.std.specs.Prelude.{◌≡◌, ◌+◌, ◌<◌, ◌^◌, ◌==◌, false, List, [], ◌∷◌, map}
 use Rattle.std.specs.List.{AllByRecursion, IsDistinct}
 use Rattle.of10_match.specs.Normal.{IsNormal}
 use Rattle.of10_match.specs.Wildcards.{normal_of}
 use Rattle.of10_actions.specs.Actions.{AreInRange}
 use Rattle.member_table.specs.Entries.{identity_of, is_near}
-use Rattle.member_table.specs.Orders.{OrderOf}
-use Rattle.member_table.specs.Ranking.{RanksOf, ranked_of}
 use Rattle.member_table.specs.Tables.{TableOf, rank_by}
 use Rattle.member_table.specs.declared.entry.Entry.{Entry}
-use Rattle.member_table.specs.declared.ranked.Ranked.{Ranked}
 
 -- two entries don't have equal ranks and matches that overlap
 abbrev pub AreApart : Entry → Entry → Type 0
@@ -37,10 +34,3 @@ pub record IsSound (t : TableOf) : Type 0 where
   pub written : AllByRecursion IsAsWritten t.entries
   pub once : IsDistinct ◌==◌ (map (λ e. e.serial) t.entries)
   pub apart : EachPair AreApart t.entries
-
--- a table whose ranking has its entries' matches, each as often, and whose parts have the room that it names
-pub record IsKept (table : TableOf) (room : ℕ) (order : OrderOf) (ranks : RanksOf) : Type 0 where
-  pub sound : IsSound table
-  pub ranked : (p : Ranked → Bool) → count_by p ranks.items ≡ count_by p (map ranked_of order.entries)
-  pub order_room : room ≤ order.room
-  pub ranks_room : room ≤ ranks.room

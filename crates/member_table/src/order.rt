@@ -4,9 +4,9 @@ ghost use Rattle.std.specs.List.{list_any, slice_get};
 ghost use Rattle.std.specs.Option.{option_and_then, option_copied, option_map_or};
 ghost use Rattle.indexmap.specs.IndexMap.{get, spare};
 ghost use Rattle.member_table.specs.Changes.{is_number, stays};
-ghost use Rattle.member_table.specs.Orders.{IsIndexed, numbered, unnumbered};
+ghost use Rattle.member_table.specs.InsideOrders.{IsIndexed, numbered, unnumbered};
 ghost use Rattle.member_table.specs.Timeouts.{serials_of};
-ghost use Rattle.member_table.specs.Wanting.{is_wanted as is_wanted_of};
+ghost use Rattle.member_table.specs.InsideWanting.{is_wanted as is_wanted_of};
 ghost use Rattle.member_table.specs.Entries.{has_serial, identity_of, is_at, put as put_of, same_identity};
 ghost use Rattle.member_table.specs.declared.entry.Entry.{Entry as EntryOf};
 
@@ -33,7 +33,7 @@ impl Model for Order {
     ghost use Rattle.std.specs.Prelude.{◌-◌, min, nat_eq, vec_capacity, vec_len};
     ghost use Rattle.indexmap.specs.IndexMap.{get, spare};
     ghost use Rattle.member_table.specs.Entries.{same_identity};
-    ghost use Rattle.member_table.specs.Orders.{OrderOf, IsInStep, listed};
+    ghost use Rattle.member_table.specs.InsideOrders.{OrderOf, IsInStep, listed};
 
     ghost Value = { OrderOf };
 

@@ -3,7 +3,7 @@ ghost use Rattle.std.specs.Prelude.{◌≡◌, ◌==◌, ◌<◌, ◌≤◌, ◌
 ghost use Rattle.std.specs.List.{list_any};
 ghost use Rattle.std.specs.Option.{ForSome};
 ghost use Rattle.member_table.specs.Entries.{has_serial};
-ghost use Rattle.member_table.specs.Ranking.{AddsTo, Exchanges, ranked_of, IsLeastOf, IsTop, holds_it, is_in_way, same_ranked};
+ghost use Rattle.member_table.specs.InsideRanking.{AddsTo, Exchanges, ranked_of, IsLeastOf, IsTop, holds_it, is_in_way, same_ranked};
 
 use crate::entry::{Entry, Identity};
 use crate::order::Order;
@@ -24,7 +24,7 @@ pub struct Ranks {
 
 impl Model for Ranks {
     ghost use Rattle.std.specs.Prelude.{◌-◌, vec_len, vec_capacity};
-    ghost use Rattle.member_table.specs.Ranking.{RanksOf, RanksFall};
+    ghost use Rattle.member_table.specs.InsideRanking.{RanksOf, RanksFall};
 
     ghost Value = { RanksOf };
 

@@ -26,7 +26,7 @@ pub struct Table {
 
 impl Model for Table {
     ghost use Rattle.member_table.specs.Tables.{Held};
-    ghost use Rattle.member_table.specs.Sound.{IsKept};
+    ghost use Rattle.member_table.specs.InsideKept.{IsKept};
 
     ghost Value = { Held };
 

@@ -1,4 +1,4 @@
-use Rattle.std.proofs.Common.{◌≡◌, ◌∙◌, ℕ, ◌≤◌, ◌<◌, ◌++◌, ◌∷◌, [], List, Bool, true, false, not, refl, sym, ap, length, length-append, arith, true≢false, nat_eq}
+use Rattle.std.proofs.Common.{◌≡◌, ◌∙◌, ℕ, ◌<◌, ◌++◌, ◌∷◌, [], List, Bool, true, false, not, refl, sym, ap, length, length-append, arith, true≢false, nat_eq}
 use Rattle.indexmap.specs.IndexMap.{get}
 use Rattle.member_table.specs.Entries.{same_identity}
 use Rattle.member_table.proofs.Staying.{one_goes, one_stays, way_begins, way_ends}

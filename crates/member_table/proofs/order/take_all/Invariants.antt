@@ -1,7 +1,7 @@
 use Rattle.std.proofs.Common.{List, length, nat_eq, ◌≤◌}
 use Rattle.indexmap.specs.IndexMap.{get, spare}
 use Rattle.member_table.specs.Entries.{same_identity}
-use Rattle.member_table.specs.Orders.{IsIndexed}
+use Rattle.member_table.specs.InsideOrders.{IsIndexed}
 use Rattle.member_table.specs.declared.entry.Entry.{Entry}
 use Rattle.member_table.proofs.Staying.{IsOnTheWay}
 use Rattle.member_table.proofs.order.take_all.Given as goal

@@ -1,8 +1,8 @@
 use Rattle.std.proofs.Common.{◌≡◌, ◌∙◌, ap, sym, subst, cond, None, List, ℕ, nat_eq}
 use Rattle.std.specs.Map.{lookup}
 use Rattle.indexmap.specs.IndexMap.{get}
-use Rattle.member_table.specs.Entries.{has_serial, same_identity}
-use Rattle.member_table.specs.Orders.{IsIndexed}
+use Rattle.member_table.specs.Entries.{same_identity}
+use Rattle.member_table.specs.InsideOrders.{IsIndexed}
 use Rattle.member_table.specs.declared.entry.Entry.{Entry}
 use Rattle.member_table.proofs.Indexed.{indexed_remove}
 use Rattle.member_table.proofs.Staying.{none_goes}

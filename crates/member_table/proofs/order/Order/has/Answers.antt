@@ -1,7 +1,7 @@
 use Rattle.std.proofs.Common.{◌∙◌, ap, sym, is_some}
 use Rattle.std.specs.List.{list_any}
 use Rattle.member_table.specs.Entries.{has_serial}
-use Rattle.member_table.specs.Orders.{listed}
+use Rattle.member_table.specs.InsideOrders.{listed}
 use Rattle.indexmap.specs.IndexMap.{get}
 use Rattle.std.specs.Prelude.{nat_eq}
 use Rattle.member_table.proofs.Lists.{any_find}

@@ -2,7 +2,7 @@ use Rattle.std.proofs.Common.{◌≡◌, ◌∙◌, ap, filter, nat_eq}
 use Rattle.indexmap.specs.IndexMap.{get}
 use Rattle.member_table.specs.Changes.{stays}
 use Rattle.member_table.specs.Entries.{same_identity}
-use Rattle.member_table.specs.Orders.{IsInStep, listed}
+use Rattle.member_table.specs.InsideOrders.{IsInStep, listed}
 use Rattle.member_table.proofs.Staying.{in_step_filter}
 use Rattle.member_table.proofs.order.Order.remove_all.Goals as goal
 

@@ -1,4 +1,4 @@
-use Rattle.std.proofs.Common.{◌≡◌, ◌∙◌, ap, subst, ℕ, List, ◌≤◌, ◌<◌, ◌+◌, ◌==◌, length, take, drop}
+use Rattle.std.proofs.Common.{◌∙◌, ap, subst, ℕ, List, ◌≤◌, ◌<◌, ◌+◌, ◌==◌, length, take, drop}
 use Rattle.std.specs.List.{AllByRecursion, list_any}
 use Rattle.member_table.specs.declared.ranked.Ranked.{Ranked}
 use Rattle.member_table.proofs.Falling.{rank_between}

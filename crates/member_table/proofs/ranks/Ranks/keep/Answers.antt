@@ -1,7 +1,7 @@
 use Rattle.std.proofs.Common.{sym, subst}
 use Rattle.std.specs.List.{list_any}
 use Rattle.member_table.specs.Entries.{has_serial}
-use Rattle.member_table.specs.Ranking.{RanksFall}
+use Rattle.member_table.specs.InsideRanking.{RanksFall}
 use Rattle.member_table.proofs.Falling.{fall_filter}
 use Rattle.member_table.proofs.ranks.Ranks.keep.Goals as goal
 

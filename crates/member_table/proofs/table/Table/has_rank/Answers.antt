@@ -1,6 +1,6 @@
 use Rattle.std.proofs.Common.{◌∙◌, ◌==◌, ap, map}
 use Rattle.std.specs.List.{list_any}
-use Rattle.member_table.specs.Ranking.{ranked_of}
+use Rattle.member_table.specs.InsideRanking.{ranked_of}
 use Rattle.member_table.specs.Tables.{has_rank}
 use Rattle.member_table.specs.declared.ranked.Ranked.{Ranked}
 use Rattle.member_table.proofs.Counts.{same_any}

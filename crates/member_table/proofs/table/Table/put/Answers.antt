@@ -1,7 +1,7 @@
 use Rattle.std.proofs.Common.{◌≡◌, ◌<◌, ◌+◌, ◌^◌, ◌∙◌, sym, ap, false, subst, option_map, Option}
 use Rattle.std.specs.List.{list_any}
 use Rattle.member_table.specs.Entries.{is_at, identity_of}
-use Rattle.member_table.specs.Ranking.{Exchanges, ranked_of}
+use Rattle.member_table.specs.InsideRanking.{Exchanges, ranked_of}
 use Rattle.member_table.specs.Tables.{Held}
 use Rattle.member_table.specs.declared.entry.Entry.{Entry}
 use Rattle.member_table.specs.declared.ranked.Ranked.{Ranked}
