@@ -1,22 +1,13 @@
 //! The messages that are sent.
-ghost use Rattle.std.specs.Prelude.{◌≡◌, ◌<◌, IfOk};
+ghost use Rattle.std.specs.Prelude.{◌<◌, IfOk};
 ghost use Rattle.of10_actions.specs.Actions.{AreInRange};
 ghost use Rattle.of10_match.specs.Ranges.{IsPrefix};
 
 use cv_io::{List, Memory};
 use of10_actions::{Action, port};
 use of10_match::{Match, Prefix};
-use of10_msgs::FlowMod;
+use of10_msgs::{Command, FlowMod};
 use std::alloc::Global;
-
-/// The commands (`ofp_flow_mod_command`, section 5.3.3).
-pub const ADD: u16 = 0;
-
-pub const MODIFY_STRICT: u16 = 2;
-
-pub const DELETE: u16 = 3;
-
-pub const DELETE_STRICT: u16 = 4;
 
 /// The net 10.x.y.0/24 of this number.
 fn net(number: u16) -> Prefix
@@ -39,18 +30,22 @@ fn to_net(number: u16) -> Match {
 
 /// A command for packets of a match at a priority, which sends them to the port of the command's number
 /// and one.
-fn message(alloc: Global, command: u16, priority: u16, packets: Match) -> Result<FlowMod, Memory>
-    ensures command { IfOk result (λ m. m.command ≡ command) }
-    ensures in_range { IfOk result (λ m. AreInRange m.actions) }
+fn message(
+    alloc: Global,
+    command: Command,
+    priority: u16,
+    packets: Match,
+) -> Result<FlowMod, Memory>
+    ensures { IfOk result (λ m. AreInRange m.actions) }
 {
     let to = Action::Output {
-        port: command.wrapping_add(1),
+        port: command.number().wrapping_add(1),
         max_len: 0,
     };
     Ok(FlowMod {
         m: packets.write(),
         cookie: u64::from(priority),
-        command,
+        command: command.number(),
         idle_timeout: 0,
         hard_timeout: 0,
         priority,
@@ -62,19 +57,22 @@ fn message(alloc: Global, command: u16, priority: u16, packets: Match) -> Result
 }
 
 /// A command for the entry of this number, whose priority is one of so many.
-pub fn to_one(alloc: Global, command: u16, number: u16, priorities: u16) -> Result<FlowMod, Memory>
+pub fn to_one(
+    alloc: Global,
+    command: Command,
+    number: u16,
+    priorities: u16,
+) -> Result<FlowMod, Memory>
     requires { 0 < priorities }
-    ensures command { IfOk result (λ m. m.command ≡ command) }
-    ensures in_range { IfOk result (λ m. AreInRange m.actions) }
+    ensures { IfOk result (λ m. AreInRange m.actions) }
 {
     let priority = (number % priorities).wrapping_add(100);
     message(alloc, command, priority, to_net(number))
 }
 
 /// A command for every entry.
-pub fn to_all(alloc: Global, command: u16) -> Result<FlowMod, Memory>
-    ensures command { IfOk result (λ m. m.command ≡ command) }
-    ensures in_range { IfOk result (λ m. AreInRange m.actions) }
+pub fn to_all(alloc: Global, command: Command) -> Result<FlowMod, Memory>
+    ensures { IfOk result (λ m. AreInRange m.actions) }
 {
     message(alloc, command, 0, Match::everything())
 }

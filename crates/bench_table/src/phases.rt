@@ -1,12 +1,12 @@
 //! Entries are added, changed and taken out.
-ghost use Rattle.std.specs.Prelude.{◌≤◌, ◌<◌};
+ghost use Rattle.std.specs.Prelude.{◌<◌};
 ghost use Rattle.of10_actions.specs.Actions.{AreInRange};
 
 use crate::asked::{Asked, Phases};
 use crate::counts::{Counts, NOTHING};
-use crate::messages::{ADD, DELETE, DELETE_STRICT, MODIFY_STRICT, to_all, to_one};
+use crate::messages::{to_all, to_one};
 use member_table::{Table, TableFault};
-use of10_msgs::FlowMod;
+use of10_msgs::{Command, FlowMod};
 use std::alloc::Global;
 
 /// How many entries the table may have.
@@ -22,8 +22,7 @@ struct Bench {
 impl Bench {
     /// Plans what a message changes, and makes the change.
     fn apply(&mut self, m: &FlowMod) -> Result<(), TableFault>
-        requires command { m.now.command ≤ 4 }
-        requires in_range { AreInRange m.now.actions }
+        requires { AreInRange m.now.actions }
     {
         let change = self.table.plan(m, 0)?;
         self.counts.add(&change);
@@ -36,12 +35,11 @@ impl Bench {
         &mut self,
         alloc: Global,
         asked: &Asked,
-        command: u16,
+        command: Command,
         first: u16,
         step: usize,
     ) -> Result<(), TableFault>
-        requires command { command ≤ 4 }
-        requires step { 0 < step }
+        requires { 0 < step }
     {
         for number in (first..asked.entries).step_by(step) {
             let m = to_one(alloc, command, number, asked.priorities)?;
@@ -58,16 +56,16 @@ pub fn run(alloc: Global, asked: &Asked) -> Result<(Counts, usize), TableFault> 
         table: Table::new(alloc, LIMIT),
         counts: NOTHING,
     };
-    bench.send(alloc, asked, ADD, 0, 1)?;
+    bench.send(alloc, asked, Command::Add, 0, 1)?;
     match asked.phases {
         Phases::Adds => {}
-        Phases::AddsAndModifies => bench.send(alloc, asked, MODIFY_STRICT, 0, 1)?,
+        Phases::AddsAndModifies => bench.send(alloc, asked, Command::ModifyStrict, 0, 1)?,
         Phases::Each => {
-            bench.send(alloc, asked, MODIFY_STRICT, 0, 1)?;
-            bench.send(alloc, asked, DELETE_STRICT, 1, 2)?;
-            bench.send(alloc, asked, DELETE_STRICT, 0, 2)?;
+            bench.send(alloc, asked, Command::ModifyStrict, 0, 1)?;
+            bench.send(alloc, asked, Command::DeleteStrict, 1, 2)?;
+            bench.send(alloc, asked, Command::DeleteStrict, 0, 2)?;
         }
-        Phases::All => bench.apply(&to_all(alloc, DELETE)?)?,
+        Phases::All => bench.apply(&to_all(alloc, Command::Delete)?)?,
     }
     Ok((bench.counts, bench.table.len()))
 }

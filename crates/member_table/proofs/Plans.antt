@@ -5,20 +5,21 @@ use Rattle.std.specs.Prelude.{Result, Ok, Err, IfOk}
 use Rattle.of10_match.specs.Normal.{IsNormal}
 use Rattle.of10_match.specs.Wildcards.{normal_of}
 use Rattle.of10_actions.specs.Actions.{AreInRange}
+use Rattle.of10_msgs.specs.Commands.{command_at}
 use Rattle.of10_msgs.specs.declared.message.FlowMod.{FlowMod}
 use Rattle.of10_actions.specs.declared.action.Action.{Action}
 use Rattle.member_table.specs.Changes.{CanAdd, CanCommit, IsInRange, committed, is_among, is_number, stays, changed_by, replaced}
 use Rattle.member_table.specs.Entries.{identity_of, is_at, is_near, put}
-use Rattle.member_table.specs.Planning.{adding, addition, changing, change_by_command, change_of, modification, removal, removing}
+use Rattle.member_table.specs.Planning.{adding, addition, changing, change_asked, change_by_command, change_of, modification, removal, removing}
 use Rattle.member_table.specs.InsideRanking.{IsLeastOf, is_in_way, ranked_of}
 use Rattle.member_table.specs.Refusals.{least, lesser_of, is_overlapped, overlapped, refusal_by, refusal_of}
 use Rattle.member_table.specs.Sound.{IsSound}
-use Rattle.member_table.specs.Tables.{Held, TableOf, after, after_command, command_of, deleted, entry_of, identity_in, is_meant, modified, with_actions, with_entry, outputs_to}
+use Rattle.member_table.specs.Tables.{Held, TableOf, after, after_asked, after_command, deleted, entry_of, identity_in, is_meant, modified, with_actions, with_entry, outputs_to}
 use Rattle.member_table.specs.Timeouts.{ListsRising, is_hard_due, serials_of, without_expired}
 use Rattle.member_table.specs.declared.change.Change.{Change}
 use Rattle.member_table.specs.declared.fault.TableFault.{TableFault}
-use Rattle.member_table.specs.declared.command.Command.{Command}
-use Rattle.member_table.specs.declared.command.Command.TheVariants.{Add, Modify, ModifyStrict, Delete, DeleteStrict}
+use Rattle.of10_msgs.specs.declared.command.Command.{Command}
+use Rattle.of10_msgs.specs.declared.command.Command.TheVariants.{Add, Modify, ModifyStrict, Delete, DeleteStrict}
 use Rattle.member_table.specs.declared.entry.Entry.{Entry}
 use Rattle.member_table.specs.declared.entry.Identity.{Identity}
 use Rattle.member_table.specs.declared.ranked.Ranked.{Ranked}
@@ -198,12 +199,16 @@ modification_makes strict t m now s = by (list_any (is_meant strict (identity_in
 removal_makes : (strict : Bool) (t : TableOf) (m : FlowMod) → IsSound t → committed t (removal strict t m) ≡ deleted strict t m
 removal_makes strict t m s = removing_is t (λ e. is_meant strict (identity_in m) e && outputs_to m.out_port e) s
 
-change_makes_by : (command : Command) (t : TableOf) (m : FlowMod) (now : ℕ) → IsSound t → committed t (change_by_command command t m now) ≡ after_command command t m now
+pub change_makes_by : (command : Command) (t : TableOf) (m : FlowMod) (now : ℕ) → IsSound t → committed t (change_by_command command t m now) ≡ after_command command t m now
 change_makes_by Add t m now s = adding_is t m now _ refl
 change_makes_by Modify t m now s = modification_makes false t m now s
 change_makes_by ModifyStrict t m now s = modification_makes true t m now s
 change_makes_by Delete t m now s = removal_makes false t m s
 change_makes_by DeleteStrict t m now s = removal_makes true t m s
 
+pub change_asked_makes : (command : Option Command) (t : TableOf) (m : FlowMod) (now : ℕ) → IsSound t → committed t (change_asked command t m now) ≡ after_asked command t m now
+change_asked_makes None t m now s = ap (λ es. record t { entries = es }) (unaltered (filter (stays [] None) t.entries) ∙ all_stay None t.entries)
+change_asked_makes (Some command) t m now s = change_makes_by command t m now s
+
 pub change_makes : (t : TableOf) (m : FlowMod) (now : ℕ) → IsSound t → committed t (change_of t m now) ≡ after t m now
-change_makes t m now s = change_makes_by (command_of m.command) t m now s
+change_makes t m now s = change_asked_makes (command_at m.command) t m now s

@@ -5,7 +5,7 @@ use Rattle.of10_match.specs.Normal.{IsNormal}
 use Rattle.of10_match.specs.Wildcards.{normal_of}
 use Rattle.of10_actions.specs.Actions.{AreInRange}
 use Rattle.member_table.specs.Entries.{identity_of, is_near}
-use Rattle.member_table.specs.Tables.{TableOf, rank_by}
+use Rattle.member_table.specs.Tables.{TableOf, rank_written}
 use Rattle.member_table.specs.declared.entry.Entry.{Entry}
 
 -- two entries don't have equal ranks and matches that overlap
@@ -21,7 +21,7 @@ EachPair R (e ∷ es) = AllByRecursion (R e) es × EachPair R es
 -- numbers of its actions are in their ranges
 pub record IsAsWritten (e : Entry) : Type 0 where
   pub read : e.normal ≡ normal_of e.raw
-  pub ranked : e.rank ≡ rank_by e.raw e.priority
+  pub ranked : e.rank ≡ rank_written e.raw e.priority
   pub normal : IsNormal e.normal
   pub actions : AreInRange e.actions
 

@@ -4,7 +4,6 @@
 #![tactic(auto)]
 
 pub mod change;
-pub mod command;
 mod commit;
 mod copy;
 mod due;
@@ -24,7 +23,6 @@ mod wanted;
 pub mod worked;
 
 pub use change::{Change, Due, Modified};
-pub use command::Command;
 pub use entry::{Entry, Identity};
 pub use fault::TableFault;
 pub use rank::rank_of;

@@ -5,21 +5,19 @@ ghost use Rattle.of10_match.specs.Normal.{IsNormal};
 ghost use Rattle.of10_actions.specs.Actions.{AreInRange};
 ghost use Rattle.member_table.specs.Entries.{is_at};
 ghost use Rattle.member_table.specs.Changes.{CanCommit, committed};
-ghost use Rattle.member_table.specs.Planning.{adding, addition, change_of, modification, removal};
-ghost use Rattle.member_table.specs.Refusals.{IsFaultOf, refusal, refusal_of, refusal_unless};
-ghost use Rattle.member_table.specs.Tables.{after, entry_of as entry_described, identity_in, is_meant, outputs_to};
+ghost use Rattle.member_table.specs.Planning.{adding, addition, change_by_command, change_of, modification, removal};
+ghost use Rattle.member_table.specs.Refusals.{IsFaultOf, refusal, refusal_by_command, refusal_of, refusal_unless};
+ghost use Rattle.member_table.specs.Tables.{after, after_command, entry_of as entry_described, identity_in, is_meant, outputs_to};
 ghost use Rattle.member_table.specs.Timeouts.{serials_of};
 
 use crate::change::{Change, Modified};
-use crate::command::Command;
 use crate::entry::{Entry, Identity};
 use crate::fault::TableFault;
-use crate::rank::rank_by;
 use crate::table::Table;
 use crate::wanted::Wanted;
 use cv_io::{Duplicate, List, Memory};
 use of10_actions::{Action, port};
-use of10_msgs::FlowMod;
+use of10_msgs::{Command, FlowMod};
 use std::alloc::Global;
 
 /// The rank and the match of a message.
@@ -29,7 +27,7 @@ fn identity_of(m: &FlowMod) -> Identity
 {
     let read = of10_match::read(&m.m);
     Identity {
-        rank: rank_by(read.exact, m.priority),
+        rank: of10_match::rank(read.exact, m.priority),
         normal: read.normal,
     }
 }
@@ -81,11 +79,10 @@ fn alone(alloc: Global, wanted: bool, serial: u64) -> Result<Vec<u64>, Memory>
 }
 
 impl Table {
-    /// Plans what a message changes at a moment. It takes all memory that the change needs, and leaves
+    /// Plans what a message changes at a moment; a command above 4 changes nothing. It takes all memory that the change needs, and leaves
     /// the entries as they are.
     pub fn plan(&mut self, m: &FlowMod, now: u64) -> Result<Change, TableFault>
-        requires command { m.now.command ≤ 4 }
-        requires in_range { AreInRange m.now.actions }
+        requires { AreInRange m.now.actions }
         ensures change { IfOk result (λ change. change ≡ change_of self.old.table m.now now) }
         ensures planned { IfOk result (λ change. committed self.old.table change ≡ after self.old.table m.now now) }
         ensures ready { IfOk result (CanCommit self.new) }
@@ -96,8 +93,32 @@ impl Table {
     {
         // The proof learns what is true of every table.
         let _ = &self.next;
-        let identity = identity_of(m);
         match Command::from_number(m.command) {
+            Some(command) => self.plan_command(command, m, now),
+            None => Ok(Change::removal(self.alloc, List::new(self.alloc))),
+        }
+    }
+
+    /// Plans what a command changes at a moment.
+    fn plan_command(
+        &mut self,
+        command: Command,
+        m: &FlowMod,
+        now: u64,
+    ) -> Result<Change, TableFault>
+        requires { AreInRange m.now.actions }
+        ensures change { IfOk result (λ change. change ≡ change_by_command command self.old.table m.now now) }
+        ensures planned { IfOk result (λ change. committed self.old.table change ≡ after_command command self.old.table m.now now) }
+        ensures ready { IfOk result (CanCommit self.new) }
+        ensures accepted { OnOk result (refusal_by_command command self.old.table m.now ≡ None) }
+        ensures fault { IfErr result (IsFaultOf (refusal_by_command command self.old.table m.now)) }
+        ensures table { self.new.table ≡ self.old.table }
+        ensures room { self.old.room ≤ self.new.room }
+    {
+        // The proof learns what is true of every table.
+        let _ = &self.next;
+        let identity = identity_of(m);
+        match command {
             Command::Add => self.plan_entry(m, &identity, now),
             Command::Modify => self.plan_actions(false, m, &identity, now),
             Command::ModifyStrict => self.plan_actions(true, m, &identity, now),

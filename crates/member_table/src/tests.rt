@@ -1,4 +1,4 @@
-ghost use Rattle.std.specs.Prelude.{◌≡◌, ◌≤◌, IfOk};
+ghost use Rattle.std.specs.Prelude.{IfOk};
 ghost use Rattle.of10_actions.specs.Actions.{AreInRange};
 
 use super::*;
@@ -54,8 +54,7 @@ fn message(
     output: u16,
     out_port: u16,
 ) -> Result<FlowMod, Fail>
-    ensures command { IfOk result (λ m. m.command ≡ command) }
-    ensures in_range { IfOk result (λ m. AreInRange m.actions) }
+    ensures { IfOk result (λ m. AreInRange m.actions) }
 {
     let to = Action::Output {
         port: output,
@@ -77,8 +76,7 @@ fn message(
 
 /// Plans a message and makes the change.
 fn apply(table: &mut Table, m: &FlowMod, now: u64) -> Result<(), TableFault>
-    requires command { m.now.command ≤ 4 }
-    requires in_range { AreInRange m.now.actions }
+    requires { AreInRange m.now.actions }
 {
     let change = table.plan(m, now)?;
     table.commit(change);
@@ -129,9 +127,7 @@ fn six(alloc: Global, limit: u32) -> Result<Table, Fail> {
 struct Row(u32, u16, u16, Option<u16>, u16);
 
 /// What a message makes of the six entries, or why it is refused.
-fn shown_after(alloc: Global, row: Row) -> Result<String, Fail>
-    requires { row.1 ≤ 4 }
-{
+fn shown_after(alloc: Global, row: Row) -> Result<String, Fail> {
     let Row(limit, command, priority, in_port, out_port) = row;
     let mut table = six(alloc, limit)?;
     let m = message(alloc, command, priority, from_port(in_port), 9, out_port)?;
