@@ -1,6 +1,6 @@
 use Rattle.std.proofs.Common.{◌≡◌, length}
 use Rattle.member_table.proofs.Changing.{emptied}
-use Rattle.member_table.proofs.table.Table.remove_all.Given as goal
+use Rattle.member_table.proofs.table.Table.drop_each.Given as goal
 
 abbrev pub invariant-loop-serial : goal.invariant-loop-serial
 invariant-loop-serial l = record {

@@ -1,6 +1,6 @@
 use Rattle.std.proofs.Common.{◌≡◌, ◌∙◌, ℕ, ◌<◌, ◌++◌, ◌∷◌, [], List, Bool, true, false, not, refl, sym, ap, length, length-append, arith, true≢false}
 use Rattle.member_table.proofs.Changing.{emptied, all_stay, stays_dropped, stays_kept}
-use Rattle.member_table.proofs.table.Table.remove_all.Goals as goal
+use Rattle.member_table.proofs.table.Table.drop_each.Goals as goal
 
 shorter : (xs ys : List ℕ) (s : ℕ) → xs ≡ ys ++ s ∷ [] → length ys < length xs
 shorter xs ys s e = let l = ap length e ∙ length-append ys (s ∷ []) in omega (arith, l)
