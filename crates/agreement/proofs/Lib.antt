@@ -21,3 +21,5 @@ pub mod Guarded
 pub mod Carried
 pub mod ShowingSpread
 pub mod FittingRules
+pub mod Lengths
+pub mod Twins

@@ -2,14 +2,14 @@
 use Rattle.std.proofs.Common.{◌≡◌, ℕ, zero, suc, Bool, true, false, List, Option, Some, None, refl, ap, subst, eqb-true}
 use Rattle.std.specs.Prelude.{filter_map, if◌then◌else◌, map, ◌==◌, ◌&&◌}
 use Rattle.std.specs.List.{AllByRecursion}
-use Rattle.of10_match.specs.Matching.{agree, either}
+use Rattle.of10_match.specs.Matching.{agree, at_port, either}
 use Rattle.of10_actions.specs.Fields.{RewriteOf}
 use Rattle.pull_back.specs.Pulling.{pulled}
 use Rattle.of10_actions.specs.declared.effects.Dest.{Dest}
 use Rattle.of10_actions.specs.declared.effects.Dest.TheVariants.{Port, Flood, Ingress, Tell}
 use Rattle.of10_actions.specs.declared.effects.Out.{Out}
 use Rattle.policy_meaning.specs.Hops.{Fabric, at_node, hop_rule, hop_size, hopped, hops_on, leads, node, out_at, outs_at, peers_size, without_port}
-use Rattle.policy_meaning.specs.LeafRules.{at_port, rule_met}
+use Rattle.policy_meaning.specs.LeafRules.{rule_met}
 use Rattle.policy_meaning.specs.Meaning.{out_after}
 use Rattle.policy_meaning.specs.declared.network.Onward.{Onward}
 use Rattle.policy_meaning.specs.declared.rule.Rule.{Rule}

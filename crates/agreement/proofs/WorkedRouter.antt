@@ -5,7 +5,7 @@ use Rattle.std.specs.List.{AllByRecursion}
 use Rattle.of10_match.specs.Normal.{IsNormal}
 use Rattle.of10_actions.specs.Rewriting.{Extends, no_rewrite}
 use Rattle.of10_actions.specs.Numbers.{MAX}
-use Rattle.policy_expr.specs.declared.expr.Expr.TheVariants.{Member}
+use Rattle.policy_expr.specs.Policy.{member}
 use Rattle.policy_meaning.specs.EveryNode.{IsSoundSwitch}
 use Rattle.policy_meaning.specs.Hops.{peer_of}
 use Rattle.policy_meaning.specs.Leaf.{has_port}
@@ -79,7 +79,7 @@ module _ (whole : Bool) where
   no-peer zero p q e = cc
   no-peer (suc v) p q e = cc
 
-  alone : IsAlone (routed whole) 0 (record { expr = Member 0; outside = four_ports; links = []; spread = false; whole = whole })
+  alone : IsAlone (routed whole) 0 (record { expr = member 0; outside = four_ports; links = []; spread = false; whole = whole })
   alone = record {
     links = refl;
     lone = refl;

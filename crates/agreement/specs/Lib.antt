@@ -4,5 +4,7 @@ pub mod Entries
 pub mod Seeing
 pub mod Agree
 pub mod Premises
+pub mod Lengths
+pub mod OneEntry
 pub mod Law
 pub mod Worked

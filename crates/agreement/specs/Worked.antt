@@ -1,11 +1,10 @@
 -- Small policies: the tables that switches are to have, computed, and what is to be seen of packets.
 use Rattle.std.specs.Prelude.{◌≡◌, ℕ, Bool, ◌+◌, ◌*◌, true, false, Some, None, List, [], ◌∷◌}
 use Rattle.of10_match.specs.Fields.{HeaderOf, MatchOf}
-use Rattle.of10_match.specs.Matching.{everything}
+use Rattle.of10_match.specs.Matching.{at_port, everything}
 use Rattle.of10_actions.specs.declared.action.Action.{Action}
 use Rattle.of10_actions.specs.declared.action.Action.TheVariants.{Output, SetVlanVid, StripVlan}
-use Rattle.policy_expr.specs.declared.expr.Expr.TheVariants.{Member}
-use Rattle.policy_meaning.specs.LeafRules.{at_port}
+use Rattle.policy_expr.specs.Policy.{member}
 use Rattle.policy_meaning.specs.Networks.{ground_of}
 use Rattle.policy_meaning.specs.Walk.{walk}
 use Rattle.policy_meaning.specs.WorkedHops.{split_switch}
@@ -30,7 +29,7 @@ abbrev pub routed : Bool → Setting
 routed whole = record {
   network = record {
     tables = record server_router { member = 0 } ∷ [];
-    switches = record { expr = Member 0; outside = four_ports; links = []; spread = false; whole = whole } ∷ [];
+    switches = record { expr = member 0; outside = four_ports; links = []; spread = false; whole = whole } ∷ [];
   };
   hops = 4;
   wiring = one_switch;
@@ -113,7 +112,7 @@ abbrev pub spread_out : Setting
 spread_out = record {
   network = record {
     tables = record server_router { member = 0; visible = 1 ∷ 2 ∷ [] } ∷ [];
-    switches = record { expr = Member 0; outside = 1 ∷ 2 ∷ []; links = []; spread = true; whole = false } ∷ [];
+    switches = record { expr = member 0; outside = 1 ∷ 2 ∷ []; links = []; spread = true; whole = false } ∷ [];
   };
   hops = 4;
   wiring = two_switches;

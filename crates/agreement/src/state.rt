@@ -3,7 +3,7 @@ ghost use Rattle.std.specs.Prelude.{◌<◌, ◌^◌, ◌↔◌, All, IsTrue, le
 ghost use Rattle.agreement.specs.Fitting.{IsFittingSetting, SizesFit};
 ghost use Rattle.policy_meaning.specs.Fitting.{IsFittingTable};
 
-use cv_io::List;
+use cv_io::{Duplicate, List, Memory};
 use policy_meaning::{Network, hop_size, tables_fit};
 use switch_meaning::{Wiring, are_tags_in_range};
 
@@ -29,6 +29,26 @@ pub struct Setting {
     pub wiring: Wiring,
     /// The physical switches, by number.
     pub switches: List<PhysicalSwitch>,
+}
+
+impl Duplicate for PhysicalSwitch {
+    fn copy(&self) -> Result<PhysicalSwitch, Memory> {
+        Ok(PhysicalSwitch {
+            ports: self.ports.copy()?,
+            up: self.up,
+        })
+    }
+}
+
+impl Duplicate for Setting {
+    fn copy(&self) -> Result<Setting, Memory> {
+        Ok(Setting {
+            network: self.network.copy()?,
+            hops: self.hops,
+            wiring: self.wiring.copy()?,
+            switches: self.switches.copy()?,
+        })
+    }
 }
 
 impl Setting {

@@ -61,7 +61,7 @@ module _ (sizes : ℕ → ℕ) (rules : ℕ → List Rule) where
   all-normal (override a b) p =
       each-shift HasNormal HasNormal HasNormal (size_of sizes b) (λ x n. n) (rules_of sizes rules a) (rules_of sizes rules b) (all-normal a p.0) (all-normal b p.1)
 
-  all-plain : (e : Policy) → EachMember (OfLeaf IsPlainRule) e → Of IsPlainRule e
+  pub all-plain : (e : Policy) → EachMember (OfLeaf IsPlainRule) e → Of IsPlainRule e
   all-plain (member i) p = p
   all-plain (parallel a b) p =
       each-sum IsPlainRule IsPlainRule IsPlainRule (λ x y px py o. record { sets = all-append (λ (o : Out). o.rewrite ≡ no_rewrite) x.outs y.outs px.sets py.sets; ends = py.ends }) (rules_of sizes rules a) (rules_of sizes rules b) (all-plain a p.0) (all-plain b p.1)

@@ -1,7 +1,7 @@
 -- The members of the worked examples: their tables, and headers of packets.
 use Rattle.std.specs.Prelude.{ℕ, Bool, true, false, Some, List, [], ◌∷◌}
 use Rattle.of10_match.specs.Fields.{HeaderOf, MatchOf}
-use Rattle.of10_match.specs.Matching.{everything}
+use Rattle.of10_match.specs.Matching.{at_port, everything}
 use Rattle.of10_actions.specs.Fields.{RewriteOf}
 use Rattle.of10_actions.specs.Rewriting.{no_rewrite}
 use Rattle.of10_actions.specs.declared.effects.Effects.{Effects}
@@ -19,10 +19,6 @@ from_net addr len = record everything { dl_type = Some 0x0800; nw_src = Some (re
 -- packets of IPv4 to a prefix
 abbrev pub to_net : ℕ → ℕ → MatchOf
 to_net addr len = record everything { dl_type = Some 0x0800; nw_dst = Some (record { addr = addr; len = len }) }
-
--- packets that come by a port
-abbrev pub by_port : ℕ → MatchOf
-by_port p = record everything { in_port = Some p }
 
 -- one packet leaves by a port of the first virtual switch
 abbrev pub to_port : ℕ → List Out
