@@ -3,7 +3,7 @@
 #![tactic(auto)]
 
 pub mod fault;
-mod field;
+pub mod field;
 pub mod kind;
 pub mod laws;
 pub mod message;
