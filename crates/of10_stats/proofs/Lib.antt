@@ -4,3 +4,7 @@ pub mod Texts
 pub mod Greedy
 pub mod Whole
 pub mod SpelledItems
+pub mod Spelled
+pub mod FoundItems
+pub mod Found
+pub mod Sent
