@@ -8,3 +8,4 @@ pub mod Spelled
 pub mod FoundItems
 pub mod Found
 pub mod Sent
+pub mod Writable

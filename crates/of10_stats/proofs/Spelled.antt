@@ -97,7 +97,7 @@ request_is_read bytes r good s =
     ∙ (ap (λ (o : Option StatsKind). typed_request o whole) (kind_is k)
     ∙ ap (λ (o : Option StatsRequest). or_bad_len whole o) (request_again r s.m s.pad good s.matched s.pad_fits)))
 
-clear_request : (r : StatsRequest) → IsRequest r → clear_match (request_match r) ≡ request_match r
+pub clear_request : (r : StatsRequest) → IsRequest r → clear_match (request_match r) ≡ request_match r
 clear_request Desc good = refl
 clear_request (Flow m table_id out_port) good = good.1
 clear_request (Aggregate m table_id out_port) good = good.1

@@ -72,13 +72,13 @@ pub entry_again : (e : FlowStat) (front : List ℕ) → IsEntry e → SpellsEntr
 entry_again e front good s =
     let long : length front ≡ entry_size e = ap length s.whole ∙ length_with e s.m s.pad s.pads s.matched s.pads_fit in
     let reads : (back : List ℕ) → entry_at (front ++ back) ≡ Some e = λ back.
-        let bytes = spread e s.m s.pad s.pads back in
-        let whole : front ++ back ≡ bytes = ap (λ (x : List ℕ). x ++ back) s.whole ∙ entry_spread e s.m s.pad s.pads back in
-        let n : u16_at 0 bytes ≡ entry_size e = again 2 (entry_size e) (e.table_id ∷ (s.pad ∷ (s.m ++ times e s.pads back))) good.size in
-        let size : length bytes ≡ entry_size e + length back = omega (arith, ap length whole, length-append front back, long) in
-        let least : nat_le 88 (u16_at 0 bytes) ≡ true = le-leb _ _ (omega (arith, n, good.m)) in
-        let within : nat_le (u16_at 0 bytes) (length bytes) ≡ true = le-leb _ _ (omega (arith, n, size)) in
-        ap entry_at whole ∙ ((λ i. when (least i && within i) (entry_of bytes)) ∙ ap (λ (x : FlowStat). Some x) (entry_is e s.m s.pad s.pads back good s.matched s.pads_fit)) in
+    let bytes = spread e s.m s.pad s.pads back in
+    let whole : front ++ back ≡ bytes = ap (λ (x : List ℕ). x ++ back) s.whole ∙ entry_spread e s.m s.pad s.pads back in
+    let n : u16_at 0 bytes ≡ entry_size e = again 2 (entry_size e) (e.table_id ∷ (s.pad ∷ (s.m ++ times e s.pads back))) good.size in
+    let size : length bytes ≡ entry_size e + length back = omega (arith, ap length whole, length-append front back, long) in
+    let least : nat_le 88 (u16_at 0 bytes) ≡ true = le-leb _ _ (omega (arith, n, good.m)) in
+    let within : nat_le (u16_at 0 bytes) (length bytes) ≡ true = le-leb _ _ (omega (arith, n, size)) in
+    ap entry_at whole ∙ ((λ i. when (least i && within i) (entry_of bytes)) ∙ ap (λ (x : FlowStat). Some x) (entry_is e s.m s.pad s.pads back good s.matched s.pads_fit)) in
     record { some = omega arith; long = long; reads = reads }
 
 -- ---- ports
@@ -130,11 +130,11 @@ pub port_again : (p : PortStat) (front : List ℕ) → IsPort p → SpellsPort p
 port_again p front good s =
     let long : length front ≡ 104 = ap length s.whole ∙ length_port_with p s.pad s.pad_fits in
     let reads : (back : List ℕ) → port_at (front ++ back) ≡ Some p = λ back.
-        let bytes = big_bytes 2 p.port_no ++ (s.pad ++ numbers p back) in
-        let whole : front ++ back ≡ bytes = ap (λ (x : List ℕ). x ++ back) s.whole ∙ port_spread p s.pad back in
-        let size : length bytes ≡ 104 + length back = omega (arith, ap length whole, length-append front back, long) in
-        let least : nat_le 104 (length bytes) ≡ true = le-leb _ _ (omega (arith, size)) in
-        ap port_at whole ∙ ((λ i. when (least i) (port_of bytes)) ∙ ap (λ (x : PortStat). Some x) (port_is p s.pad back good s.pad_fits)) in
+    let bytes = big_bytes 2 p.port_no ++ (s.pad ++ numbers p back) in
+    let whole : front ++ back ≡ bytes = ap (λ (x : List ℕ). x ++ back) s.whole ∙ port_spread p s.pad back in
+    let size : length bytes ≡ 104 + length back = omega (arith, ap length whole, length-append front back, long) in
+    let least : nat_le 104 (length bytes) ≡ true = le-leb _ _ (omega (arith, size)) in
+    ap port_at whole ∙ ((λ i. when (least i) (port_of bytes)) ∙ ap (λ (x : PortStat). Some x) (port_is p s.pad back good s.pad_fits)) in
     record { some = omega arith; long = long; reads = reads }
 
 -- ---- texts

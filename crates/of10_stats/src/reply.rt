@@ -22,7 +22,9 @@ pub struct StatsReply {
 #[derive(PartialEq, Eq, Debug, Drop)]
 pub enum ReplyBody {
     /// The texts of `ofp_desc_stats`, of 256, 256, 256, 32 and 256 bytes.
-    Desc { texts: List<Bytes> },
+    Desc {
+        texts: List<Bytes>,
+    },
     Flow {
         entries: List<FlowStat>,
     },

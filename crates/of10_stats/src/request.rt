@@ -25,7 +25,9 @@ pub enum StatsRequest {
     /// What the tables hold.
     Table,
     /// The counts of a port, or of each port (`ofp_port_stats_request`).
-    Port { port_no: u16 },
+    Port {
+        port_no: u16,
+    },
 }
 
 impl StatsRequest {
