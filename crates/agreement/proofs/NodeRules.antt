@@ -4,7 +4,7 @@ use Rattle.std.specs.Prelude.{filter_map, if◌then◌else◌, map, ◌==◌, �
 use Rattle.std.specs.List.{AllByRecursion}
 use Rattle.of10_match.specs.Matching.{agree, either}
 use Rattle.of10_actions.specs.Fields.{RewriteOf}
-use Rattle.of10_actions.specs.Rewriting.{pulled}
+use Rattle.pull_back.specs.Pulling.{pulled}
 use Rattle.of10_actions.specs.declared.effects.Dest.{Dest}
 use Rattle.of10_actions.specs.declared.effects.Dest.TheVariants.{Port, Flood, Ingress, Tell}
 use Rattle.of10_actions.specs.declared.effects.Out.{Out}

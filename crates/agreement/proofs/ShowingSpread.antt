@@ -9,7 +9,7 @@ use Rattle.of10_actions.specs.Rewriting.{apply}
 use Rattle.of10_actions.specs.declared.effects.Dest.{Dest}
 use Rattle.of10_actions.specs.declared.effects.Dest.TheVariants.{Port, Flood, Ingress, Tell}
 use Rattle.of10_actions.specs.declared.effects.Out.{Out}
-use Rattle.of10_actions.specs.declared.port.TheConstants.{IN_PORT, CONTROLLER, MAX}
+use Rattle.of10_actions.specs.Numbers.{IN_PORT, CONTROLLER, MAX}
 use Rattle.policy_meaning.specs.HopFact.{leaving}
 use Rattle.policy_meaning.specs.Networks.{switch_spread}
 use Rattle.policy_meaning.specs.declared.walking.PortOut.{PortOut}

@@ -4,7 +4,7 @@ use Rattle.std.specs.Prelude.{is_some, slice_get}
 use Rattle.std.specs.List.{AllByRecursion}
 use Rattle.of10_match.specs.Normal.{IsNormal}
 use Rattle.of10_actions.specs.Rewriting.{Extends, no_rewrite}
-use Rattle.of10_actions.specs.declared.port.TheConstants.{MAX}
+use Rattle.of10_actions.specs.Numbers.{MAX}
 use Rattle.policy_expr.specs.declared.expr.Expr.TheVariants.{Member}
 use Rattle.policy_meaning.specs.EveryNode.{IsSoundSwitch}
 use Rattle.policy_meaning.specs.Hops.{peer_of}

@@ -2,7 +2,7 @@
 use Rattle.std.proofs.Common.{◌≡◌, ℕ, zero, suc, ◌+◌, ◌*◌, ◌<◌, Bool, true, false, ◌&&◌, ◌==◌, [], ◌∷◌, Some, None, refl, ◌∙◌, sym, subst, arith, eqb-true, lit≤}
 use Rattle.std.specs.Prelude.{if◌then◌else◌, is_some, slice_get}
 use Rattle.std.specs.List.{AllByRecursion}
-use Rattle.of10_actions.specs.declared.port.TheConstants.{MAX}
+use Rattle.of10_actions.specs.Numbers.{MAX}
 use Rattle.policy_meaning.specs.EveryNode.{IsSoundSwitch}
 use Rattle.policy_meaning.specs.Hops.{peer_of}
 use Rattle.policy_meaning.specs.Leaf.{has_port}

@@ -5,7 +5,7 @@ use Rattle.of10_match.specs.Fields.{MatchOf}
 use Rattle.of10_actions.specs.declared.effects.Dest.{Dest}
 use Rattle.of10_actions.specs.declared.effects.Dest.TheVariants.{Port, Flood, Ingress, Tell}
 use Rattle.of10_actions.specs.declared.effects.Out.{Out}
-use Rattle.of10_actions.specs.declared.port.TheConstants.{MAX}
+use Rattle.of10_actions.specs.Numbers.{MAX}
 use Rattle.policy_expr.specs.Policy.{policy_of}
 use Rattle.policy_meaning.specs.CentralFact.{EachMember}
 use Rattle.policy_meaning.specs.EveryNode.{IsSoundNetwork}

@@ -5,7 +5,8 @@ use Rattle.std.specs.List.{AllByRecursion}
 use Rattle.of10_match.specs.Fields.{HeaderOf, MatchOf}
 use Rattle.of10_match.specs.Matching.{holds, overlaps, both, fits, agree, either}
 use Rattle.of10_actions.specs.Fields.{RewriteOf}
-use Rattle.of10_actions.specs.Rewriting.{apply, can_pull, pulled, no_rewrite}
+use Rattle.of10_actions.specs.Rewriting.{apply, no_rewrite}
+use Rattle.pull_back.specs.Pulling.{can_pull, pulled}
 use Rattle.of10_actions.specs.declared.effects.Tail.{Tail}
 use Rattle.of10_actions.specs.declared.effects.Tail.TheVariants.{Nothing, Link}
 use Rattle.alg_priority.specs.Levels.{concat_level}

@@ -2,7 +2,7 @@
 use Rattle.std.specs.Prelude.{◌≡◌, ℕ, true, false, Some, None, List, [], ◌∷◌, map, slice_get}
 use Rattle.of10_match.specs.Fields.{MatchOf}
 use Rattle.of10_match.specs.Matching.{everything}
-use Rattle.of10_actions.specs.Rewriting.{pull}
+use Rattle.pull_back.specs.Pulling.{pull}
 use Rattle.of10_actions.specs.declared.effects.Dest.TheVariants.{Port, Tell}
 use Rattle.of10_actions.specs.declared.effects.Tail.TheVariants.{Nothing}
 use Rattle.policy_expr.specs.Policy.{Policy, member, parallel, sequential, override}

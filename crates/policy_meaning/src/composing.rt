@@ -3,7 +3,7 @@ ghost use Rattle.std.specs.Prelude.{◌≡◌, ◌<◌, ◌^◌, ◌++◌, All, 
 ghost use Rattle.alg_priority.specs.Levels.{concat_level, shift_level, sum_level};
 ghost use Rattle.std.specs.Option.{option_and_then};
 ghost use Rattle.of10_match.specs.Matching.{meet};
-ghost use Rattle.of10_actions.specs.Rewriting.{pull as pull_of};
+ghost use Rattle.pull_back.specs.Pulling.{pull as pull_of};
 ghost use Rattle.of10_actions.specs.declared.effects.Tail.TheVariants.{Pass};
 ghost use Rattle.policy_meaning.specs.Meaning.{out_after};
 ghost use Rattle.policy_meaning.specs.Rules.{chain_rule as chain_rule_of, chains_by, chains_with as chains_with_of, lifted as lifted_of, shifts_with as shifts_with_of, sum_rule as sum_rule_of, sums_with as sums_with_of};
