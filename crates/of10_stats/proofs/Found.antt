@@ -1,14 +1,14 @@
 -- A request or a reply that was read is spelled by its bytes, and its numbers are in their ranges.
-use Rattle.std.proofs.Common.{◌≡◌, ℕ, zero, suc, ◌+◌, ◌-◌, ◌%◌, ◌^◌, ◌<◌, ◌≤◌, Bool, true, false, cond, eqb, eqb-true, List, [], ◌∷◌, ◌++◌, length, map, take, drop, Option, Some, None, Result, Ok, Err, refl, sym, ap, subst, ◌∙◌, arith}
-use Rattle.std.specs.Prelude.{option_map, slice_index, sum}
-use Rattle.std.proofs.lemmas.List.{append-nil, drop_all, length-drop}
+use Rattle.std.proofs.Common.{◌≡◌, ℕ, zero, suc, ◌≤◌, eqb, eqb-true, List, [], ◌∷◌, ◌++◌, length, drop, Option, Some, None, Result, Ok, refl, sym, ap, subst, ◌∙◌, arith}
+use Rattle.std.specs.Prelude.{option_map, slice_index}
+use Rattle.std.proofs.lemmas.List.{append-nil, drop_all}
 use Rattle.std.proofs.lemmas.List.Elements.{All-from_recursion}
 use Rattle.std.proofs.lemmas.Option.{cond_some}
-use Rattle.byteorder.specs.Endian.{big_bytes, big_number}
-use Rattle.of10_actions.specs.Reading.{u16_at, u32_at}
+use Rattle.byteorder.specs.Endian.{big_bytes}
+use Rattle.of10_actions.specs.Reading.{u16_at, u32_at, u64_at}
 use Rattle.of10_actions.specs.Spelling.{IsBytes}
 use Rattle.of10_actions.proofs.Digits.{IsBytes-drop}
-use Rattle.of10_msgs.specs.Reading.{match_at, span, u64_at}
+use Rattle.of10_msgs.specs.Reading.{span}
 use Rattle.of10_msgs.specs.Spelling.{clear_match}
 use Rattle.of10_msgs.proofs.Fields.{split}
 use Rattle.of10_msgs.proofs.FoundParts.{byte, clear_twice, length_part, number_lt, part}
@@ -16,17 +16,14 @@ use Rattle.of10_msgs.proofs.SpelledBodies.{length_clear}
 use Rattle.of10_stats.specs.Kinds.{kind_at, number_of, reply_kind, request_kind, request_length}
 use Rattle.of10_stats.specs.Ranges.{IsBody, IsEntry, IsPort, IsRequest, widths}
 use Rattle.of10_stats.specs.Reading.{body_at, entry_at, items_at, or_bad_len, port_at, reply_in, reply_with, request_at, request_in, request_of, table_of, texts_of, typed_reply, typed_request}
-use Rattle.of10_stats.specs.Spelling.{SpellsBody, SpellsEntry, SpellsPort, SpellsReply, SpellsRequest, body_with, entry_size, port_size, request_match, request_padding, request_with, start}
+use Rattle.of10_stats.specs.Spelling.{SpellsBody, SpellsEntry, SpellsPort, SpellsReply, SpellsRequest, entry_size, port_size, request_match, request_padding, request_with, start}
 use Rattle.of10_stats.specs.declared.fault.StatsFault.{StatsFault}
 use Rattle.of10_stats.specs.declared.kind.StatsKind.{StatsKind}
 use Rattle.of10_stats.specs.declared.kind.StatsKind.TheVariants as kinds
-use Rattle.of10_stats.specs.declared.reply.FlowStat.{FlowStat}
-use Rattle.of10_stats.specs.declared.reply.PortStat.{PortStat}
 use Rattle.of10_stats.specs.declared.reply.ReplyBody.{ReplyBody}
 use Rattle.of10_stats.specs.declared.reply.ReplyBody.TheVariants as bodies
 use Rattle.of10_stats.specs.declared.reply.StatsReply.{StatsReply}
 use Rattle.of10_stats.specs.declared.request.StatsRequest.{StatsRequest}
-use Rattle.of10_stats.specs.declared.request.StatsRequest.TheVariants.{Desc, Flow, Aggregate, Table, Port}
 use Rattle.of10_stats.proofs.Items.{are_spelled}
 use Rattle.of10_stats.proofs.FoundItems.{entry_found, port_found, texts_joined, texts_widths}
 

@@ -1,7 +1,7 @@
 -- Entries and ports that were read are spelled by their bytes.
-use Rattle.std.proofs.Common.{◌≡◌, ℕ, zero, suc, ◌+◌, ◌-◌, ◌^◌, ◌<◌, ◌≤◌, List, [], ◌∷◌, ◌++◌, length, map, take, drop, Some, refl, sym, ap, subst, ◌∙◌, append_assoc, arith}
+use Rattle.std.proofs.Common.{◌≡◌, ℕ, ◌+◌, ◌-◌, ◌≤◌, List, [], ◌∷◌, ◌++◌, length, map, take, drop, Some, refl, sym, ap, subst, ◌∙◌, append_assoc, arith}
 use Rattle.std.specs.Prelude.{slice_index, sum}
-use Rattle.std.proofs.lemmas.List.{append-nil, length-append, length-drop, length-take-le, take-append-drop, take_at}
+use Rattle.std.proofs.lemmas.List.{length-drop, length-take-le, take-append-drop, take_at}
 use Rattle.std.proofs.lemmas.List.Concat.{flat_map-cons}
 use Rattle.byteorder.specs.Endian.{big_bytes, big_number}
 use Rattle.of10_actions.specs.Reading.{u16_at}
@@ -18,7 +18,7 @@ use Rattle.of10_stats.specs.declared.reply.PortStat.{PortStat}
 use Rattle.of10_stats.proofs.Items.{IsItem}
 use Rattle.of10_stats.proofs.Lengths.{sum_cons}
 use Rattle.of10_stats.proofs.SpelledItems.{length_port_with, length_with}
-use Rattle.of10_stats.proofs.Whole.{IsWhole, entry_whole, port_whole, size_of_entry}
+use Rattle.of10_stats.proofs.Whole.{entry_whole, port_whole, size_of_entry}
 
 -- the bytes of a number at a place, and then the rest
 number_at : (n at : ℕ) (bytes rest : List ℕ) → IsBytes bytes → at + n ≤ length bytes → drop (at + n) bytes ≡ rest → drop at bytes ≡ big_bytes n (big_number n (drop at bytes)) ++ rest

@@ -1,7 +1,7 @@
 -- A FLOW reply is cut greedily.
 use Rattle.std.proofs.Common.{◌≡◌, ℕ, zero, suc, ◌+◌, ◌-◌, ◌<◌, ◌≤◌, Bool, true, false, cond, List, [], ◌∷◌, ◌++◌, length, map, take, drop, All, append_assoc, refl, sym, ap, subst, ◌∙◌, inl, inr, zero-add, arith}
-use Rattle.std.specs.Prelude.{◌⊎◌, ◌||◌, ◌==◌, nat_le, sum_by}
-use Rattle.std.specs.List.{AllByRecursion, flat_map}
+use Rattle.std.specs.Prelude.{◌⊎◌, ◌||◌, ◌==◌, nat_le}
+use Rattle.std.specs.List.{flat_map}
 use Rattle.std.proofs.Math.Dec.{eqb-suc-zero}
 use Rattle.std.proofs.lemmas.Bool.{cases_lt, leb-true, leb-false}
 use Rattle.std.proofs.lemmas.List.{length-drop, take-append-drop}

@@ -1,9 +1,9 @@
 -- A request or a reply that is spelled is read, and what is written is spelled so.
-use Rattle.std.proofs.Common.{◌≡◌, ℕ, ◌+◌, ◌%◌, ◌^◌, ◌<◌, ◌≤◌, Bool, true, false, cond, eqb, List, [], ◌∷◌, ◌++◌, length, map, take, drop, replicate, All, Option, Some, Result, Ok, Err, refl, sym, ap, subst, ◌∙◌, arith}
+use Rattle.std.proofs.Common.{◌≡◌, ℕ, ◌+◌, ◌%◌, ◌^◌, ◌<◌, Bool, true, false, eqb, List, [], ◌∷◌, ◌++◌, length, map, take, drop, replicate, Option, Some, Ok, refl, sym, ap, subst, ◌∙◌, arith}
 use Rattle.std.specs.Prelude.{option_map, slice_index}
 use Rattle.std.specs.List.{AllByRecursion, flat_map}
 use Rattle.std.proofs.lemmas.Bool.{eq-eqb}
-use Rattle.std.proofs.lemmas.List.{append-nil, length-append, length-replicate, take_at}
+use Rattle.std.proofs.lemmas.List.{length-append, length-replicate, take_at}
 use Rattle.std.proofs.lemmas.List.Concat.{flat_map-cons}
 use Rattle.std.proofs.lemmas.List.Elements.{recursion_from_All}
 use Rattle.byteorder.specs.Endian.{big_bytes, big_number}
@@ -13,9 +13,8 @@ use Rattle.of10_msgs.proofs.Fields.{again, byte_past, cell, cells, drop_past}
 use Rattle.of10_msgs.proofs.SpelledBodies.{length_clear}
 use Rattle.of10_stats.specs.Kinds.{kind_at, number_of, reply_kind, request_kind}
 use Rattle.of10_stats.specs.Ranges.{IsBody, IsEntry, IsFilter, IsPort, IsRequest, widths}
-use Rattle.of10_stats.specs.Reading.{body_at, entry_at, items_at, or_bad_len, port_at, reply_in, reply_with, request_at, request_in, table_of, texts_of, typed_reply, typed_request, when}
-use Rattle.of10_stats.specs.Spelling.{SpellsBody, SpellsEach, SpellsEntry, SpellsPort, SpellsReply, SpellsRequest, body_bytes, body_with, entry_bytes, entry_size, joined, more_flag, port_bytes, port_size, reply_bytes, reply_padding, request_bytes, request_match, request_padding, request_with, start}
-use Rattle.of10_stats.specs.declared.fault.StatsFault.{StatsFault}
+use Rattle.of10_stats.specs.Reading.{body_at, entry_at, or_bad_len, port_at, reply_in, reply_with, request_at, request_in, table_of, texts_of, typed_reply, typed_request, when}
+use Rattle.of10_stats.specs.Spelling.{SpellsBody, SpellsEach, SpellsEntry, SpellsPort, SpellsReply, SpellsRequest, body_bytes, body_with, entry_bytes, entry_size, joined, more_flag, port_bytes, port_size, reply_bytes, request_bytes, request_match, request_padding, request_with, start}
 use Rattle.of10_stats.specs.declared.kind.StatsKind.{StatsKind}
 use Rattle.of10_stats.specs.declared.kind.StatsKind.TheVariants as kinds
 use Rattle.of10_stats.specs.declared.reply.FlowStat.{FlowStat}

@@ -1,7 +1,7 @@
 -- The texts that describe a switch, one after the other.
-use Rattle.std.proofs.Common.{◌≡◌, ℕ, zero, suc, ◌+◌, ◌-◌, ◌<◌, ◌≤◌, List, [], ◌∷◌, ◌++◌, length, get_or, map, take, drop, refl, sym, ap, ◌∙◌, append_assoc, arith}
+use Rattle.std.proofs.Common.{◌≡◌, ℕ, ◌+◌, ◌<◌, ◌≤◌, List, [], ◌∷◌, ◌++◌, length, get_or, take, drop, sym, ap, ◌∙◌, append_assoc}
 use Rattle.std.specs.Prelude.{sum}
-use Rattle.std.proofs.lemmas.List.{append-nil, drop_all, drop_more, length-drop}
+use Rattle.std.proofs.lemmas.List.{append-nil, drop_all, drop_more}
 use Rattle.of10_stats.specs.Reading.{texts_of}
 use Rattle.of10_stats.proofs.Lengths.{sum_cons}
 

@@ -1,8 +1,7 @@
 -- Entries and ports that were read at the front of bytes are there in whole.
-use Rattle.std.proofs.Common.{◌≡◌, ℕ, ◌+◌, ◌-◌, ◌<◌, ◌≤◌, Bool, true, false, cond, List, length, take, drop, Option, Some, None, refl, sym, ap, subst, ◌∙◌, arith}
+use Rattle.std.proofs.Common.{◌≡◌, ℕ, ◌-◌, ◌≤◌, Bool, true, false, List, length, Some, refl, sym, ap, ◌∙◌, arith}
 use Rattle.std.specs.Prelude.{◌&&◌, nat_le}
 use Rattle.std.proofs.lemmas.Bool.{leb-true}
-use Rattle.std.proofs.lemmas.List.{length-drop, length-set, length-take-le}
 use Rattle.std.proofs.lemmas.Option.{cond_some}
 use Rattle.of10_actions.specs.Reading.{u16_at}
 use Rattle.of10_msgs.specs.Reading.{span}

@@ -2,14 +2,13 @@
 use Rattle.std.proofs.Common.{◌≡◌, ℕ, ◌+◌, ◌*◌, ◌≤◌, List, [], ◌∷◌, ◌++◌, length, Result, Ok, Err, ap, sym, ◌∙◌, arith}
 use Rattle.std.specs.Prelude.{IfOk}
 use Rattle.std.specs.List.{AllByRecursion}
-use Rattle.std.proofs.lemmas.List.{length-append, length-drop}
+use Rattle.std.proofs.lemmas.List.{length-append}
 use Rattle.std.proofs.lemmas.List.Elements.{All-from_recursion, recursion_from_All}
 use Rattle.byteorder.specs.Endian.{big_bytes}
 use Rattle.of10_actions.specs.Spelling.{IsBytes}
 use Rattle.of10_stats.specs.Ranges.{CanWriteBody, CanWriteEntry, CanWriteRequest, IsBody, IsEntry}
 use Rattle.of10_stats.specs.Reading.{Gives, reply_in, request_in}
-use Rattle.of10_stats.specs.Spelling.{SpellsBody, SpellsEach, SpellsEntry, SpellsPort, entry_size, start}
-use Rattle.of10_stats.specs.Kinds.{number_of, reply_kind}
+use Rattle.of10_stats.specs.Spelling.{SpellsBody, SpellsEach, SpellsEntry, SpellsPort, entry_size}
 use Rattle.of10_stats.specs.declared.fault.StatsFault.{StatsFault}
 use Rattle.of10_stats.specs.declared.reply.FlowStat.{FlowStat}
 use Rattle.of10_stats.specs.declared.reply.PortStat.{PortStat}

@@ -1,5 +1,5 @@
 -- The numbers of requests and replies are in their ranges.
-use Rattle.std.specs.Prelude.{◌≡◌, ◌<◌, ◌≤◌, ◌^◌, ◌+◌, ◌*◌, ℕ, List, [], ◌∷◌, All, false, length, map}
+use Rattle.std.specs.Prelude.{◌≡◌, ◌<◌, ◌≤◌, ◌^◌, ◌+◌, ℕ, List, [], ◌∷◌, All, false, length, map}
 use Rattle.of10_msgs.specs.Ranges.{IsClear}
 use Rattle.of10_stats.specs.Spelling.{body_bytes, entry_size, request_match}
 use Rattle.of10_stats.specs.declared.reply.FlowStat.{FlowStat}

@@ -1,8 +1,8 @@
 -- Reading a body from its type on: the request or the reply, or the first fault in the order in which
 -- faults are looked for.
-use Rattle.std.specs.Prelude.{◌≡◌, ℕ, zero, suc, ◌+◌, ◌-◌, ◌%◌, Bool, List, [], ◌∷◌, length, take, drop, slice_index, Option, Some, None, option_map, Result, Ok, Err, nat_le, ◌==◌, ◌&&◌, if◌then◌else◌}
-use Rattle.of10_actions.specs.Reading.{u16_at, u32_at}
-use Rattle.of10_msgs.specs.Reading.{match_at, span, u64_at}
+use Rattle.std.specs.Prelude.{◌≡◌, ℕ, zero, suc, ◌-◌, ◌%◌, Bool, List, [], ◌∷◌, length, take, drop, slice_index, Option, Some, None, option_map, Result, Ok, Err, nat_le, ◌==◌, ◌&&◌, if◌then◌else◌}
+use Rattle.of10_actions.specs.Reading.{u16_at, u32_at, u64_at}
+use Rattle.of10_msgs.specs.Reading.{match_at, span}
 use Rattle.of10_stats.specs.Kinds.{kind_at, request_length}
 use Rattle.of10_stats.specs.Ranges.{widths}
 use Rattle.of10_stats.specs.Spelling.{entry_size, port_size}

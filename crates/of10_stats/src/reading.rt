@@ -11,7 +11,8 @@ use crate::kind::StatsKind;
 use crate::reply::{FlowStat, PortStat, ReplyBody, StatsReply};
 use crate::request::StatsRequest;
 use cv_io::{Bytes, List, Memory};
-use of10_msgs::field::{array_at, match_at, u16_at, u32_at, u64_at};
+use of10_actions::number::{u16_at, u32_at, u64_at};
+use of10_msgs::field::{array_at, match_at};
 use std::alloc::Global;
 
 /// How many bytes type and flags take.

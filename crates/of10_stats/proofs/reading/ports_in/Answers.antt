@@ -1,8 +1,8 @@
-use Rattle.std.proofs.Common.{◌≡◌, ◌<◌, ◌≤◌, ◌+◌, ◌∷◌, [], ◌++◌, List, ℕ, Some, None, drop, length, sym, ap, ◌∙◌, arith}
+use Rattle.std.proofs.Common.{◌≡◌, ◌≤◌, ◌+◌, Some, None, drop, length, sym, ap, ◌∙◌, arith}
 use Rattle.std.proofs.lemmas.List.{length-drop}
 use Rattle.of10_stats.specs.Reading.{port_at, items_at}
 use Rattle.of10_stats.specs.Spelling.{port_size}
-use Rattle.of10_stats.proofs.Items.{fails, goes_on, is_done, with_front}
+use Rattle.of10_stats.proofs.Items.{fails, goes_on, is_done}
 use Rattle.of10_stats.proofs.Whole.{port_whole}
 use Rattle.of10_stats.proofs.reading.ports_in.Goals as goal
 

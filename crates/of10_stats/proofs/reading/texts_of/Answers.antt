@@ -1,5 +1,4 @@
-use Rattle.std.proofs.Common.{◌≡◌, ◌+◌, ◌++◌, ◌∷◌, List, ℕ, [], take, ap, ◌∙◌, drop, get_or, length, arith}
-use Rattle.std.specs.Prelude.{sum}
+use Rattle.std.proofs.Common.{◌+◌, ◌++◌, ◌∷◌, List, ℕ, [], take, ap, ◌∙◌, drop, get_or, length, arith}
 use Rattle.std.proofs.lemmas.List.{length-drop}
 use Rattle.of10_stats.specs.Ranges.{widths}
 use Rattle.of10_stats.specs.Reading.{texts_of}

@@ -1,5 +1,5 @@
-use Rattle.std.proofs.Common.{◌≡◌, ◌+◌, ◌<◌, ◌++◌, ◌∷◌, [], List, ℕ, Bool, All, true, false, length, map, sym, ap, subst, ◌∙◌, take, drop, eqb-true, not, arith}
-use Rattle.of10_stats.specs.Parts.{bytes_of, part_replies, parts, taken}
+use Rattle.std.proofs.Common.{◌≡◌, ◌<◌, ◌++◌, ◌∷◌, [], List, ℕ, All, true, false, length, map, sym, ap, subst, ◌∙◌, take, drop, eqb-true, not, arith}
+use Rattle.of10_stats.specs.Parts.{bytes_of, part_replies, parts}
 use Rattle.of10_stats.specs.Ranges.{CanWriteEntry}
 use Rattle.of10_stats.specs.Spelling.{reply_message}
 use Rattle.of10_stats.specs.declared.reply.FlowStat.{FlowStat}
