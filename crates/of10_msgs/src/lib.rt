@@ -4,7 +4,7 @@
 
 pub mod command;
 pub mod fault;
-mod field;
+pub mod field;
 pub mod kind;
 pub mod laws;
 pub mod message;
