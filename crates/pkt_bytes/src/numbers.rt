@@ -36,7 +36,6 @@ pub(crate) fn put_u8(bytes: &mut [u8], place: usize, value: Option<u8>)
     }
 }
 
-#[tactic(auto, unfolding(crate::specs::Numbers::put))]
 pub(crate) fn put_u16(bytes: &mut [u8], place: usize, value: Option<u16>)
     requires { place + 2 ≤ length bytes.old }
     ensures { bytes.new ≡ put_if place 2 value bytes.old }
@@ -46,7 +45,6 @@ pub(crate) fn put_u16(bytes: &mut [u8], place: usize, value: Option<u16>)
     }
 }
 
-#[tactic(auto, unfolding(crate::specs::Numbers::put))]
 pub(crate) fn put_u32(bytes: &mut [u8], place: usize, value: Option<u32>)
     requires { place + 4 ≤ length bytes.old }
     ensures { bytes.new ≡ put_if place 4 value bytes.old }
@@ -56,7 +54,6 @@ pub(crate) fn put_u32(bytes: &mut [u8], place: usize, value: Option<u32>)
     }
 }
 
-#[tactic(auto, unfolding(crate::specs::Numbers::put))]
 pub(crate) fn put_u48(bytes: &mut [u8], place: usize, value: Option<u64>)
     requires there { place + 6 ≤ length bytes.old }
     requires fits { IfSome value (λ v. v < 2 ^ 48) }
