@@ -1,2 +1,4 @@
 pub mod Places
 pub mod Fields
+pub mod Layers
+pub mod HeaderAfter

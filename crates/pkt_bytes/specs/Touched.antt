@@ -1,5 +1,6 @@
 -- Which layers a rewrite needs, and which bytes it may replace.
-use Rattle.std.specs.Prelude.{ℕ, ◌+◌, ◌<◌, ◌≤◌, ◌≡◌, ◌≢◌, ◌⊎◌, ◌==◌, ◌&&◌, ◌||◌, Bool, true, false, not, List, Option, Some, None, is_some, OnSome, IfSome, IsTrue}
+use Rattle.std.specs.Prelude.{ℕ, ◌+◌, ◌^◌, ◌<◌, ◌≤◌, ◌≡◌, ◌≢◌, ◌⊎◌, ◌==◌, ◌&&◌, ◌||◌, Bool, true, false, not, List, Option, Some, None, is_some, OnSome, IfSome, IsTrue}
+use Rattle.of10_match.specs.Ranges.{IsTos}
 use Rattle.of10_actions.specs.Fields.{RewriteOf}
 use Rattle.of10_actions.specs.Rewriting.{is_tcp_udp}
 use Rattle.pkt_bytes.specs.declared.ipv4.Ipv4.{Ipv4}
@@ -7,6 +8,16 @@ use Rattle.pkt_bytes.specs.Headers.{header_in}
 use Rattle.pkt_bytes.specs.Ipv4.{ipv4_of, has_ports}
 use Rattle.pkt_bytes.specs.Numbers.{has}
 use Rattle.pkt_bytes.specs.Rewritten.{checksum_place}
+
+-- the values of a rewrite are in their ranges
+pub record IsRewrite (r : RewriteOf) : Type 0 where
+  pub dl_src : IfSome r.dl_src (λ v. v < 2 ^ 48)
+  pub dl_dst : IfSome r.dl_dst (λ v. v < 2 ^ 48)
+  pub nw_src : IfSome r.nw_src (λ v. v < 2 ^ 32)
+  pub nw_dst : IfSome r.nw_dst (λ v. v < 2 ^ 32)
+  pub nw_tos : IfSome r.nw_tos IsTos
+  pub tp_src : IfSome r.tp_src (λ v. v < 2 ^ 16)
+  pub tp_dst : IfSome r.tp_dst (λ v. v < 2 ^ 16)
 
 -- a field of the Ethernet header is set
 abbrev pub sets_dl : RewriteOf → Bool

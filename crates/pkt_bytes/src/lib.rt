@@ -4,6 +4,7 @@
 
 mod checksum;
 mod header;
+pub mod laws;
 mod ipv4;
 mod link;
 mod numbers;
