@@ -17,7 +17,7 @@ use Rattle.pkt_bytes.specs.Link.{link_of}
 use Rattle.pkt_bytes.specs.Numbers.{number_at, has}
 use Rattle.pkt_bytes.specs.Rewritten.{rewritten, tos_byte, with_dl, with_ip, with_nw, with_tp}
 use Rattle.pkt_bytes.specs.Touched.{AreWhole, IsOutside, IsRewrite, has_ports_if, sets_dl, sets_nw, sets_tp}
-use Rattle.pkt_bytes.proofs.Fields.{IsIn, behind-with_dl, dl_dst-with_dl, dl_src-with_dl, front-with_ip, get-with_nw, get-with_tp, has_ports-same, length-with_dl, length-with_ip, length-with_nw, nw_dst-with_nw, nw_src-with_nw, tos-with_nw, tp_dst-with_tp, tp_src-with_tp}
+use Rattle.pkt_bytes.proofs.Fields.{IsIn, behind-with_dl, dl_dst-with_dl, dl_src-with_dl, front-with_ip, get-with_nw, get-with_tp, has_ports-same, length-with_dl, length-with_ip, length-with_nw, nw_dst-with_nw, nw_src-with_nw, tos-with_nw, tp_dst-with_tp, tp_src-with_tp, with_tp-absent}
 use Rattle.pkt_bytes.proofs.Layers.{Agree, Carries, IsAt, ipv4_agrees, ipv4_is_at, ipv4_of_carries, ipv4_of_none, link_agrees, link_behind, link_ipv4}
 use Rattle.pkt_bytes.proofs.Places.{beside, number_at-same}
 
@@ -304,3 +304,163 @@ dl_part r xs ip place a hi =
     (λ k l u. front-with_ip ip r k (with_dl r xs) inside' (inl (omega arith)) (omega arith)
     ∙ get-with_tp ip r k (with_nw ip r (with_dl r xs)) (beside r.tp_src (inl (omega arith))) (beside r.tp_dst (inl (omega arith)))
     ∙ get-with_nw ip r k (with_dl r xs) (omega arith) (beside r.nw_tos (inl (omega arith))) (beside r.nw_src (inl (omega arith))) (beside r.nw_dst (inl (omega arith))))
+
+-- ---- the ports after the rewrite
+ports_case : (ip : Ipv4) (xs : List ℕ) → has_ports ip xs ≡ true
+    → ports_of ip xs ≡ record { src = number_at ip.transport 2 xs; dst = number_at (ip.transport + 2) 2 xs }
+unfolding ports_of
+ports_case ip xs e = rw e refl
+
+icmp_case : (ip : Ipv4) (xs : List ℕ) → has_ports ip xs ≡ false → has_icmp ip xs ≡ true
+    → ports_of ip xs ≡ record { src = slice_index xs ip.transport; dst = slice_index xs (ip.transport + 1) }
+unfolding ports_of
+icmp_case ip xs e f = rw (e, f) refl
+
+portless_case : (ip : Ipv4) (xs : List ℕ) → has_ports ip xs ≡ false → has_icmp ip xs ≡ false → ports_of ip xs ≡ record { src = 0; dst = 0 }
+unfolding ports_of
+portless_case ip xs e f = rw (e, f) refl
+
+-- with no ports the bytes behind the header stay
+transport_kept : (r : RewriteOf) (xs : List ℕ) (ip : Ipv4) (k : ℕ) → After r xs ip → has_ports ip xs ≡ false → ip.transport ≤ k → k < ip.transport + 6
+    → slice_index (with_ip ip r (with_dl r xs)) k ≡ slice_index xs k
+transport_kept r xs ip k a off lo hi =
+    let inside' = inside_after r xs ip a.long a.inside in
+    let header = inside'.header in
+    let there = inside'.there in
+    let behind = a.behind in
+    let none : has_ports ip (with_nw ip r (with_dl r xs)) ≡ false =
+    has_ports-same ip (with_nw ip r (with_dl r xs)) xs (length-with_nw ip r (with_dl r xs) (omega arith) ∙ length-with_dl r xs a.long) ∙ off in
+    front-with_ip ip r k (with_dl r xs) inside' (inr (omega arith)) (omega arith)
+    ∙ ap (λ (zs : List ℕ). slice_index zs k) (with_tp-absent ip r (with_nw ip r (with_dl r xs)) none)
+    ∙ get-with_nw ip r k (with_dl r xs) (omega arith) (beside r.nw_tos (inr (omega arith))) (beside r.nw_src (inr (omega arith))) (beside r.nw_dst (inr (omega arith)))
+    ∙ behind-with_dl r k xs a.long (omega arith)
+
+same_ports : (r : RewriteOf) (xs : List ℕ) (ip : Ipv4) → After r xs ip → has_ports ip xs ≡ false
+    → ports_of ip (with_ip ip r (with_dl r xs)) ≡ ports_of ip xs
+same_ports r xs ip a off =
+    let ys = with_ip ip r (with_dl r xs) in
+    let long = same_length r xs ip a in
+    let off' : has_ports ip ys ≡ false = has_ports-same ip ys xs long ∙ off in
+    let icmp : has_icmp ip ys ≡ has_icmp ip xs = ap (λ (n : ℕ). is_whole ip.fragment && (ip.protocol == 1 && nat_le (ip.transport + 2) n)) long in
+    elim (cases_Bool (has_icmp ip xs)) [
+      inl e ↦ let src = transport_kept r xs ip ip.transport a off (omega arith) (omega arith) in
+      let dst = transport_kept r xs ip (ip.transport + 1) a off (omega arith) (omega arith) in
+      icmp_case ip ys off' (icmp ∙ e) ∙ (λ i. record { src = src i; dst = dst i }) ∙ sym (icmp_case ip xs off e)
+    | inr e ↦ portless_case ip ys off' (icmp ∙ e) ∙ sym (portless_case ip xs off e) ]
+
+tp_src_after : (r : RewriteOf) (xs : List ℕ) (ip : Ipv4) → IsRewrite r → After r xs ip → has_ports ip xs ≡ true
+    → number_at ip.transport 2 (with_ip ip r (with_dl r xs)) ≡ set_to true r.tp_src (number_at ip.transport 2 xs)
+tp_src_after r xs ip fits a on =
+    let inside' = inside_after r xs ip a.long a.inside in
+    let header = inside'.header in
+    let there = inside'.there in
+    let behind = a.behind in
+    let zs = with_dl r xs in
+    let on' : has_ports ip (with_nw ip r zs) ≡ true = has_ports-same ip (with_nw ip r zs) xs (length-with_nw ip r zs (omega arith) ∙ length-with_dl r xs a.long) ∙ on in
+    number_at-same ip.transport 2 (with_ip ip r zs) (with_tp ip r (with_nw ip r zs)) (λ k l u. front-with_ip ip r k zs inside' (inr (omega arith)) (omega arith))
+    ∙ tp_src-with_tp ip r (with_nw ip r zs) fits on'
+    ∙ ap (set_to true r.tp_src) (number_at-same ip.transport 2 (with_nw ip r zs) xs
+    (λ k l u. get-with_nw ip r k zs (omega arith) (beside r.nw_tos (inr (omega arith))) (beside r.nw_src (inr (omega arith))) (beside r.nw_dst (inr (omega arith)))
+    ∙ behind-with_dl r k xs a.long (omega arith)))
+
+tp_dst_after : (r : RewriteOf) (xs : List ℕ) (ip : Ipv4) → IsRewrite r → After r xs ip → has_ports ip xs ≡ true
+    → number_at (ip.transport + 2) 2 (with_ip ip r (with_dl r xs)) ≡ set_to true r.tp_dst (number_at (ip.transport + 2) 2 xs)
+tp_dst_after r xs ip fits a on =
+    let inside' = inside_after r xs ip a.long a.inside in
+    let header = inside'.header in
+    let there = inside'.there in
+    let behind = a.behind in
+    let zs = with_dl r xs in
+    let on' : has_ports ip (with_nw ip r zs) ≡ true = has_ports-same ip (with_nw ip r zs) xs (length-with_nw ip r zs (omega arith) ∙ length-with_dl r xs a.long) ∙ on in
+    number_at-same (ip.transport + 2) 2 (with_ip ip r zs) (with_tp ip r (with_nw ip r zs)) (λ k l u. front-with_ip ip r k zs inside' (inr (omega arith)) (omega arith))
+    ∙ tp_dst-with_tp ip r (with_nw ip r zs) fits on'
+    ∙ ap (set_to true r.tp_dst) (number_at-same (ip.transport + 2) 2 (with_nw ip r zs) xs
+    (λ k l u. get-with_nw ip r k zs (omega arith) (beside r.nw_tos (inr (omega arith))) (beside r.nw_src (inr (omega arith))) (beside r.nw_dst (inr (omega arith)))
+    ∙ behind-with_dl r k xs a.long (omega arith)))
+
+-- a rewrite that sets a port finds ports, or another protocol
+no_protocol : (r : RewriteOf) (xs : List ℕ) (ip : Ipv4) → AreWhole r xs → ipv4_of xs ≡ Some ip → has_ports ip xs ≡ false
+    → IsTrue (sets_tp r) → is_tcp_udp ip.protocol ≡ false
+no_protocol r xs ip whole is off s =
+    let asked : (not (is_tcp_udp ip.protocol) || has_ports ip xs) ≡ true = ap (λ (o : Option Ipv4). has_ports_if o xs) (sym is) ∙ whole.tp s in
+    elim (or_cases (not (is_tcp_udp ip.protocol)) (has_ports ip xs) asked) [
+      inl e ↦ not-true (is_tcp_udp ip.protocol) e
+    | inr e ↦ absurd (both_ways (has_ports ip xs) off e) ]
+
+protocol_of_ports : (ip : Ipv4) (xs : List ℕ) → has_ports ip xs ≡ true → is_tcp_udp ip.protocol ≡ true
+protocol_of_ports ip xs on =
+    let rest = and_parts (is_whole ip.fragment) (is_tcp_udp ip.protocol && has (ip.transport + 4) xs) on in
+    let parts = and_parts (is_tcp_udp ip.protocol) (has (ip.transport + 4) xs) rest.1 in
+    parts.0
+
+pub record PortsAfter (r : RewriteOf) (xs ys : List ℕ) (ip : Ipv4) : Type 0 where
+  pub src : (ports_of ip ys).src ≡ set_to (is_tcp_udp ip.protocol) r.tp_src (ports_of ip xs).src
+  pub dst : (ports_of ip ys).dst ≡ set_to (is_tcp_udp ip.protocol) r.tp_dst (ports_of ip xs).dst
+
+ports_after : (r : RewriteOf) (xs : List ℕ) (ip : Ipv4) → IsRewrite r → AreWhole r xs → Packet xs ip → After r xs ip
+    → PortsAfter r xs (with_ip ip r (with_dl r xs)) ip
+ports_after r xs ip fits whole p a =
+    let ys = with_ip ip r (with_dl r xs) in
+    elim (cases_Bool (has_ports ip xs)) [
+      inl on ↦ let on' : has_ports ip ys ≡ true = has_ports-same ip ys xs (same_length r xs ip a) ∙ on in
+      let proto = protocol_of_ports ip xs on in
+      let was = ports_case ip xs on in
+      let now = ports_case ip ys on' in
+      record {
+        src = ap (λ (q : Ports). q.src) now ∙ tp_src_after r xs ip fits a on ∙ (λ i. set_to ((sym proto) i) r.tp_src ((sym was) i).src);
+        dst = ap (λ (q : Ports). q.dst) now ∙ tp_dst_after r xs ip fits a on ∙ (λ i. set_to ((sym proto) i) r.tp_dst ((sym was) i).dst);
+      }
+    | inr off ↦ let same = same_ports r xs ip a off in
+      let none = no_protocol r xs ip whole p.is off in
+      record {
+        src = ap (λ (q : Ports). q.src) same ∙ sym (unset (is_tcp_udp ip.protocol) r.tp_src (ports_of ip xs).src (λ s. none (or_left (is_some r.tp_src) _ s)));
+        dst = ap (λ (q : Ports). q.dst) same ∙ sym (unset (is_tcp_udp ip.protocol) r.tp_dst (ports_of ip xs).dst (λ s. none (or_right (is_some r.tp_src) _ s)));
+      } ]
+
+-- ---- the law
+packet_after : (r : RewriteOf) (in_port : ℕ) (xs : List ℕ) (ip : Ipv4) → IsRewrite r → AreWhole r xs → Packet xs ip
+    → header_in in_port (rewritten r xs) ≡ apply r (header_in in_port xs)
+packet_after r in_port xs ip fits whole p =
+    let a = after_of r xs ip p in
+    let ys = with_ip ip r (with_dl r xs) in
+    let p' = same_packet r xs ip p a in
+    let c = ipv4_of_carries xs ip p.is in
+    let link = sym (same_link r xs ip p a) in
+    let ip_type : is_ip (link_of xs).payload.dl_type ≡ true = ap is_ip c.dl_type in
+    let dl_src = dl_part r xs ip 6 a (omega arith) ∙ dl_src-with_dl r xs fits a.long in
+    let dl_dst = dl_part r xs ip 0 a (omega arith) ∙ dl_dst-with_dl r xs fits a.long in
+    let tos = tos_after r xs ip fits a in
+    let nw_src = nw_src_after r xs ip fits a in
+    let nw_dst = nw_dst_after r xs ip fits a in
+    let ports = ports_after r xs ip fits whole p a in
+    let fields : with_ipv4 (Some ip) ys (link_header (link_of ys) in_port ys) ≡ apply r (with_ipv4 (Some ip) xs (link_header (link_of xs) in_port xs)) =
+    λ i. record {
+      in_port = in_port;
+      dl_src = dl_src i;
+      dl_dst = dl_dst i;
+      dl_vlan = (link i).dl_vlan;
+      dl_vlan_pcp = (link i).dl_vlan_pcp;
+      dl_type = (link i).payload.dl_type;
+      nw_tos = (tos ∙ ap (λ (b : Bool). set_to b r.nw_tos (slice_index xs (ip.place + 1) / 4 * 4)) (sym ip_type)) i;
+      nw_proto = ip.protocol;
+      nw_src = (nw_src ∙ ap (λ (b : Bool). set_to b r.nw_src (number_at (ip.place + 12) 4 xs)) (sym ip_type)) i;
+      nw_dst = (nw_dst ∙ ap (λ (b : Bool). set_to b r.nw_dst (number_at (ip.place + 16) 4 xs)) (sym ip_type)) i;
+      tp_src = (ports.src ∙ ap (λ (b : Bool). set_to (b && is_tcp_udp ip.protocol) r.tp_src (ports_of ip xs).src) (sym ip_type)) i;
+      tp_dst = (ports.dst ∙ ap (λ (b : Bool). set_to (b && is_tcp_udp ip.protocol) r.tp_dst (ports_of ip xs).dst) (sym ip_type)) i;
+    } in
+    ap (header_in in_port) (packet_rewritten r xs ip p)
+    ∙ packet_header in_port ys ip p'
+    ∙ fields
+    ∙ sym (ap (apply r) (packet_header in_port xs ip p))
+
+carried : (r : RewriteOf) (in_port : ℕ) (xs : List ℕ) (found : Option Ipv4) → ipv4_of xs ≡ found → IsRewrite r → AreWhole r xs → has 14 xs ≡ true
+    → header_in in_port (rewritten r xs) ≡ apply r (header_in in_port xs)
+carried r in_port xs None is fits whole long = after_plain r in_port xs fits whole long is
+carried r in_port xs (Some ip) is fits whole long = packet_after r in_port xs ip fits whole (record { long = long; is = is })
+
+pub header_after : (r : RewriteOf) (in_port : ℕ) (xs : List ℕ) → IsRewrite r → AreWhole r xs
+    → header_in in_port (rewritten r xs) ≡ apply r (header_in in_port xs)
+header_after r in_port xs fits whole =
+    elim (cases_Bool (has 14 xs)) [
+      inl e ↦ carried r in_port xs (ipv4_of xs) refl fits whole e
+    | inr e ↦ after_short r in_port xs whole e ]
