@@ -66,7 +66,7 @@ apply_dl r h only =
 short_header : (in_port : ℕ) (xs : List ℕ) → has 14 xs ≡ false → header_in in_port xs ≡ no_header in_port
 short_header in_port xs e = rw e refl
 
-short_rewritten : (r : RewriteOf) (xs : List ℕ) → has 14 xs ≡ false → rewritten r xs ≡ xs
+pub short_rewritten : (r : RewriteOf) (xs : List ℕ) → has 14 xs ≡ false → rewritten r xs ≡ xs
 unfolding rewritten
 short_rewritten r xs e = rw e refl
 
@@ -89,7 +89,7 @@ long_header : (in_port : ℕ) (xs : List ℕ) → has 14 xs ≡ true
     → header_in in_port xs ≡ with_payload (link_of xs).payload xs (link_header (link_of xs) in_port xs)
 long_header in_port xs e = rw e refl
 
-plain_rewritten : (r : RewriteOf) (xs : List ℕ) → has 14 xs ≡ true → ipv4_of xs ≡ None → rewritten r xs ≡ with_dl r xs
+pub plain_rewritten : (r : RewriteOf) (xs : List ℕ) → has 14 xs ≡ true → ipv4_of xs ≡ None → rewritten r xs ≡ with_dl r xs
 unfolding rewritten
 plain_rewritten r xs e none = rw (e, none) refl
 
@@ -178,11 +178,11 @@ packet_header in_port xs ip p =
     let c = ipv4_of_carries xs ip p.is in
     long_header in_port xs p.long ∙ rw (c.dl_type, c.at) refl
 
-packet_rewritten : (r : RewriteOf) (xs : List ℕ) (ip : Ipv4) → Packet xs ip → rewritten r xs ≡ with_ip ip r (with_dl r xs)
+pub packet_rewritten : (r : RewriteOf) (xs : List ℕ) (ip : Ipv4) → Packet xs ip → rewritten r xs ≡ with_ip ip r (with_dl r xs)
 unfolding rewritten
 packet_rewritten r xs ip p = rw (p.long, p.is) refl
 
-inside_after : (r : RewriteOf) (xs : List ℕ) (ip : Ipv4) → 14 ≤ length xs → IsIn ip xs → IsIn ip (with_dl r xs)
+pub inside_after : (r : RewriteOf) (xs : List ℕ) (ip : Ipv4) → 14 ≤ length xs → IsIn ip xs → IsIn ip (with_dl r xs)
 inside_after r xs ip long inside =
     let same = length-with_dl r xs long in
     let there = inside.there in
@@ -201,13 +201,13 @@ kept r xs ip k long inside lo out hi =
     ∙ behind-with_dl r k xs long lo
 
 -- the frame after the rewrite
-record After (r : RewriteOf) (xs : List ℕ) (ip : Ipv4) : Type 0 where
-  long : 14 ≤ length xs
-  inside : IsIn ip xs
-  place_is : ip.place ≡ (link_of xs).payload.place
-  behind : 12 ≤ ip.place
+pub record After (r : RewriteOf) (xs : List ℕ) (ip : Ipv4) : Type 0 where
+  pub long : 14 ≤ length xs
+  pub inside : IsIn ip xs
+  pub place_is : ip.place ≡ (link_of xs).payload.place
+  pub behind : 12 ≤ ip.place
 
-after_of : (r : RewriteOf) (xs : List ℕ) (ip : Ipv4) → Packet xs ip → After r xs ip
+pub after_of : (r : RewriteOf) (xs : List ℕ) (ip : Ipv4) → Packet xs ip → After r xs ip
 after_of r xs ip p =
     let c = ipv4_of_carries xs ip p.is in
     let at = ipv4_is_at (link_of xs).payload.place xs ip c.at in

@@ -1,7 +1,8 @@
 //! Laws of frames and their rewrites. Each function does nothing; its clauses say what is proved.
-ghost use Rattle.std.specs.Prelude.{◌≡◌, ◌≤◌, ℕ, List, length, slice_index};
+ghost use Rattle.std.specs.Prelude.{◌≡◌, ◌≤◌, ◌<◌, ◌+◌, ◌^◌, ℕ, List, length, slice_index};
 ghost use Rattle.of10_actions.specs.Fields.{RewriteOf};
 ghost use Rattle.of10_actions.specs.Rewriting.{apply};
+ghost use Rattle.pkt_bytes.specs.Checksums.{IsRight, change, mended};
 ghost use Rattle.pkt_bytes.specs.Headers.{header_in};
 ghost use Rattle.pkt_bytes.specs.Rewritten.{rewritten};
 ghost use Rattle.pkt_bytes.specs.Touched.{AreWhole, IsApart, IsRewrite};
@@ -11,4 +12,19 @@ ghost use Rattle.pkt_bytes.specs.Touched.{AreWhole, IsApart, IsRewrite};
 pub fn header_after_rewrite()
     ensures { (r : RewriteOf) (in_port : ℕ) (bytes : List ℕ) → IsRewrite r → AreWhole r bytes
         → header_in in_port (rewritten r bytes) ≡ apply r (header_in in_port bytes) }
+{}
+
+/// A rewrite keeps the length of a frame, and each byte in no field that it sets and in no checksum.
+pub fn bytes_that_stay()
+    ensures length { (r : RewriteOf) (bytes : List ℕ) → length (rewritten r bytes) ≡ length bytes }
+    ensures apart { (r : RewriteOf) (bytes : List ℕ) (k : ℕ) → IsApart r bytes k
+        → slice_index (rewritten r bytes) k ≡ slice_index bytes k }
+{}
+
+/// Mending word by word is mending at once, and of words with a right checksum one may change.
+pub fn mending()
+    ensures at_once { (checksum first second : ℕ)
+        → mended (mended checksum first) second ≡ mended checksum (first + second) }
+    ensures right { (rest old new checksum : ℕ) → 0 < rest → old < 2 ^ 16 → checksum < 2 ^ 16
+        → IsRight (rest + old + checksum) → IsRight (rest + new + mended checksum (change old new)) }
 {}
