@@ -1,7 +1,10 @@
 -- Numbers at places of a list in which others were put.
-use Rattle.std.proofs.Common.{◌≡◌, ◌<◌, ◌≤◌, ◌+◌, ◌-◌, ◌^◌, ◌⊎◌, ℕ, zero, suc, true, List, [], ◌++◌, length, take, drop, slice_index, get_or, Option, Some, None, refl, sym, ap, ◌∙◌, inl, inr, arith, min}
+use Rattle.std.proofs.Common.{◌≡◌, ◌<◌, ◌≤◌, ◌+◌, ◌-◌, ◌^◌, ◌⊎◌, ℕ, zero, suc, true, List, [], ◌++◌, length, take, drop, slice_index, get_or, Option, Some, None, refl, sym, subst, ap, ◌∙◌, inl, inr, arith, min}
 use Rattle.std.specs.Prelude.{OnSome, IfSome}
 use Rattle.std.proofs.lemmas.List.{append-nil, length-append, length-take, length-drop, drop-drop, drop_all, drop_at, take_rest, length-take-le, get_or_append_left, get_or-append_right, get_or-take, get_or-drop, places}
+use Rattle.std.proofs.lemmas.Bool.{cases_lt}
+use Rattle.std.specs.Int.{byte_at, bytes_high_first}
+use Rattle.of10_actions.specs.Spelling.{IsBytes}
 use Rattle.byteorder.specs.Endian.{big_from, big_bytes}
 use Rattle.byteorder.specs.Numbers.{big_number-reads_back, length-bytes_high_first}
 use borrow.Rule.Slice.PartMut.{put_mid}
@@ -96,3 +99,35 @@ number_at-put_if place n (Some value) xs h fits = number_at-put place n value xs
 pub beside : {A : Type 0} (value : Option A) {P : Type 0} → P → OnSome value P
 beside None p = tt
 beside (Some v) p = p
+
+-- the bytes of the number itself
+get-put_in : (place n value k : ℕ) (xs : List ℕ) → place + n ≤ length xs → place ≤ k → k < place + n
+    → slice_index (put place n value xs) k ≡ slice_index (big_bytes n value) (k - place)
+unfolding put
+get-put_in place n value k xs h lo hi =
+    let long = length-bytes_high_first n value in
+    get_or-append_right (take place xs) (big_bytes n value ++ drop (place + n) xs) place k 0 (length-take-le place xs (omega arith)) lo
+    ∙ get_or_append_left (big_bytes n value) (drop (place + n) xs) 0 (k - place) (omega arith)
+
+digit-lt : (n x : ℕ) → byte_at n x < 256
+digit-lt zero x = omega arith
+digit-lt (suc n) x = omega arith
+
+digits-lt : (n x k : ℕ) → slice_index (bytes_high_first n x) k < 256
+digits-lt zero x k = omega arith
+digits-lt (suc n) x zero = digit-lt n x
+digits-lt (suc n) x (suc k) = digits-lt n x k
+
+-- bytes with a number in them are bytes
+pub IsBytes-put : (place n value : ℕ) (xs : List ℕ) → place + n ≤ length xs → IsBytes xs → IsBytes (put place n value xs)
+IsBytes-put place n value xs h bytes k =
+    let P : ℕ → Type 0 = λ (v : ℕ). v < 256 in
+    elim (cases_lt k place) [
+      inl front ↦ subst P (sym (get-put_before place n value k xs h front)) (bytes k)
+    | inr from ↦ elim (cases_lt k (place + n)) [
+        inl within ↦ subst P (sym (get-put_in place n value k xs h from within)) (digits-lt n value (k - place))
+      | inr behind ↦ subst P (sym (get-put_behind place n value k xs h behind)) (bytes k) ] ]
+
+pub IsBytes-put_if : (place n : ℕ) (value : Option ℕ) (xs : List ℕ) → place + n ≤ length xs → IsBytes xs → IsBytes (put_if place n value xs)
+IsBytes-put_if place n None xs h bytes = bytes
+IsBytes-put_if place n (Some value) xs h bytes = IsBytes-put place n value xs h bytes

@@ -1,5 +1,5 @@
 -- An IPv4 packet (RFC 791): where its parts stand, whether it is a fragment, and its ports.
-use Rattle.std.specs.Prelude.{ℕ, ◌+◌, ◌*◌, ◌%◌, ◌^◌, ◌==◌, ◌&&◌, Bool, true, false, nat_le, List, slice_index, Option, Some, None, if◌then◌else◌}
+use Rattle.std.specs.Prelude.{ℕ, ◌+◌, ◌-◌, ◌*◌, ◌/◌, ◌%◌, ◌^◌, ◌==◌, ◌&&◌, Bool, true, false, nat_le, List, slice_index, Option, Some, None, if◌then◌else◌}
 use Rattle.of10_actions.specs.Rewriting.{is_tcp_udp}
 use Rattle.pkt_bytes.specs.declared.ipv4.Fragment.{Fragment}
 use Rattle.pkt_bytes.specs.declared.ipv4.Fragment.TheVariants.{Whole, First, Later}
@@ -28,6 +28,10 @@ is_start Later = false
 -- the place behind a header at a place, whose length is four times the lower half of its first byte
 abbrev pub header_end : ℕ → List ℕ → ℕ
 header_end place bytes = place + 4 * (slice_index bytes place % 16)
+
+-- how many words of 16 bits a header has
+abbrev pub header_words : Ipv4 → ℕ
+header_words ip = (ip.transport - ip.place) / 2
 
 -- the packet whose header begins at a place, if that header is 20 bytes or longer and is there with its options
 unfoldable pub ipv4_at : ℕ → List ℕ → Option Ipv4

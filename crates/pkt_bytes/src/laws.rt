@@ -2,7 +2,11 @@
 ghost use Rattle.std.specs.Prelude.{◌≡◌, ◌≤◌, ◌<◌, ◌+◌, ◌^◌, ℕ, List, length, slice_index};
 ghost use Rattle.of10_actions.specs.Fields.{RewriteOf};
 ghost use Rattle.of10_actions.specs.Rewriting.{apply};
-ghost use Rattle.pkt_bytes.specs.Checksums.{IsRight, change, mended};
+ghost use Rattle.pkt_bytes.specs.Checksums.{IsRight, change, mended, words_sum};
+ghost use Rattle.pkt_bytes.specs.declared.ipv4.Ipv4.{Ipv4};
+ghost use Rattle.pkt_bytes.specs.Ipv4.{header_words, ipv4_of};
+ghost use Rattle.of10_actions.specs.Spelling.{IsBytes};
+ghost use Rattle.std.specs.Prelude.{Some};
 ghost use Rattle.pkt_bytes.specs.Headers.{header_in};
 ghost use Rattle.pkt_bytes.specs.Rewritten.{rewritten};
 ghost use Rattle.pkt_bytes.specs.Touched.{AreWhole, IsApart, IsRewrite};
@@ -27,4 +31,11 @@ pub fn mending()
         → mended (mended checksum first) second ≡ mended checksum (first + second) }
     ensures right { (rest old new checksum : ℕ) → 0 < rest → old < 2 ^ 16 → checksum < 2 ^ 16
         → IsRight (rest + old + checksum) → IsRight (rest + new + mended checksum (change old new)) }
+{}
+
+/// A right checksum of a header of IPv4 is right after a rewrite.
+pub fn right_headers()
+    ensures { (r : RewriteOf) (bytes : List ℕ) (ip : Ipv4) → IsRewrite r → IsBytes bytes
+        → ipv4_of bytes ≡ Some ip → IsRight (words_sum ip.place (header_words ip) bytes)
+        → IsRight (words_sum ip.place (header_words ip) (rewritten r bytes)) }
 {}
