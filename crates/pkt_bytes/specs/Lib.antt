@@ -5,3 +5,4 @@ pub mod Headers
 pub mod Checksums
 pub mod Rewritten
 pub mod Touched
+pub mod Worked

@@ -9,6 +9,7 @@ ghost use Rattle.of10_actions.specs.Spelling.{IsBytes};
 ghost use Rattle.std.specs.Prelude.{Some};
 ghost use Rattle.pkt_bytes.specs.Headers.{header_in};
 ghost use Rattle.pkt_bytes.specs.Rewritten.{rewritten};
+ghost use Rattle.pkt_bytes.specs.Worked.{CutShort, Mended, Redirected};
 ghost use Rattle.pkt_bytes.specs.Touched.{AreWhole, IsApart, IsRewrite};
 
 /// The header of a rewritten frame is the rewritten header, where each layer that the rewrite sets is whole
@@ -38,4 +39,11 @@ pub fn right_headers()
     ensures { (r : RewriteOf) (bytes : List ℕ) (ip : Ipv4) → IsRewrite r → IsBytes bytes
         → ipv4_of bytes ≡ Some ip → IsRight (words_sum ip.place (header_words ip) bytes)
         → IsRight (words_sum ip.place (header_words ip) (rewritten r bytes)) }
+{}
+
+/// The definitions give what is written by hand in these examples.
+pub fn worked_examples()
+    ensures redirected { Redirected }
+    ensures cut_short { CutShort }
+    ensures mended { Mended }
 {}
