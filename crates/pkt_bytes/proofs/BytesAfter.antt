@@ -42,8 +42,9 @@ apart_found r k xs (Some ip) is long apart =
 pub apart_stays : (r : RewriteOf) (xs : List ℕ) (k : ℕ) → IsApart r xs k → slice_index (rewritten r xs) k ≡ slice_index xs k
 apart_stays r xs k apart =
     elim (cases_Bool (has 14 xs)) [
-      inl e ↦ apart_found r k xs (ipv4_of xs) refl e apart
-    | inr e ↦ ap (λ (zs : List ℕ). slice_index zs k) (short_rewritten r xs e) ]
+      | inl e ↦ apart_found r k xs (ipv4_of xs) refl e apart
+      | inr e ↦ ap (λ (zs : List ℕ). slice_index zs k) (short_rewritten r xs e)
+    ]
 
 length_found : (r : RewriteOf) (xs : List ℕ) (found : Option Ipv4) → ipv4_of xs ≡ found → has 14 xs ≡ true → length (rewritten r xs) ≡ length xs
 length_found r xs None is long = ap length (plain_rewritten r xs long is) ∙ length-with_dl r xs (leb-true 14 (length xs) long)
@@ -55,5 +56,6 @@ length_found r xs (Some ip) is long =
 pub length_stays : (r : RewriteOf) (xs : List ℕ) → length (rewritten r xs) ≡ length xs
 length_stays r xs =
     elim (cases_Bool (has 14 xs)) [
-      inl e ↦ length_found r xs (ipv4_of xs) refl e
-    | inr e ↦ ap length (short_rewritten r xs e) ]
+      | inl e ↦ length_found r xs (ipv4_of xs) refl e
+      | inr e ↦ ap length (short_rewritten r xs e)
+    ]

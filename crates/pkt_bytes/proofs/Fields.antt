@@ -158,21 +158,23 @@ with_tp-absent ip r xs off = rw off refl
 pub length-with_tp : (ip : Ipv4) (r : RewriteOf) (xs : List ℕ) → length (with_tp ip r xs) ≡ length xs
 length-with_tp ip r xs =
     elim (cases_Bool (has_ports ip xs)) [
-      inl on ↦ let there = ports_there ip xs on in
-      let first = length-put_if ip.transport 2 r.tp_src xs (omega arith) in
-      ap length (with_tp-there ip r xs on) ∙ length-put_if (ip.transport + 2) 2 r.tp_dst (put_if ip.transport 2 r.tp_src xs) (omega arith) ∙ first
-    | inr off ↦ ap length (with_tp-absent ip r xs off) ]
+      | inl on ↦ let there = ports_there ip xs on in
+          let first = length-put_if ip.transport 2 r.tp_src xs (omega arith) in
+          ap length (with_tp-there ip r xs on) ∙ length-put_if (ip.transport + 2) 2 r.tp_dst (put_if ip.transport 2 r.tp_src xs) (omega arith) ∙ first
+      | inr off ↦ ap length (with_tp-absent ip r xs off)
+    ]
 
 pub get-with_tp : (ip : Ipv4) (r : RewriteOf) (k : ℕ) (xs : List ℕ) → OnSome r.tp_src (IsOutside ip.transport 2 k)
     → OnSome r.tp_dst (IsOutside (ip.transport + 2) 2 k) → slice_index (with_tp ip r xs) k ≡ slice_index xs k
 get-with_tp ip r k xs src dst =
     elim (cases_Bool (has_ports ip xs)) [
-      inl on ↦ let there = ports_there ip xs on in
-      let first = length-put_if ip.transport 2 r.tp_src xs (omega arith) in
-      ap (λ (zs : List ℕ). slice_index zs k) (with_tp-there ip r xs on)
-      ∙ get-put_if (ip.transport + 2) 2 r.tp_dst k (put_if ip.transport 2 r.tp_src xs) (omega arith) dst
-      ∙ get-put_if ip.transport 2 r.tp_src k xs (omega arith) src
-    | inr off ↦ ap (λ (zs : List ℕ). slice_index zs k) (with_tp-absent ip r xs off) ]
+      | inl on ↦ let there = ports_there ip xs on in
+          let first = length-put_if ip.transport 2 r.tp_src xs (omega arith) in
+          ap (λ (zs : List ℕ). slice_index zs k) (with_tp-there ip r xs on)
+          ∙ get-put_if (ip.transport + 2) 2 r.tp_dst k (put_if ip.transport 2 r.tp_src xs) (omega arith) dst
+          ∙ get-put_if ip.transport 2 r.tp_src k xs (omega arith) src
+      | inr off ↦ ap (λ (zs : List ℕ). slice_index zs k) (with_tp-absent ip r xs off)
+    ]
 
 pub tp_src-with_tp : (ip : Ipv4) (r : RewriteOf) (xs : List ℕ) → IsRewrite r → has_ports ip xs ≡ true
     → number_at ip.transport 2 (with_tp ip r xs) ≡ set_to true r.tp_src (number_at ip.transport 2 xs)
@@ -209,12 +211,14 @@ checksum_place-there ip xs =
     let tcp = is_start ip.fragment && (ip.protocol == 6 && has (ip.transport + 18) xs) in
     let udp = is_start ip.fragment && (ip.protocol == 17 && has (ip.transport + 8) xs) in
     elim (cases_Bool tcp) [
-      inl on ↦ let there = place_there ip 18 (is_start ip.fragment) (ip.protocol == 6) xs on in
-      rw on (omega arith, omega arith)
-    | inr off ↦ elim (cases_Bool udp) [
-        inl on ↦ let there = place_there ip 8 (is_start ip.fragment) (ip.protocol == 17) xs on in
-        rw (off, on) (omega arith, omega arith)
-      | inr nor ↦ rw (off, nor) tt ] ]
+      | inl on ↦ let there = place_there ip 18 (is_start ip.fragment) (ip.protocol == 6) xs on in
+          rw on (omega arith, omega arith)
+      | inr off ↦ elim (cases_Bool udp) [
+        | inl on ↦ let there = place_there ip 8 (is_start ip.fragment) (ip.protocol == 17) xs on in
+            rw (off, on) (omega arith, omega arith)
+        | inr nor ↦ rw (off, nor) tt
+      ]
+    ]
 
 -- a new checksum and where it stands
 abbrev pub IsNewChecksum : Ipv4 → List ℕ → Checksum → Type 0

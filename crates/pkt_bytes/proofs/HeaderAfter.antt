@@ -105,21 +105,23 @@ payload_after : (r : RewriteOf) (payload : Payload) (h : HeaderOf) (xs : List �
     → with_payload payload (with_dl r xs) (with_addresses r h) ≡ with_addresses r (with_payload payload xs h)
 payload_after r payload h xs long lo none =
     elim (cases_Bool (payload.dl_type == 0x0800)) [
-      inl e ↦ let was = none (eqb-true payload.dl_type 0x0800 e) in
-      let first = behind-with_dl r payload.place xs long lo in
-      let protocol = behind-with_dl r (payload.place + 9) xs long (omega arith) in
-      let word = behind_is r (payload.place + 6) 2 xs long (omega arith) in
-      let now : ipv4_at payload.place (with_dl r xs) ≡ None = ipv4_agrees payload.place (with_dl r xs) xs (length-with_dl r xs long) first protocol word ∙ was in
-      rw (e, was, now) refl
-    | inr e ↦ let same : has (payload.place + 28) (with_dl r xs) ≡ has (payload.place + 28) xs = ap (λ (n : ℕ). nat_le (payload.place + 28) n) (length-with_dl r xs long) in
-      elim (cases_Bool (payload.dl_type == 0x0806 && has (payload.place + 28) xs)) [
-        inl f ↦ let f' : (payload.dl_type == 0x0806 && has (payload.place + 28) (with_dl r xs)) ≡ true = ap (λ (b : Bool). payload.dl_type == 0x0806 && b) same ∙ f in
-        let proto = behind-with_dl r (payload.place + 7) xs long (omega arith) in
-        let src = behind_is r (payload.place + 14) 4 xs long (omega arith) in
-        let dst = behind_is r (payload.place + 24) 4 xs long (omega arith) in
-        rw (e, f, f') (λ i. record (with_addresses r h) { nw_proto = proto i; nw_src = src i; nw_dst = dst i })
-      | inr f ↦ let f' : (payload.dl_type == 0x0806 && has (payload.place + 28) (with_dl r xs)) ≡ false = ap (λ (b : Bool). payload.dl_type == 0x0806 && b) same ∙ f in
-        rw (e, f, f') refl ] ]
+      | inl e ↦ let was = none (eqb-true payload.dl_type 0x0800 e) in
+          let first = behind-with_dl r payload.place xs long lo in
+          let protocol = behind-with_dl r (payload.place + 9) xs long (omega arith) in
+          let word = behind_is r (payload.place + 6) 2 xs long (omega arith) in
+          let now : ipv4_at payload.place (with_dl r xs) ≡ None = ipv4_agrees payload.place (with_dl r xs) xs (length-with_dl r xs long) first protocol word ∙ was in
+          rw (e, was, now) refl
+      | inr e ↦ let same : has (payload.place + 28) (with_dl r xs) ≡ has (payload.place + 28) xs = ap (λ (n : ℕ). nat_le (payload.place + 28) n) (length-with_dl r xs long) in
+          elim (cases_Bool (payload.dl_type == 0x0806 && has (payload.place + 28) xs)) [
+            | inl f ↦ let f' : (payload.dl_type == 0x0806 && has (payload.place + 28) (with_dl r xs)) ≡ true = ap (λ (b : Bool). payload.dl_type == 0x0806 && b) same ∙ f in
+                let proto = behind-with_dl r (payload.place + 7) xs long (omega arith) in
+                let src = behind_is r (payload.place + 14) 4 xs long (omega arith) in
+                let dst = behind_is r (payload.place + 24) 4 xs long (omega arith) in
+                rw (e, f, f') (λ i. record (with_addresses r h) { nw_proto = proto i; nw_src = src i; nw_dst = dst i })
+            | inr f ↦ let f' : (payload.dl_type == 0x0806 && has (payload.place + 28) (with_dl r xs)) ≡ false = ap (λ (b : Bool). payload.dl_type == 0x0806 && b) same ∙ f in
+                rw (e, f, f') refl
+          ]
+    ]
 
 -- of such a frame dl_type is the link's, and there are no ports
 payload_type : (payload : Payload) (h : HeaderOf) (xs : List ℕ) → h.dl_type ≡ payload.dl_type → h.nw_proto ≡ 0
@@ -127,12 +129,14 @@ payload_type : (payload : Payload) (h : HeaderOf) (xs : List ℕ) → h.dl_type 
     → ((with_payload payload xs h).dl_type ≡ payload.dl_type) × (rewriting.has_ports (with_payload payload xs h).dl_type (with_payload payload xs h).nw_proto ≡ false)
 payload_type payload h xs type proto none =
     elim (cases_Bool (payload.dl_type == 0x0800)) [
-      inl e ↦ let was = none (eqb-true payload.dl_type 0x0800 e) in
-      rw (e, was) (type, rw (type, proto, eqb-true payload.dl_type 0x0800 e) refl)
-    | inr e ↦ let no_ip : is_ip h.dl_type ≡ false = ap is_ip type ∙ e in
-      elim (cases_Bool (payload.dl_type == 0x0806 && has (payload.place + 28) xs)) [
-        inl f ↦ rw (e, f) (type, ap (λ (b : Bool). b && is_tcp_udp (slice_index xs (payload.place + 7))) no_ip)
-      | inr f ↦ rw (e, f) (type, ap (λ (b : Bool). b && is_tcp_udp h.nw_proto) no_ip) ] ]
+      | inl e ↦ let was = none (eqb-true payload.dl_type 0x0800 e) in
+          rw (e, was) (type, rw (type, proto, eqb-true payload.dl_type 0x0800 e) refl)
+      | inr e ↦ let no_ip : is_ip h.dl_type ≡ false = ap is_ip type ∙ e in
+          elim (cases_Bool (payload.dl_type == 0x0806 && has (payload.place + 28) xs)) [
+            | inl f ↦ rw (e, f) (type, ap (λ (b : Bool). b && is_tcp_udp (slice_index xs (payload.place + 7))) no_ip)
+            | inr f ↦ rw (e, f) (type, ap (λ (b : Bool). b && is_tcp_udp h.nw_proto) no_ip)
+          ]
+    ]
 
 some_is_not_none : (value : Option Ipv4) → value ≡ None → IsTrue (is_some value) → ⊥
 some_is_not_none value e t = both_ways (is_some value) (ap (is_some {T = Ipv4}) e) t
@@ -161,8 +165,9 @@ after_plain r in_port xs fits whole e none =
     ap (λ (h : HeaderOf). rewriting.has_ports h.dl_type h.nw_proto) (long_header in_port xs e) ∙ known.1 in
     let nw : IsTrue (sets_nw r) → is_ip (header_in in_port xs).dl_type ≡ false =
     λ (s : IsTrue (sets_nw r)). elim (cases_Bool (is_ip (header_in in_port xs).dl_type)) [
-      inr f ↦ f
-    | inl f ↦ absurd (some_is_not_none (ipv4_of xs) none (whole.nw s (type_0 ∙ sym type ∙ eqb-true (header_in in_port xs).dl_type 0x0800 f))) ] in
+      | inr f ↦ f
+      | inl f ↦ absurd (some_is_not_none (ipv4_of xs) none (whole.nw s (type_0 ∙ sym type ∙ eqb-true (header_in in_port xs).dl_type 0x0800 f)))
+    ] in
     ap (header_in in_port) (plain_rewritten r xs e none)
     ∙ plain_header r in_port xs fits e none
     ∙ sym (apply_dl r (header_in in_port xs) (record { nw = nw; tp = ports }))
@@ -343,10 +348,11 @@ same_ports r xs ip a off =
     let off' : has_ports ip ys ≡ false = has_ports-same ip ys xs long ∙ off in
     let icmp : has_icmp ip ys ≡ has_icmp ip xs = ap (λ (n : ℕ). is_whole ip.fragment && (ip.protocol == 1 && nat_le (ip.transport + 2) n)) long in
     elim (cases_Bool (has_icmp ip xs)) [
-      inl e ↦ let src = transport_kept r xs ip ip.transport a off (omega arith) (omega arith) in
-      let dst = transport_kept r xs ip (ip.transport + 1) a off (omega arith) (omega arith) in
-      icmp_case ip ys off' (icmp ∙ e) ∙ (λ i. record { src = src i; dst = dst i }) ∙ sym (icmp_case ip xs off e)
-    | inr e ↦ portless_case ip ys off' (icmp ∙ e) ∙ sym (portless_case ip xs off e) ]
+      | inl e ↦ let src = transport_kept r xs ip ip.transport a off (omega arith) (omega arith) in
+          let dst = transport_kept r xs ip (ip.transport + 1) a off (omega arith) (omega arith) in
+          icmp_case ip ys off' (icmp ∙ e) ∙ (λ i. record { src = src i; dst = dst i }) ∙ sym (icmp_case ip xs off e)
+      | inr e ↦ portless_case ip ys off' (icmp ∙ e) ∙ sym (portless_case ip xs off e)
+    ]
 
 tp_src_after : (r : RewriteOf) (xs : List ℕ) (ip : Ipv4) → IsRewrite r → After r xs ip → has_ports ip xs ≡ true
     → number_at ip.transport 2 (with_ip ip r (with_dl r xs)) ≡ set_to true r.tp_src (number_at ip.transport 2 xs)
@@ -384,8 +390,9 @@ no_protocol : (r : RewriteOf) (xs : List ℕ) (ip : Ipv4) → AreWhole r xs → 
 no_protocol r xs ip whole is off s =
     let asked : (not (is_tcp_udp ip.protocol) || has_ports ip xs) ≡ true = ap (λ (o : Option Ipv4). has_ports_if o xs) (sym is) ∙ whole.tp s in
     elim (or_cases (not (is_tcp_udp ip.protocol)) (has_ports ip xs) asked) [
-      inl e ↦ not-true (is_tcp_udp ip.protocol) e
-    | inr e ↦ absurd (both_ways (has_ports ip xs) off e) ]
+      | inl e ↦ not-true (is_tcp_udp ip.protocol) e
+      | inr e ↦ absurd (both_ways (has_ports ip xs) off e)
+    ]
 
 protocol_of_ports : (ip : Ipv4) (xs : List ℕ) → has_ports ip xs ≡ true → is_tcp_udp ip.protocol ≡ true
 protocol_of_ports ip xs on =
@@ -402,20 +409,21 @@ ports_after : (r : RewriteOf) (xs : List ℕ) (ip : Ipv4) → IsRewrite r → Ar
 ports_after r xs ip fits whole p a =
     let ys = with_ip ip r (with_dl r xs) in
     elim (cases_Bool (has_ports ip xs)) [
-      inl on ↦ let on' : has_ports ip ys ≡ true = has_ports-same ip ys xs (same_length r xs ip a) ∙ on in
-      let proto = protocol_of_ports ip xs on in
-      let was = ports_case ip xs on in
-      let now = ports_case ip ys on' in
-      record {
-        src = ap (λ (q : Ports). q.src) now ∙ tp_src_after r xs ip fits a on ∙ (λ i. set_to ((sym proto) i) r.tp_src ((sym was) i).src);
-        dst = ap (λ (q : Ports). q.dst) now ∙ tp_dst_after r xs ip fits a on ∙ (λ i. set_to ((sym proto) i) r.tp_dst ((sym was) i).dst);
-      }
-    | inr off ↦ let same = same_ports r xs ip a off in
-      let none = no_protocol r xs ip whole p.is off in
-      record {
-        src = ap (λ (q : Ports). q.src) same ∙ sym (unset (is_tcp_udp ip.protocol) r.tp_src (ports_of ip xs).src (λ s. none (or_left (is_some r.tp_src) _ s)));
-        dst = ap (λ (q : Ports). q.dst) same ∙ sym (unset (is_tcp_udp ip.protocol) r.tp_dst (ports_of ip xs).dst (λ s. none (or_right (is_some r.tp_src) _ s)));
-      } ]
+      | inl on ↦ let on' : has_ports ip ys ≡ true = has_ports-same ip ys xs (same_length r xs ip a) ∙ on in
+          let proto = protocol_of_ports ip xs on in
+          let was = ports_case ip xs on in
+          let now = ports_case ip ys on' in
+          record {
+            src = ap (λ (q : Ports). q.src) now ∙ tp_src_after r xs ip fits a on ∙ (λ i. set_to ((sym proto) i) r.tp_src ((sym was) i).src);
+            dst = ap (λ (q : Ports). q.dst) now ∙ tp_dst_after r xs ip fits a on ∙ (λ i. set_to ((sym proto) i) r.tp_dst ((sym was) i).dst);
+          }
+      | inr off ↦ let same = same_ports r xs ip a off in
+          let none = no_protocol r xs ip whole p.is off in
+          record {
+            src = ap (λ (q : Ports). q.src) same ∙ sym (unset (is_tcp_udp ip.protocol) r.tp_src (ports_of ip xs).src (λ s. none (or_left (is_some r.tp_src) _ s)));
+            dst = ap (λ (q : Ports). q.dst) same ∙ sym (unset (is_tcp_udp ip.protocol) r.tp_dst (ports_of ip xs).dst (λ s. none (or_right (is_some r.tp_src) _ s)));
+          }
+    ]
 
 -- ---- the law
 packet_after : (r : RewriteOf) (in_port : ℕ) (xs : List ℕ) (ip : Ipv4) → IsRewrite r → AreWhole r xs → Packet xs ip
@@ -462,5 +470,6 @@ pub header_after : (r : RewriteOf) (in_port : ℕ) (xs : List ℕ) → IsRewrite
     → header_in in_port (rewritten r xs) ≡ apply r (header_in in_port xs)
 header_after r in_port xs fits whole =
     elim (cases_Bool (has 14 xs)) [
-      inl e ↦ carried r in_port xs (ipv4_of xs) refl fits whole e
-    | inr e ↦ after_short r in_port xs whole e ]
+      | inl e ↦ carried r in_port xs (ipv4_of xs) refl fits whole e
+      | inr e ↦ after_short r in_port xs whole e
+    ]

@@ -221,5 +221,6 @@ pub sum_stays : (r : RewriteOf) (xs : List ℕ) (ip : Ipv4) → IsRewrite r → 
     → IsRight (words_sum ip.place (header_words ip) xs) → IsRight (words_sum ip.place (header_words ip) (rewritten r xs))
 sum_stays r xs ip fits bytes is right =
     elim (cases_Bool (has 14 xs)) [
-      inl e ↦ sum_in_place ip r xs fits bytes (record { long = e; is = is }) right
-    | inr e ↦ subst IsRight (ap (λ (ys : List ℕ). words_sum ip.place (header_words ip) ys) (sym (short_rewritten r xs e))) right ]
+      | inl e ↦ sum_in_place ip r xs fits bytes (record { long = e; is = is }) right
+      | inr e ↦ subst IsRight (ap (λ (ys : List ℕ). words_sum ip.place (header_words ip) ys) (sym (short_rewritten r xs e))) right
+    ]

@@ -82,8 +82,8 @@ behind_type place xs ys e =
     record {
       behind = omega arith;
       same = λ a. let type = number_agrees place 2 place (payload_at place xs).place xs ys (omega arith) (omega arith) a in
-      let e' : nat_lt (number_at place 2 ys) 0x0600 ≡ false = ap (λ (n : ℕ). nat_lt n 0x0600) (sym type) ∙ e in
-      is ∙ (λ i. record { dl_type = type i; place = place + 2 }) ∙ sym (type_case place ys e');
+          let e' : nat_lt (number_at place 2 ys) 0x0600 ≡ false = ap (λ (n : ℕ). nat_lt n 0x0600) (sym type) ∙ e in
+          is ∙ (λ i. record { dl_type = type i; place = place + 2 }) ∙ sym (type_case place ys e');
     }
 
 behind_snap : (place : ℕ) (xs ys : List ℕ) → (payload_at place xs).place ≡ place + 10 → IsBehind place xs ys
@@ -95,13 +95,16 @@ behind_snap place xs ys at = record {
 pub ipv4_behind : (place : ℕ) (xs ys : List ℕ) → (payload_at place xs).dl_type ≡ 0x0800 → IsBehind place xs ys
 ipv4_behind place xs ys ip =
     elim (cases_Bool (nat_lt (number_at place 2 xs) 0x0600)) [
-      inr e ↦ behind_type place xs ys e
-    | inl e ↦ let long = length_case place xs e in
-      elim (cases_Bool (is_snap (place + 2) xs)) [
-        inr f ↦ let none : (payload_at place xs).dl_type ≡ 0x05ff = ap (λ (p : Payload). p.dl_type) (long ∙ no_snap (place + 2) xs f) in absurd (omega arith)
-      | inl f ↦ elim (cases_Bool (has (place + 2 + 8) xs)) [
-          inr g ↦ let none : (payload_at place xs).dl_type ≡ 0 = ap (λ (p : Payload). p.dl_type) (long ∙ cut_snap (place + 2) xs f g) in absurd (omega arith)
-        | inl g ↦ behind_snap place xs ys (ap (λ (p : Payload). p.place) (long ∙ whole_snap (place + 2) xs f g) ∙ omega arith) ] ] ]
+      | inr e ↦ behind_type place xs ys e
+      | inl e ↦ let long = length_case place xs e in
+          elim (cases_Bool (is_snap (place + 2) xs)) [
+            | inr f ↦ let none : (payload_at place xs).dl_type ≡ 0x05ff = ap (λ (p : Payload). p.dl_type) (long ∙ no_snap (place + 2) xs f) in absurd (omega arith)
+            | inl f ↦ elim (cases_Bool (has (place + 2 + 8) xs)) [
+              | inr g ↦ let none : (payload_at place xs).dl_type ≡ 0 = ap (λ (p : Payload). p.dl_type) (long ∙ cut_snap (place + 2) xs f g) in absurd (omega arith)
+              | inl g ↦ behind_snap place xs ys (ap (λ (p : Payload). p.place) (long ∙ whole_snap (place + 2) xs f g) ∙ omega arith)
+            ]
+          ]
+    ]
 
 tagged_case : (xs : List ℕ) → (number_at 12 2 xs == 0x8100) ≡ true → link_of xs ≡ tagged xs
 unfolding link_of
@@ -149,10 +152,12 @@ tagged_ipv4 xs ys e f ip a =
 pub link_ipv4 : (xs ys : List ℕ) → (link_of xs).payload.dl_type ≡ 0x0800 → Agree 12 (link_of xs).payload.place xs ys → link_of xs ≡ link_of ys
 link_ipv4 xs ys ip a =
     elim (cases_Bool (number_at 12 2 xs == 0x8100)) [
-      inr e ↦ untagged_ipv4 xs ys e ip a
-    | inl e ↦ elim (cases_Bool (has 18 xs)) [
-        inl f ↦ tagged_ipv4 xs ys e f ip a
-      | inr f ↦ let none : (link_of xs).payload.dl_type ≡ 0 = ap (λ (l : Link). l.payload.dl_type) (tagged_case xs e ∙ cut_tag xs f) in absurd (omega arith) ] ]
+      | inr e ↦ untagged_ipv4 xs ys e ip a
+      | inl e ↦ elim (cases_Bool (has 18 xs)) [
+        | inl f ↦ tagged_ipv4 xs ys e f ip a
+        | inr f ↦ let none : (link_of xs).payload.dl_type ≡ 0 = ap (λ (l : Link). l.payload.dl_type) (tagged_case xs e ∙ cut_tag xs f) in absurd (omega arith)
+      ]
+    ]
 
 -- ---- the packet
 pub ipv4_agrees : (place : ℕ) (xs ys : List ℕ) → length xs ≡ length ys → slice_index xs place ≡ slice_index ys place
@@ -185,18 +190,19 @@ same_value x y e = cc
 pub ipv4_is_at : (place : ℕ) (xs : List ℕ) (ip : Ipv4) → ipv4_at place xs ≡ Some ip → IsAt place ip xs
 ipv4_is_at place xs ip is =
     elim (cases_Bool (nat_le (place + 20) (header_end place xs) && has (header_end place xs) xs)) [
-      inr e ↦ absurd (none_is_some ip (sym (ipv4_absent place xs e) ∙ is))
-    | inl e ↦ let same = same_value _ ip (sym (ipv4_there place xs e) ∙ is) in
-      let at : place ≡ ip.place = ap (λ (p : Ipv4). p.place) same in
-      let ends : header_end place xs ≡ ip.transport = ap (λ (p : Ipv4). p.transport) same in
-      let parts = and_parts (nat_le (place + 20) (header_end place xs)) (has (header_end place xs) xs) e in
-      let low = leb-true (place + 20) (header_end place xs) parts.0 in
-      let high = leb-true (header_end place xs) (length xs) parts.1 in
-      record {
-        inside = record { header = omega arith; there = omega arith };
-        place_is = sym at;
-        transport_is = sym ends;
-      } ]
+      | inr e ↦ absurd (none_is_some ip (sym (ipv4_absent place xs e) ∙ is))
+      | inl e ↦ let same = same_value _ ip (sym (ipv4_there place xs e) ∙ is) in
+          let at : place ≡ ip.place = ap (λ (p : Ipv4). p.place) same in
+          let ends : header_end place xs ≡ ip.transport = ap (λ (p : Ipv4). p.transport) same in
+          let parts = and_parts (nat_le (place + 20) (header_end place xs)) (has (header_end place xs) xs) e in
+          let low = leb-true (place + 20) (header_end place xs) parts.0 in
+          let high = leb-true (header_end place xs) (length xs) parts.1 in
+          record {
+            inside = record { header = omega arith; there = omega arith };
+            place_is = sym at;
+            transport_is = sym ends;
+          }
+    ]
 
 -- the packet of a frame
 pub record Carries (xs : List ℕ) (ip : Ipv4) : Type 0 where
@@ -206,30 +212,36 @@ pub record Carries (xs : List ℕ) (ip : Ipv4) : Type 0 where
 pub ipv4_of_carries : (xs : List ℕ) (ip : Ipv4) → ipv4_of xs ≡ Some ip → Carries xs ip
 ipv4_of_carries xs ip is =
     elim (cases_Bool ((link_of xs).payload.dl_type == 0x0800)) [
-      inr e ↦ absurd (none_is_some ip (sym (rw e refl) ∙ is))
-    | inl e ↦ record { dl_type = eqb-true (link_of xs).payload.dl_type 0x0800 e; at = rw e at is } ]
+      | inr e ↦ absurd (none_is_some ip (sym (rw e refl) ∙ is))
+      | inl e ↦ record { dl_type = eqb-true (link_of xs).payload.dl_type 0x0800 e; at = rw e at is }
+    ]
 
 -- a payload begins behind its type, also where it is cut short
 pub payload_behind : (place : ℕ) (xs : List ℕ) → place ≤ (payload_at place xs).place
 payload_behind place xs =
     elim (cases_Bool (nat_lt (number_at place 2 xs) 0x0600)) [
-      inr e ↦ let at : (payload_at place xs).place ≡ place + 2 = ap (λ (p : Payload). p.place) (type_case place xs e) in omega arith
-    | inl e ↦ let long = length_case place xs e in
-      elim (cases_Bool (is_snap (place + 2) xs)) [
-        inr f ↦ let at : (payload_at place xs).place ≡ place + 2 = ap (λ (p : Payload). p.place) (long ∙ no_snap (place + 2) xs f) in omega arith
-      | inl f ↦ elim (cases_Bool (has (place + 2 + 8) xs)) [
-          inr g ↦ let at : (payload_at place xs).place ≡ place + 2 + 6 = ap (λ (p : Payload). p.place) (long ∙ cut_snap (place + 2) xs f g) in omega arith
-        | inl g ↦ let at : (payload_at place xs).place ≡ place + 2 + 8 = ap (λ (p : Payload). p.place) (long ∙ whole_snap (place + 2) xs f g) in omega arith ] ] ]
+      | inr e ↦ let at : (payload_at place xs).place ≡ place + 2 = ap (λ (p : Payload). p.place) (type_case place xs e) in omega arith
+      | inl e ↦ let long = length_case place xs e in
+          elim (cases_Bool (is_snap (place + 2) xs)) [
+            | inr f ↦ let at : (payload_at place xs).place ≡ place + 2 = ap (λ (p : Payload). p.place) (long ∙ no_snap (place + 2) xs f) in omega arith
+            | inl f ↦ elim (cases_Bool (has (place + 2 + 8) xs)) [
+              | inr g ↦ let at : (payload_at place xs).place ≡ place + 2 + 6 = ap (λ (p : Payload). p.place) (long ∙ cut_snap (place + 2) xs f g) in omega arith
+              | inl g ↦ let at : (payload_at place xs).place ≡ place + 2 + 8 = ap (λ (p : Payload). p.place) (long ∙ whole_snap (place + 2) xs f g) in omega arith
+            ]
+          ]
+    ]
 
 pub link_behind : (xs : List ℕ) → 12 ≤ (link_of xs).payload.place
 link_behind xs =
     elim (cases_Bool (number_at 12 2 xs == 0x8100)) [
-      inr e ↦ let at : (link_of xs).payload.place ≡ (payload_at 12 xs).place = ap (λ (l : Link). l.payload.place) (untagged_case xs e) in
-      let low = payload_behind 12 xs in omega arith
-    | inl e ↦ elim (cases_Bool (has 18 xs)) [
-        inr f ↦ let at : (link_of xs).payload.place ≡ 14 = ap (λ (l : Link). l.payload.place) (tagged_case xs e ∙ cut_tag xs f) in omega arith
-      | inl f ↦ let at : (link_of xs).payload.place ≡ (payload_at 16 xs).place = ap (λ (l : Link). l.payload.place) (tagged_case xs e ∙ whole_tag xs f) in
-        let low = payload_behind 16 xs in omega arith ] ]
+      | inr e ↦ let at : (link_of xs).payload.place ≡ (payload_at 12 xs).place = ap (λ (l : Link). l.payload.place) (untagged_case xs e) in
+          let low = payload_behind 12 xs in omega arith
+      | inl e ↦ elim (cases_Bool (has 18 xs)) [
+        | inr f ↦ let at : (link_of xs).payload.place ≡ 14 = ap (λ (l : Link). l.payload.place) (tagged_case xs e ∙ cut_tag xs f) in omega arith
+        | inl f ↦ let at : (link_of xs).payload.place ≡ (payload_at 16 xs).place = ap (λ (l : Link). l.payload.place) (tagged_case xs e ∙ whole_tag xs f) in
+            let low = payload_behind 16 xs in omega arith
+      ]
+    ]
 
 -- no packet is at the place of a payload of IPv4
 pub ipv4_of_none : (xs : List ℕ) → ipv4_of xs ≡ None → (link_of xs).payload.dl_type ≡ 0x0800 → ipv4_at (link_of xs).payload.place xs ≡ None

@@ -123,10 +123,12 @@ pub IsBytes-put : (place n value : ℕ) (xs : List ℕ) → place + n ≤ length
 IsBytes-put place n value xs h bytes k =
     let P : ℕ → Type 0 = λ (v : ℕ). v < 256 in
     elim (cases_lt k place) [
-      inl front ↦ subst P (sym (get-put_before place n value k xs h front)) (bytes k)
-    | inr from ↦ elim (cases_lt k (place + n)) [
-        inl within ↦ subst P (sym (get-put_in place n value k xs h from within)) (digits-lt n value (k - place))
-      | inr behind ↦ subst P (sym (get-put_behind place n value k xs h behind)) (bytes k) ] ]
+      | inl front ↦ subst P (sym (get-put_before place n value k xs h front)) (bytes k)
+      | inr from ↦ elim (cases_lt k (place + n)) [
+        | inl within ↦ subst P (sym (get-put_in place n value k xs h from within)) (digits-lt n value (k - place))
+        | inr behind ↦ subst P (sym (get-put_behind place n value k xs h behind)) (bytes k)
+      ]
+    ]
 
 pub IsBytes-put_if : (place n : ℕ) (value : Option ℕ) (xs : List ℕ) → place + n ≤ length xs → IsBytes xs → IsBytes (put_if place n value xs)
 IsBytes-put_if place n None xs h bytes = bytes

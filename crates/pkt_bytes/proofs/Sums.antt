@@ -8,15 +8,17 @@ pub ones_sum_is : (total : ℕ) → (q : ℕ) × (ones_sum total + 65535 * q ≡
 unfolding ones_sum
 ones_sum_is total =
     elim (cases_Bool (total == 0)) [
-      inl e ↦ let z = eqb-true total 0 e in (0, rw e (omega arith))
-    | inr e ↦ let nz = eqb-false total 0 e in ((total - 1) / 65535, rw e (omega arith)) ]
+      | inl e ↦ let z = eqb-true total 0 e in (0, rw e (omega arith))
+      | inr e ↦ let nz = eqb-false total 0 e in ((total - 1) / 65535, rw e (omega arith))
+    ]
 
 pub ones_sum-le : (total : ℕ) → ones_sum total ≤ 65535
 unfolding ones_sum
 ones_sum-le total =
     elim (cases_Bool (total == 0)) [
-      inl e ↦ rw e (omega arith)
-    | inr e ↦ rw e (omega arith) ]
+      | inl e ↦ rw e (omega arith)
+      | inr e ↦ rw e (omega arith)
+    ]
 
 -- a right sum is a multiple of 65535 above zero
 pub right_is : (total : ℕ) → IsRight total → (s : ℕ) × (total ≡ 65535 * (s + 1))
@@ -32,8 +34,9 @@ pub change_is : (old new : ℕ) → old < 65536 → (q : ℕ) × (change old new
 unfolding change
 change_is old new fits =
     elim (cases_Bool (old == new)) [
-      inl e ↦ let same = eqb-true old new e in (0, rw e (omega arith))
-    | inr e ↦ (1, rw e (omega arith)) ]
+      | inl e ↦ let same = eqb-true old new e in (0, rw e (omega arith))
+      | inr e ↦ (1, rw e (omega arith))
+    ]
 
 -- and a mended checksum takes it away
 pub mended_is : (checksum changes : ℕ) → checksum < 65536 → (q : ℕ) × (mended checksum changes + changes ≡ checksum + 65535 * q)
@@ -56,15 +59,17 @@ zero_sum : (total : ℕ) → ones_sum total ≡ 0 → total ≡ 0
 unfolding ones_sum
 zero_sum total e =
     elim (cases_Bool (total == 0)) [
-      inl f ↦ eqb-true total 0 f
-    | inr f ↦ let h : (total - 1) % 65535 + 1 ≡ 0 = rw f at e in absurd (omega arith) ]
+      | inl f ↦ eqb-true total 0 f
+      | inr f ↦ let h : (total - 1) % 65535 + 1 ≡ 0 = rw f at e in absurd (omega arith)
+    ]
 
 -- numbers up to 65535 that are equal modulo 65535, and zero together
 same_sum : (u v a b : ℕ) → u ≤ 65535 → v ≤ 65535 → u + 65535 * a ≡ v + 65535 * b → (u ≡ 0 → v ≡ 0) → (v ≡ 0 → u ≡ 0) → u ≡ v
 same_sum u v a b lu lv e f g =
     elim (cases_eq u 0) [
-      inl z ↦ z ∙ sym (f z)
-    | inr nu ↦ elim (cases_eq v 0) [ inl z ↦ absurd (nu (g z)) | inr nv ↦ omega arith ] ]
+      | inl z ↦ z ∙ sym (f z)
+      | inr nu ↦ elim (cases_eq v 0) [ inl z ↦ absurd (nu (g z)) | inr nv ↦ omega arith ]
+    ]
 
 ones_sum_add : (x y : ℕ) → ones_sum (ones_sum x + y) ≡ ones_sum (x + y)
 ones_sum_add x y =

@@ -120,8 +120,7 @@ impl Ipv4 {
         ensures { result ≡ has_ports_of self bytes.now }
     {
         self.fragment.is_whole()
-            && ((self.protocol == TCP || self.protocol == UDP)
-                && self.transport + 4 <= bytes.len())
+            && ((self.protocol == TCP || self.protocol == UDP) && self.transport + 4 <= bytes.len())
     }
 
     fn has_icmp(self, bytes: &[u8]) -> bool

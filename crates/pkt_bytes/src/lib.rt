@@ -4,11 +4,14 @@
 
 mod checksum;
 mod header;
-pub mod laws;
 mod ipv4;
+pub mod laws;
 mod link;
 mod numbers;
 mod rewriting;
 
 pub use header::header_of;
 pub use rewriting::rewrite;
+
+#[cfg(test)]
+mod tests;

@@ -23,6 +23,7 @@ const FIRST_TYPE: u16 = 0x0600;
 
 /// How many bytes of LLC and SNAP stand in front of a type, and which these are for Ethernet.
 const SNAP: usize = 6;
+
 const SNAP_BYTES: u64 = 0xaaaa_0300_0000;
 
 /// The dl_type of a frame that has a length and no type.
