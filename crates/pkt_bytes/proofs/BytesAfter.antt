@@ -1,15 +1,15 @@
 -- The bytes of a rewritten frame that stay, and its length.
-use Rattle.std.proofs.Common.{nat_le, ◌≡◌, ◌<◌, ◌≤◌, ◌+◌, ◌&&◌, ℕ, Bool, true, false, List, length, slice_index, Option, Some, None, refl, sym, subst, ap, ◌∙◌, inl, inr, arith}
-use Rattle.std.specs.Prelude.{IfSome}
+use Rattle.std.proofs.Common.{◌≡◌, ℕ, true, List, length, slice_index, Option, Some, None, refl, sym, ap, ◌∙◌, inl, inr}
 use Rattle.std.proofs.lemmas.Bool.{cases_Bool, leb-true}
 use Rattle.of10_actions.specs.Fields.{RewriteOf}
 use Rattle.pkt_bytes.specs.declared.ipv4.Ipv4.{Ipv4}
 use Rattle.pkt_bytes.specs.Ipv4.{ipv4_of}
 use Rattle.pkt_bytes.specs.Numbers.{has}
-use Rattle.pkt_bytes.specs.Rewritten.{checksum_place, rewritten, with_dl, with_ip}
+use Rattle.pkt_bytes.specs.Rewritten.{checksum_place, rewritten, with_dl}
 use Rattle.pkt_bytes.specs.Touched.{IsApart, IsApartInIp}
-use Rattle.pkt_bytes.proofs.Fields.{IsIn, apart-with_ip, get-with_dl, length-with_dl, length-with_ip}
-use Rattle.pkt_bytes.proofs.HeaderAfter.{Packet, inside_after, packet_rewritten, plain_rewritten, short_rewritten, After, after_of}
+use Rattle.pkt_bytes.proofs.Fields.{apart-with_ip, get-with_dl, length-with_dl, length-with_ip}
+use Rattle.pkt_bytes.proofs.PacketAfter.{Packet, inside_after, packet_rewritten, after_of}
+use Rattle.pkt_bytes.proofs.PlainAfter.{plain_rewritten, short_rewritten}
 
 -- the place of a checksum depends on how long the frame is
 checksum_place-same : (ip : Ipv4) (xs ys : List ℕ) → length xs ≡ length ys → checksum_place ip xs ≡ checksum_place ip ys

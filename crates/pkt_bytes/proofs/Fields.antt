@@ -1,5 +1,5 @@
 -- What a rewrite leaves of a frame and what it sets, field by field.
-use Rattle.std.proofs.Common.{◌==◌, nat_le, ◌≡◌, ◌<◌, ◌≤◌, ◌+◌, ◌*◌, ◌%◌, ◌^◌, ◌⊎◌, ◌&&◌, ℕ, Bool, true, false, List, length, slice_index, Option, Some, None, refl, sym, ap, ◌∙◌, inl, inr, subst, arith}
+use Rattle.std.proofs.Common.{◌==◌, nat_le, ◌≡◌, ◌<◌, ◌≤◌, ◌+◌, ◌%◌, ◌^◌, ◌⊎◌, ◌&&◌, ℕ, Bool, true, false, List, length, slice_index, Option, Some, None, refl, sym, ap, ◌∙◌, inl, inr, arith}
 use Rattle.std.specs.Prelude.{OnSome, IfSome}
 use Rattle.std.specs.Option.{option_map}
 use Rattle.std.proofs.lemmas.Bool.{cases_Bool, and_parts, leb-true}

@@ -1,18 +1,18 @@
 -- The checksum of a header after a rewrite.
-use Rattle.std.proofs.Common.{◌==◌, ◌≡◌, ◌<◌, ◌≤◌, ◌+◌, ◌-◌, ◌*◌, ◌/◌, ◌%◌, ◌^◌, ℕ, zero, suc, Bool, true, false, List, [], ◌∷◌, ◌++◌, length, slice_index, get_or, Option, Some, None, refl, sym, subst, ap, ◌∙◌, inl, inr, arith}
+use Rattle.std.proofs.Common.{◌≡◌, ◌<◌, ◌≤◌, ◌+◌, ◌-◌, ◌*◌, ◌/◌, ◌%◌, ◌^◌, ℕ, zero, suc, true, List, length, slice_index, Option, Some, None, refl, sym, subst, ap, ◌∙◌, inl, inr, arith}
 use Rattle.std.specs.Prelude.{IfSome}
 use Rattle.std.specs.Option.{option_map}
-use Rattle.std.specs.Int.{byte_at, bytes_high_first}
 use Rattle.of10_actions.specs.Fields.{RewriteOf}
 use Rattle.of10_actions.specs.Rewriting.{set_to}
 use Rattle.of10_actions.specs.Spelling.{IsBytes}
 use Rattle.pkt_bytes.specs.declared.ipv4.Ipv4.{Ipv4}
 use Rattle.pkt_bytes.specs.declared.rewriting.Checksum.{Checksum}
 use Rattle.std.proofs.lemmas.Bool.{cases_Bool}
-use Rattle.pkt_bytes.specs.Checksums.{IsRight, change, mended, words_sum}
+use Rattle.pkt_bytes.specs.Checksums.{IsRight, words_sum}
 use Rattle.pkt_bytes.specs.Ipv4.{header_end, header_words, ipv4_of}
 use Rattle.pkt_bytes.specs.Link.{link_of}
-use Rattle.pkt_bytes.proofs.HeaderAfter.{Packet, after_of, inside_after, packet_rewritten, short_rewritten}
+use Rattle.pkt_bytes.proofs.PacketAfter.{Packet, after_of, inside_after, packet_rewritten}
+use Rattle.pkt_bytes.proofs.PlainAfter.{short_rewritten}
 use Rattle.pkt_bytes.proofs.Layers.{ipv4_is_at, ipv4_of_carries}
 use Rattle.pkt_bytes.specs.Numbers.{has, number_at, put, put_if}
 use Rattle.pkt_bytes.specs.Rewritten.{address_change, header_checksum, new_checksum, nw_change, rewritten, tos_byte, tos_change, with_checksum, with_dl, with_ip, with_nw, with_tp, word_change}

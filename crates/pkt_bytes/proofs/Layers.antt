@@ -1,5 +1,5 @@
 -- Frames that agree where their layers are read have the same layers.
-use Rattle.std.proofs.Common.{◌==◌, nat_le, nat_lt, ◌≡◌, ◌<◌, ◌≤◌, ◌+◌, ◌*◌, ◌/◌, ◌%◌, ◌^◌, ◌&&◌, ℕ, Bool, true, false, List, length, slice_index, Option, Some, None, refl, sym, ap, ◌∙◌, inl, inr, arith}
+use Rattle.std.proofs.Common.{◌==◌, nat_le, nat_lt, ◌≡◌, ◌<◌, ◌≤◌, ◌+◌, ◌/◌, ◌%◌, ◌&&◌, ℕ, true, false, List, length, slice_index, Some, None, refl, sym, ap, ◌∙◌, inl, inr, arith}
 use Rattle.std.proofs.lemmas.Bool.{cases_Bool, and_parts, leb-true, eqb-true}
 use Rattle.pkt_bytes.specs.declared.ipv4.Ipv4.{Ipv4}
 use Rattle.pkt_bytes.specs.declared.link.Link.{Link}

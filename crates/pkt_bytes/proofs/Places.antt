@@ -1,7 +1,7 @@
 -- Numbers at places of a list in which others were put.
-use Rattle.std.proofs.Common.{◌≡◌, ◌<◌, ◌≤◌, ◌+◌, ◌-◌, ◌^◌, ◌⊎◌, ℕ, zero, suc, true, List, [], ◌++◌, length, take, drop, slice_index, get_or, Option, Some, None, refl, sym, subst, ap, ◌∙◌, inl, inr, arith, min}
+use Rattle.std.proofs.Common.{◌≡◌, ◌<◌, ◌≤◌, ◌+◌, ◌-◌, ◌^◌, ℕ, zero, suc, true, List, [], ◌++◌, length, take, drop, slice_index, get_or, Option, Some, None, refl, sym, subst, ap, ◌∙◌, inl, inr, arith}
 use Rattle.std.specs.Prelude.{OnSome, IfSome}
-use Rattle.std.proofs.lemmas.List.{append-nil, length-append, length-take, length-drop, drop-drop, drop_all, drop_at, take_rest, length-take-le, get_or_append_left, get_or-append_right, get_or-take, get_or-drop, places}
+use Rattle.std.proofs.lemmas.List.{append-nil, length-append, length-take, length-drop, drop-drop, drop_all, drop_at, take_rest, length-take-le, get_or_append_left, get_or-append_right, get_or-take, get_or-drop}
 use Rattle.std.proofs.lemmas.Bool.{cases_lt}
 use Rattle.std.specs.Int.{byte_at, bytes_high_first}
 use Rattle.of10_actions.specs.Spelling.{IsBytes}

@@ -1,6 +1,6 @@
 -- The internet checksum (RFC 1071): the complement of the one's complement sum of words of 16 bits, and how
 -- it is mended where words change (RFC 1624).
-use Rattle.std.specs.Prelude.{ℕ, zero, suc, ◌+◌, ◌-◌, ◌/◌, ◌%◌, ◌≡◌, ◌==◌, List, Option, Some, None, if◌then◌else◌}
+use Rattle.std.specs.Prelude.{ℕ, zero, suc, ◌+◌, ◌-◌, ◌%◌, ◌≡◌, ◌==◌, List, if◌then◌else◌}
 use Rattle.pkt_bytes.specs.Numbers.{number_at}
 
 -- the one's complement sum of words whose plain sum this is: 0 for 0 alone, else from 1 to 65535, equal

@@ -1,6 +1,5 @@
 -- The definitions, computed on frames whose bytes are written by hand.
-use Rattle.std.specs.Prelude.{◌≡◌, ℕ, List, [], ◌∷◌, Some, None}
-use Rattle.of10_match.specs.Fields.{HeaderOf}
+use Rattle.std.specs.Prelude.{◌≡◌, ℕ, List, [], ◌∷◌, Some}
 use Rattle.of10_actions.specs.Fields.{RewriteOf}
 use Rattle.of10_actions.specs.Rewriting.{no_rewrite}
 use Rattle.pkt_bytes.specs.Checksums.{mended, change}

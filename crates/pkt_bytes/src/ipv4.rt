@@ -1,6 +1,6 @@
 //! Packets of IPv4.
 ghost use Rattle.std.specs.Prelude.{◌≡◌, ◌≤◌, ◌<◌, ◌+◌, length, IfSome};
-ghost use Rattle.pkt_bytes.specs.Ipv4.{fragment_of, has_icmp as has_icmp_of, has_ports as has_ports_of, ipv4_at, ipv4_of, is_start as is_start_of, is_whole as is_whole_of, ports_of};
+ghost use Rattle.pkt_bytes.specs.Ipv4 as spec;
 
 use crate::link::Link;
 use crate::numbers::u16_at;
@@ -49,7 +49,7 @@ pub struct Ports {
 impl Fragment {
     /// What the flags and the offset say.
     fn of(word: u16) -> Fragment
-        ensures { result ≡ fragment_of word }
+        ensures { result ≡ spec.fragment_of word }
     {
         if word & 0x3fff == 0 {
             Fragment::Whole
@@ -61,14 +61,14 @@ impl Fragment {
     }
 
     fn is_whole(self) -> bool
-        ensures { result ≡ is_whole_of self }
+        ensures { result ≡ spec.is_whole self }
     {
         matches!(self, Fragment::Whole)
     }
 
     /// Whether the packet has the start of what is cut into fragments.
     pub(crate) fn is_start(self) -> bool
-        ensures { result ≡ is_start_of self }
+        ensures { result ≡ spec.is_start self }
     {
         !matches!(self, Fragment::Later)
     }
@@ -79,7 +79,7 @@ impl Ipv4 {
     #[tactic(auto, unfolding(crate::specs::Ipv4::ipv4_at))]
     pub fn at(bytes: &[u8], place: usize) -> Option<Ipv4>
         requires { place < 32 }
-        ensures value { result ≡ ipv4_at place bytes.now }
+        ensures value { result ≡ spec.ipv4_at place bytes.now }
         ensures header { IfSome result (λ ip. ip.place + 20 ≤ ip.transport) }
         ensures near { IfSome result (λ ip. ip.transport < 128) }
         ensures there { IfSome result (λ ip. ip.transport ≤ length bytes.now) }
@@ -102,7 +102,7 @@ impl Ipv4 {
     /// The packet that a frame carries which has at least an Ethernet header.
     pub fn of(bytes: &[u8]) -> Option<Ipv4>
         requires { 14 ≤ length bytes.now }
-        ensures value { result ≡ ipv4_of bytes.now }
+        ensures value { result ≡ spec.ipv4_of bytes.now }
         ensures header { IfSome result (λ ip. ip.place + 20 ≤ ip.transport) }
         ensures near { IfSome result (λ ip. ip.transport < 128) }
         ensures there { IfSome result (λ ip. ip.transport ≤ length bytes.now) }
@@ -117,7 +117,7 @@ impl Ipv4 {
     /// Whether the ports of TCP or UDP are there.
     pub(crate) fn has_ports(self, bytes: &[u8]) -> bool
         requires { self.transport < 128 }
-        ensures { result ≡ has_ports_of self bytes.now }
+        ensures { result ≡ spec.has_ports self bytes.now }
     {
         self.fragment.is_whole()
             && ((self.protocol == TCP || self.protocol == UDP) && self.transport + 4 <= bytes.len())
@@ -125,7 +125,7 @@ impl Ipv4 {
 
     fn has_icmp(self, bytes: &[u8]) -> bool
         requires { self.transport < 128 }
-        ensures { result ≡ has_icmp_of self bytes.now }
+        ensures { result ≡ spec.has_icmp self bytes.now }
     {
         self.fragment.is_whole() && (self.protocol == ICMP && self.transport + 2 <= bytes.len())
     }
@@ -134,7 +134,7 @@ impl Ipv4 {
     #[tactic(auto, unfolding(crate::specs::Ipv4::ports_of))]
     pub(crate) fn ports(self, bytes: &[u8]) -> Ports
         requires { self.transport < 128 }
-        ensures { result ≡ ports_of self bytes.now }
+        ensures { result ≡ spec.ports_of self bytes.now }
     {
         if self.has_ports(bytes) {
             Ports {

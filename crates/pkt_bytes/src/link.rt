@@ -1,7 +1,7 @@
 //! The Ethernet header of a frame.
 ghost use Rattle.std.specs.Prelude.{◌≡◌, ◌≤◌, ◌<◌, ◌+◌, length};
 ghost use Rattle.of10_match.specs.Ranges.{IsVlan};
-ghost use Rattle.pkt_bytes.specs.Link.{is_snap as is_snap_at, link_of, payload_at as payload_in, payload_behind_length as payload_behind_length_in};
+ghost use Rattle.pkt_bytes.specs.Link as spec;
 
 use crate::numbers::{u16_at, u48_at};
 use of10_match::UNTAGGED;
@@ -48,7 +48,7 @@ pub struct Link {
 /// Whether a SNAP header of a type of Ethernet stands at a place.
 fn is_snap(bytes: &[u8], place: usize) -> bool
     requires { place < 64 }
-    ensures { result ≡ is_snap_at place bytes.now }
+    ensures { result ≡ spec.is_snap place bytes.now }
 {
     place + SNAP <= bytes.len() && u48_at(bytes, place) == SNAP_BYTES
 }
@@ -56,7 +56,7 @@ fn is_snap(bytes: &[u8], place: usize) -> bool
 /// What follows the length of a frame.
 fn payload_behind_length(bytes: &[u8], place: usize) -> Payload
     requires { place < 32 }
-    ensures value { result ≡ payload_behind_length_in place bytes.now }
+    ensures value { result ≡ spec.payload_behind_length place bytes.now }
     ensures near { result.place ≤ place + 8 }
 {
     if !is_snap(bytes, place) {
@@ -80,7 +80,7 @@ fn payload_behind_length(bytes: &[u8], place: usize) -> Payload
 fn payload_at(bytes: &[u8], place: usize) -> Payload
     requires near { place < 17 }
     requires there { place + 2 ≤ length bytes.now }
-    ensures value { result ≡ payload_in place bytes.now }
+    ensures value { result ≡ spec.payload_at place bytes.now }
     ensures near { result.place < 32 }
 {
     let dl_type = u16_at(bytes, place);
@@ -97,7 +97,7 @@ impl Link {
     #[tactic(auto, unfolding(crate::specs::Link::link_of))]
     pub fn of(bytes: &[u8]) -> Link
         requires { 14 ≤ length bytes.now }
-        ensures value { result ≡ link_of bytes.now }
+        ensures value { result ≡ spec.link_of bytes.now }
         ensures dl_vlan { IsVlan result.dl_vlan }
         ensures dl_vlan_pcp { result.dl_vlan_pcp < 8 }
         ensures near { result.payload.place < 32 }
