@@ -19,7 +19,8 @@ tos_byte tos old = option_map (λ upper. upper + old % 4) tos
 -- with the type of service and the addresses of IPv4 replaced
 unfoldable pub with_nw : Ipv4 → RewriteOf → List ℕ → List ℕ
 with_nw ip r bytes =
-    put_if (ip.place + 16) 4 r.nw_dst (put_if (ip.place + 12) 4 r.nw_src (put_if (ip.place + 1) 1 (tos_byte r.nw_tos (slice_index bytes (ip.place + 1))) bytes))
+    put_if (ip.place + 16) 4 r.nw_dst (put_if (ip.place + 12) 4 r.nw_src
+    (put_if (ip.place + 1) 1 (tos_byte r.nw_tos (slice_index bytes (ip.place + 1))) bytes))
 
 -- with the ports replaced
 unfoldable pub with_tp : Ipv4 → RewriteOf → List ℕ → List ℕ
@@ -36,7 +37,8 @@ word_change place (Some value) bytes = change (number_at place 2 bytes) value
 -- the same of an address, which is two words
 unfoldable pub address_change : ℕ → Option ℕ → List ℕ → ℕ
 address_change place address bytes =
-    word_change place (option_map (λ a. a / 65536) address) bytes + word_change (place + 2) (option_map (λ a. a % 65536) address) bytes
+    word_change place (option_map (λ a. a / 65536) address) bytes
+    + word_change (place + 2) (option_map (λ a. a % 65536) address) bytes
 
 -- what the addresses add
 unfoldable pub nw_change : Ipv4 → RewriteOf → List ℕ → ℕ
@@ -45,7 +47,8 @@ nw_change ip r bytes = address_change (ip.place + 12) r.nw_src bytes + address_c
 -- what the type of service adds, which is the lower byte of its word
 unfoldable pub tos_change : Ipv4 → RewriteOf → List ℕ → ℕ
 tos_change ip r bytes =
-    word_change ip.place (option_map (λ tos. slice_index bytes ip.place * 256 + tos) (tos_byte r.nw_tos (slice_index bytes (ip.place + 1)))) bytes
+    let tos = tos_byte r.nw_tos (slice_index bytes (ip.place + 1)) in
+    word_change ip.place (option_map (λ lower. slice_index bytes ip.place * 256 + lower) tos) bytes
 
 -- what the ports add
 unfoldable pub tp_change : Ipv4 → RewriteOf → List ℕ → ℕ
@@ -63,7 +66,9 @@ unfoldable pub checksum_place : Ipv4 → List ℕ → Option ℕ
 checksum_place ip bytes =
     if is_start ip.fragment && (ip.protocol == 6 && has (ip.transport + 18) bytes)
     then Some (ip.transport + 16)
-    else (if is_start ip.fragment && (ip.protocol == 17 && has (ip.transport + 8) bytes) then Some (ip.transport + 6) else None)
+    else (if is_start ip.fragment && (ip.protocol == 17 && has (ip.transport + 8) bytes)
+    then Some (ip.transport + 6)
+    else None)
 
 -- a checksum of UDP after changes (RFC 768): 0 says that there is none, and 0xffff stands for 0
 abbrev pub udp_mended : ℕ → ℕ → ℕ
@@ -80,7 +85,8 @@ transport_checksum place ip r bytes =
 -- the checksum of TCP or UDP after the rewrite, if it is there
 unfoldable pub new_checksum : Ipv4 → RewriteOf → List ℕ → Option Checksum
 new_checksum ip r bytes =
-    option_map (λ place. record { place = place; value = transport_checksum place ip r bytes }) (checksum_place ip bytes)
+    let checksum_at : ℕ → Checksum = λ place. record { place = place; value = transport_checksum place ip r bytes } in
+    option_map checksum_at (checksum_place ip bytes)
 
 -- with a checksum at its place
 abbrev pub with_checksum : Option Checksum → List ℕ → List ℕ
@@ -90,7 +96,8 @@ with_checksum (Some checksum) bytes = put checksum.place 2 checksum.value bytes
 -- with the fields of IPv4 and of its transport replaced, and then both checksums
 unfoldable pub with_ip : Ipv4 → RewriteOf → List ℕ → List ℕ
 with_ip ip r bytes =
-    with_checksum (new_checksum ip r bytes) (put (ip.place + 10) 2 (header_checksum ip r bytes) (with_tp ip r (with_nw ip r bytes)))
+    with_checksum (new_checksum ip r bytes)
+    (put (ip.place + 10) 2 (header_checksum ip r bytes) (with_tp ip r (with_nw ip r bytes)))
 
 -- the same where the frame carries IPv4
 abbrev pub with_ip_if : Option Ipv4 → RewriteOf → List ℕ → List ℕ
