@@ -1,6 +1,7 @@
 //! Laws of the levels: each function does nothing, and its contract is a law over all numbers.
 ghost use Rattle.std.specs.Prelude.{◌≡◌};
 ghost use Rattle.alg_priority.specs.Sizes.{WIDEST as widest};
+ghost use Rattle.alg_priority.specs.Worked.{Capped, EightLevels};
 ghost use Rattle.alg_priority.specs.Laws.{SumIsBelow, SumRises, ConcatIsBelow, ConcatCompares, ShiftIsBelow, ShiftIsAbove, ShiftRises, SumSizeGroups, ConcatSizeGroups, ShiftSizeGroups, SizesArePositive, SaturatesOnce};
 
 use crate::width::WIDEST;
@@ -40,4 +41,10 @@ pub fn widest_meets()
 /// A size that is computed by saturating steps is the size itself, saturated once.
 pub fn saturation_is_late()
     ensures { SaturatesOnce }
+{}
+
+/// What the definitions give in examples.
+pub fn worked_examples()
+    ensures levels { EightLevels }
+    ensures capped { Capped }
 {}
