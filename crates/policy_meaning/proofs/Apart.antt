@@ -1,5 +1,5 @@
 -- Rules of lists, each two of which are disjoint.
-use Rattle.std.proofs.Common.{◌≡◌, ◌≢◌, ℕ, Bool, true, false, ◌⊎◌, inl, inr, List, [], ◌∷◌, ◌++◌, Option, Some, None, refl, ap, ◌∙◌, sym, subst, eq-eqb, append_assoc}
+use Rattle.std.proofs.Common.{◌≡◌, ℕ, true, false, ◌⊎◌, inl, inr, List, [], ◌∷◌, ◌++◌, Option, Some, None, refl, ap, ◌∙◌, sym, eq-eqb, append_assoc}
 use Rattle.std.specs.Prelude.{flat_map, filter_map, unwrap_or}
 use Rattle.std.specs.List.{AllByRecursion, cons_option}
 use Rattle.cv_io.specs.declared.leaf.Leaf.{Leaf}
@@ -8,7 +8,7 @@ use Rattle.of10_match.specs.Matching.{both, fits, fits_prefix, holds, overlaps}
 use Rattle.of10_match.specs.declared.header.Prefix.{Prefix}
 use Rattle.of10_match.proofs.MeetSelf.{overlaps_self}
 use Rattle.of10_match.proofs.Twelve.{each-intro}
-use Rattle.policy_meaning.specs.Disjoint.{AreAllDisjoint, AreDisjoint, Begins, DisjointRulesDiffer}
+use Rattle.policy_meaning.specs.Disjoint.{AreDisjoint, Begins, DisjointRulesDiffer}
 use Rattle.policy_meaning.specs.LeafFact.{EachPair}
 use Rattle.policy_meaning.specs.declared.rule.Rule.{Rule}
 use Rattle.policy_meaning.proofs.Booleans.{fails, true_not_false}

@@ -1,5 +1,5 @@
 -- The rules of tables, of expressions and of nodes are disjoint.
-use Rattle.std.proofs.Common.{◌≡◌, ◌≢◌, ℕ, zero, suc, ◌+◌, Bool, true, false, ◌||◌, List, [], ◌∷◌, ◌++◌, Option, Some, None, refl, ap, ◌∙◌, sym, subst, arith, eq-eqb, eqb-true, append_assoc}
+use Rattle.std.proofs.Common.{◌≡◌, ◌≢◌, ℕ, zero, suc, ◌+◌, Bool, true, false, ◌||◌, List, [], ◌∷◌, ◌++◌, Option, Some, None, refl, ap, ◌∙◌, sym, subst, arith, eq-eqb, eqb-true}
 use Rattle.std.specs.Prelude.{flat_map, filter_map, if◌then◌else◌, map, slice_get, ◌==◌}
 use Rattle.std.specs.List.{AllByRecursion}
 use Rattle.cv_io.specs.declared.leaf.Leaf.{Leaf}
@@ -18,7 +18,7 @@ use Rattle.alg_priority.specs.Levels.{concat_level, shift_level}
 use Rattle.policy_expr.specs.Policy.{Policy, member, parallel, sequential, override, members_of}
 use Rattle.policy_expr.specs.Sizes.{size_of}
 use Rattle.policy_meaning.specs.CentralFact.{EachMember}
-use Rattle.policy_meaning.specs.Disjoint.{AreAllDisjoint, AreDisjoint, Begins, HasNormalMatches, HasOrderlyTable, IsOrderly, IsOrderlyPolicy, IsTableOfMember, LeafRulesAreDisjoint, NodesAreDisjoint, RulesAreDisjoint}
+use Rattle.policy_meaning.specs.Disjoint.{AreAllDisjoint, AreDisjoint, HasOrderlyTable, IsOrderly, IsOrderlyPolicy, IsTableOfMember, LeafRulesAreDisjoint, NodesAreDisjoint, RulesAreDisjoint}
 use Rattle.policy_meaning.specs.Hops.{Fabric, at_node, hop_lone, hop_rule, hop_size, hopped, hops_on, leads, node, peers_size, without_port}
 use Rattle.policy_meaning.specs.Leaf.{has_port}
 use Rattle.policy_meaning.specs.LeafFact.{EachPair}
@@ -29,7 +29,6 @@ use Rattle.policy_meaning.specs.Switches.{SwitchOf}
 use Rattle.policy_meaning.specs.Walk.{arriving}
 use Rattle.policy_meaning.specs.declared.leaf.LeafEntry.{LeafEntry}
 use Rattle.policy_meaning.specs.declared.leaf.LeafTable.{LeafTable}
-use Rattle.policy_meaning.specs.declared.network.Network.{Network}
 use Rattle.policy_meaning.specs.declared.network.Onward.{Onward}
 use Rattle.policy_meaning.specs.declared.rule.Rule.{Rule}
 use Rattle.policy_meaning.proofs.Apart.{IsMadeAfter, IsMadeOf, after-disjoint, heads, made-disjoint, narrower, overlapping, pairs-append, pairs-filter_map, pairs-flat_map}
@@ -43,7 +42,6 @@ use Rattle.policy_meaning.proofs.Meeting.{meet_holds, some_meet, some_met, some_
 use Rattle.policy_meaning.proofs.Nodes.{fits-met, fits-open, link_of, port-holds}
 use Rattle.policy_meaning.proofs.Normality.{normal-at_port, normal-everything, normal-without_port}
 use Rattle.policy_meaning.proofs.Pairs.{each-chain, each-shift, each-sum}
-use Rattle.policy_meaning.proofs.Peers.{leading}
 
 -- a rule that stands alone is made of itself
 itself : (x c : Rule) → c.ancestry ≡ x.ancestry → c.m ≡ x.m → IsMadeOf x c

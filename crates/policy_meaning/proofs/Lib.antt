@@ -27,5 +27,6 @@ pub mod Apart
 pub mod Disjointness
 pub mod Writes
 pub mod WrittenRules
+pub mod RangedRules
 pub mod Rising
 pub mod Listings

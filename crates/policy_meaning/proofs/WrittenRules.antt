@@ -1,8 +1,7 @@
 -- Rules are written by so many actions for each of their leaves.
-use Rattle.std.proofs.Common.{◌≡◌, ℕ, zero, suc, ◌+◌, ◌*◌, ◌<◌, ◌≤◌, Bool, true, false, List, [], ◌∷◌, ◌++◌, Option, Some, None, refl, ap, subst, sym, arith, length, length-append}
+use Rattle.std.proofs.Common.{◌≡◌, ℕ, zero, suc, ◌+◌, ◌*◌, ◌<◌, ◌≤◌, Bool, true, false, List, [], ◌∷◌, ◌++◌, Option, Some, None, refl, subst, arith, length, length-append}
 use Rattle.std.specs.Prelude.{filter_map, flat_map, if◌then◌else◌, map, slice_get}
 use Rattle.std.specs.List.{AllByRecursion}
-use Rattle.std.proofs.Math.Nat.{mul-le-mul_left, mul-le-mul_right}
 use Rattle.cv_io.specs.declared.leaf.Leaf.{Leaf}
 use Rattle.of10_match.specs.Fields.{MatchOf}
 use Rattle.of10_match.specs.Matching.{at_port, both, overlaps}
@@ -13,26 +12,24 @@ use Rattle.of10_actions.specs.declared.effects.Tail.TheVariants.{Link, Nothing, 
 use Rattle.pull_back.specs.Pulling.{can_pull, pulled}
 use Rattle.policy_expr.specs.Policy.{Policy, member, members_of, override, parallel, sequential}
 use Rattle.policy_expr.specs.Sizes.{leaf_count, size_of}
-use Rattle.alg_priority.specs.Levels.{concat_level, shift_level}
 use Rattle.policy_meaning.specs.Best.{IsSound}
 use Rattle.policy_meaning.specs.CentralFact.{EachLeft, EachMember, IsPlainLeaf, IsPlainRule}
-use Rattle.policy_meaning.specs.EveryNode.{HasPlainTable, HasSoundTable, IsSoundNetwork}
-use Rattle.policy_meaning.specs.Hops.{Fabric, at_node, hop_lone, hop_rule, hop_size, hopped, hops_on, last_rule, leads, node, peers_size, without_port}
+use Rattle.policy_meaning.specs.EveryNode.{HasPlainTable, HasSoundTable}
+use Rattle.policy_meaning.specs.Hops.{Fabric, at_node, hop_lone, hop_rule, hop_size, hopped, hops_on, leads, node, peers_size, without_port}
 use Rattle.policy_meaning.specs.LeafRules.{cells, entry_rule, has_outside, in_cells, leaf_rules, miss_rule, outside_rule, rule_met}
 use Rattle.policy_meaning.specs.Networks.{fabric_of, ground_of, ports_of, switch_has, switch_rules, table_rules, table_size}
-use Rattle.policy_meaning.specs.Rules.{chained, lifted, rules_of, summed}
+use Rattle.policy_meaning.specs.Rules.{chained, rules_of, summed}
 use Rattle.policy_meaning.specs.Switches.{SwitchOf}
 use Rattle.policy_meaning.specs.Written.{EntriesAreWrittenBy, HasLeaves, IsWrittenBy, NodesAreWritten, NodesHaveLeaves, RulesAreWritten, RulesHaveLeaves, writes}
 use Rattle.policy_meaning.specs.declared.leaf.LeafEntry.{LeafEntry}
 use Rattle.policy_meaning.specs.declared.leaf.LeafTable.{LeafTable}
 use Rattle.policy_meaning.specs.declared.network.Onward.{Onward}
 use Rattle.policy_meaning.specs.declared.rule.Rule.{Rule}
-use Rattle.policy_meaning.proofs.BestLemmas.{Any, anything}
 use Rattle.policy_meaning.proofs.Booleans.{some_injective}
 use Rattle.policy_meaning.proofs.Building.{rises, rises-ended}
 use Rattle.policy_meaning.proofs.Cells.{narrowed}
 use Rattle.policy_meaning.proofs.Central.{all-plain, each-member, rules-are-sound}
-use Rattle.policy_meaning.proofs.Everywhere.{each-left, sound-fabric, switch-sound, table-plain, table-sound}
+use Rattle.policy_meaning.proofs.Everywhere.{each-left, sound-fabric, table-plain, table-sound}
 use Rattle.policy_meaning.proofs.Lists.{all-append, all-each, all-filter_map, all-flat_map, all-map, all-mapped, all-zip}
 use Rattle.policy_meaning.proofs.Meeting.{some_met, some_pulled}
 use Rattle.policy_meaning.proofs.Nodes.{AtPort, link_of, node-at}

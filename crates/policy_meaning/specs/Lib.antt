@@ -15,6 +15,7 @@ pub mod Order
 pub mod Fitting
 pub mod Disjoint
 pub mod Written
+pub mod Ranged
 pub mod WorkedTables
 pub mod WorkedRules
 pub mod WorkedHops

@@ -1,7 +1,7 @@
 -- The members of the worked examples: their tables, and headers of packets.
 use Rattle.std.specs.Prelude.{ℕ, Bool, true, false, Some, List, [], ◌∷◌}
 use Rattle.of10_match.specs.Fields.{HeaderOf, MatchOf}
-use Rattle.of10_match.specs.Matching.{at_port, everything}
+use Rattle.of10_match.specs.Matching.{everything}
 use Rattle.of10_actions.specs.Fields.{RewriteOf}
 use Rattle.of10_actions.specs.Rewriting.{no_rewrite}
 use Rattle.of10_actions.specs.declared.effects.Effects.{Effects}

@@ -6,6 +6,7 @@ ghost use Rattle.policy_meaning.specs.Fitting.{NodesAreBelow, RulesAreBelow, Sou
 ghost use Rattle.policy_meaning.specs.HopFact.{HopFact};
 ghost use Rattle.policy_meaning.specs.LeafFact.{LeafFact, LeafRulesAreSound};
 ghost use Rattle.policy_meaning.specs.Order.{ListingIsUnique, OrderKeepsBest};
+ghost use Rattle.policy_meaning.specs.Ranged.{NodesAreInRange, RulesAreInRange};
 ghost use Rattle.policy_meaning.specs.Written.{NodesAreWritten, NodesHaveLeaves, RulesAreWritten, RulesHaveLeaves};
 
 /// Of the rules of a member's table that hold a header exactly one is best, and it means what the
@@ -55,6 +56,12 @@ pub fn composed_lists()
     ensures nodes { NodesAreWritten }
     ensures leaves { RulesHaveLeaves }
     ensures node_leaves { NodesHaveLeaves }
+{}
+
+/// What rules set is in range, where what members' entries set is.
+pub fn values_in_range()
+    ensures rules { RulesAreInRange }
+    ensures nodes { NodesAreInRange }
 {}
 
 /// In whatever order rules are listed, the same one is best; and of disjoint rules there is one listing in their
