@@ -40,7 +40,7 @@ use Rattle.switch_meaning.specs.declared.wiring.Wiring.{Wiring}
 use Rattle.switch_meaning.proofs.Items.{all-filter}
 use Rattle.agreement.specs.declared.state.Setting.{Setting}
 use Rattle.agreement.specs.Entries.{dropping, enters_on, entries_for, entries_of, flat, is_whole, placed, ports_at, site_at}
-use Rattle.agreement.specs.Lengths.{AddFits, AddsFit, HasLimits, IsWithin, ListsAreShort, bytes_of}
+use Rattle.agreement.specs.Lengths.{AddFits, AddsFit, HasLimits, IsWrittenWithin, ListsAreShort, bytes_of}
 use Rattle.agreement.specs.Premises.{IsSoundSetting}
 use Rattle.agreement.proofs.Alone.{all-numbered}
 use Rattle.agreement.proofs.RuleEntries.{written}
@@ -204,7 +204,7 @@ module _ (n m : ℕ) where
     drops-short w switch ports true = all-mapped (λ (p : ℕ). Unit {0}) Short drop_entry _ (λ p _. omega arith) (all-each (λ (p : ℕ). Unit {0}) _ (λ p. tt))
     drops-short w switch ports false = tt
 
-module _ (s : Setting) (most each : ℕ) (pos : 0 < most) (pos' : 0 < each) (good : IsSoundSetting s) (within : IsWithin s most each) where
+module _ (s : Setting) (most each : ℕ) (pos : 0 < most) (pos' : 0 < each) (good : IsSoundSetting s) (within : IsWrittenWithin s most each) where
   abbrev total : ℕ
   total = s.hops * most
 

@@ -23,6 +23,7 @@ pub mod Carried
 pub mod ShowingSpread
 pub mod FittingRules
 pub mod Lengths
+pub mod Ranges
 pub mod Twins
 pub mod FreeOrder
 pub mod Ways

@@ -22,7 +22,7 @@ use Rattle.switch_meaning.specs.Wirings.{far_end, outside_at}
 use Rattle.switch_meaning.specs.declared.wiring.Outside.{Outside}
 use Rattle.agreement.specs.Fitting.{SizesFit}
 use Rattle.agreement.specs.Premises.{IsAlone, IsSoundPlacing, IsSoundSetting, IsSoundVirtual, outside_ports}
-use Rattle.agreement.specs.Worked.{RouterAgrees, four_ports, routed}
+use Rattle.agreement.specs.Worked.{RouterAgrees, RouterIsSound, four_ports, routed}
 use Rattle.agreement.proofs.Agreed.{agreed}
 use Rattle.agreement.proofs.Finding.{find-gives, if-found, is_some-find, only}
 
@@ -120,6 +120,9 @@ module _ (whole : Bool) where
     hops = omega arith;
     sizes = sound-sizes;
   }
+
+pub router-is-sound : RouterIsSound
+router-is-sound whole = sound-routed whole
 
 pub router-agrees : RouterAgrees
 router-agrees whole tables installed = agreed (routed whole) (sound-routed whole) tables installed

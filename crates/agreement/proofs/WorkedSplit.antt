@@ -137,7 +137,7 @@ sound-sizes zero = lit≤ tt
 sound-sizes (suc zero) = lit≤ tt
 sound-sizes (suc (suc v)) = lit≤ tt
 
-sound-split : IsSoundSetting split
+pub sound-split : IsSoundSetting split
 sound-split = record {
   network = record { switches = sound-switch; peers = sound-peers };
   virtuals = sound-virtual;

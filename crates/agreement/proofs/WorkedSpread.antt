@@ -113,7 +113,7 @@ sound-sizes : SizesFit spread_out
 sound-sizes zero = lit≤ tt
 sound-sizes (suc v) = lit≤ tt
 
-sound-spread : IsSoundSetting spread_out
+pub sound-spread : IsSoundSetting spread_out
 sound-spread = record {
   network = record { switches = sound-switch; peers = λ v p q e. absurd (no-peer v p q e) };
   virtuals = sound-virtual;

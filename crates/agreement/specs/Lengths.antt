@@ -16,7 +16,7 @@ abbrev pub bytes_of : PhysEntry → ℕ
 bytes_of e = length (spellings e.actions)
 
 -- no expression has more leaves, and no entry of a member is written by more actions
-pub record IsWithin (s : Setting) (most each : ℕ) : Type 0 where
+pub record IsWrittenWithin (s : Setting) (most each : ℕ) : Type 0 where
   pub leaves : (v : ℕ) (x : SwitchOf) → slice_get s.network.switches v ≡ Some x → leaf_count x.expr ≤ most
   pub actions : AllByRecursion (EntriesAreWrittenBy each) s.network.tables
 
@@ -24,13 +24,13 @@ pub record IsWithin (s : Setting) (most each : ℕ) : Type 0 where
 -- 8 for a telling
 abbrev pub ListsAreShort : Type 0
 ListsAreShort =
-    (s : Setting) (most each : ℕ) → 0 < most → 0 < each → IsSoundSetting s → IsWithin s most each
+    (s : Setting) (most each : ℕ) → 0 < most → 0 < each → IsSoundSetting s → IsWrittenWithin s most each
     → (switch : ℕ) → AllByRecursion (λ e. bytes_of e ≤ 16 * (each * (s.hops * most)) + 8) (entries_of s switch)
 
 -- the limits of policies: four hops, twelve leaves, 64 actions
 pub record HasLimits (s : Setting) : Type 0 where
   pub hops : s.hops ≤ 4
-  pub within : IsWithin s 12 64
+  pub within : IsWrittenWithin s 12 64
 
 -- beside its actions an ADD has 72 bytes
 abbrev pub AddFits : PhysEntry → Type 0

@@ -5,6 +5,7 @@ pub mod Seeing
 pub mod Agree
 pub mod Premises
 pub mod Lengths
+pub mod Ranges
 pub mod OneEntry
 pub mod FreeOrder
 pub mod Ways

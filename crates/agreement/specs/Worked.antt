@@ -18,6 +18,7 @@ use Rattle.switch_meaning.specs.declared.wiring.Wiring.{Wiring}
 use Rattle.agreement.specs.declared.state.Setting.{Setting}
 use Rattle.agreement.specs.Agree.{Agree, AreInstalled}
 use Rattle.agreement.specs.Entries.{table_of}
+use Rattle.agreement.specs.Premises.{IsSoundSetting}
 use Rattle.agreement.specs.Seeing.{expected}
 
 abbrev pub four_ports : List ℕ
@@ -73,6 +74,10 @@ RouterIsSeen =
     × (to_see 1 0x02000001 ≡ record { outs = []; copies = [] })
     × (to_see 3 0x01020304 ≡ record { outs = []; copies = record { switch = 0; header = comes_to 3 0x01020304 } ∷ [] })
 
+-- all that the law asks is so
+abbrev pub RouterIsSound : Type 0
+RouterIsSound = (whole : Bool) → IsSoundSetting (routed whole)
+
 -- whatever tables have these entries agree with the policy
 abbrev pub RouterAgrees : Type 0
 RouterAgrees = (whole : Bool) (tables : ℕ → List FlowEntry) → AreInstalled (routed whole) tables → Agree (routed whole) tables
@@ -95,6 +100,10 @@ abbrev pub SplitIsSeen : Type 0
 SplitIsSeen =
     expected split.wiring (spot 0 1) (packet_to 0x0a000001) (walk (ground_of split.network) split.hops 0 (packet_to 0x0a000001))
     ≡ record { outs = record { at = spot 0 1; header = packet_to 0x0a000001 } ∷ []; copies = [] }
+
+-- all that the law asks is so
+abbrev pub SplitIsSound : Type 0
+SplitIsSound = IsSoundSetting split
 
 -- the law speaks of it too
 abbrev pub SplitAgrees : Type 0
@@ -126,6 +135,10 @@ SecondIsInstalled =
     table_of spread_out 1
     ≡ missing (by_tag 1 65535) ∷ routing (by_tag 1 65535) (SetVlanVid 1 ∷ Output 3 0 ∷ []) ∷ record { m = at_port 1; priority = 0; actions = [] }
     ∷ record { m = by_tag 3 2; priority = 65535; actions = StripVlan ∷ Output 1 0 ∷ [] } ∷ []
+
+-- all that the law asks is so
+abbrev pub SpreadIsSound : Type 0
+SpreadIsSound = IsSoundSetting spread_out
 
 -- the law speaks of it
 abbrev pub SpreadAgrees : Type 0

@@ -3,6 +3,7 @@ ghost use Rattle.agreement.specs.FreeOrder.{BatchIsTheSame, InstalledIsPermuted}
 ghost use Rattle.agreement.specs.Followed.{OnePlacedEntry};
 ghost use Rattle.agreement.specs.Law.{Agreement};
 ghost use Rattle.agreement.specs.Lengths.{AddsFit, ListsAreShort};
+ghost use Rattle.agreement.specs.Ranges.{ActionsAreInRange};
 ghost use Rattle.agreement.specs.OneEntry.{NoTwins, OneEntryAKey};
 ghost use Rattle.agreement.specs.Ways.{ShortestHopsAreWays};
 
@@ -17,6 +18,12 @@ pub fn agreement()
 pub fn composed_lists_fit()
     ensures short { ListsAreShort }
     ensures adds { AddsFit }
+{}
+
+/// Where what members' entries set is in range, and so are the tags of ports, the actions of each entry are: so
+/// they can be written.
+pub fn actions_are_in_range()
+    ensures { ActionsAreInRange }
 {}
 
 /// Where serials, members and ports are named once, no two entries of a switch have one match, priority and

@@ -95,12 +95,7 @@ pub(crate) fn rule_after(
 
 /// The rule of a pair of `>>`, where the left passes packets on with this rewrite and the right has
 /// `size` levels, or none where no header of the left is in the right once it is rewritten.
-pub fn chain_rule(
-    size: u64,
-    rewrite: &Rewrite,
-    a: &Rule,
-    b: &Rule,
-) -> Result<Option<Rule>, Memory>
+pub fn chain_rule(size: u64, rewrite: &Rewrite, a: &Rule, b: &Rule) -> Result<Option<Rule>, Memory>
     requires { concat_level a.now.level b.now.level size < 2 ^ 64 }
     ensures { IfOk result (λ rule. rule ≡ chain_rule_of size rewrite.now a.now b.now) }
 {
@@ -122,11 +117,7 @@ pub fn lifted(level: u64, a: &Rule) -> Result<Rule, Memory>
 }
 
 /// Appends the rules that a rule of the left of `+` makes.
-pub(crate) fn add_sums(
-    rules: &mut List<Rule>,
-    a: &Rule,
-    bs: &List<Rule>,
-) -> Result<(), Memory>
+pub(crate) fn add_sums(rules: &mut List<Rule>, a: &Rule, bs: &List<Rule>) -> Result<(), Memory>
     requires { All (λ (b : Rule). sum_level a.now.level b.level < 2 ^ 64) bs.now }
     ensures { OnOk result (rules.new ≡ rules.old ++ sums_with_of bs.now a.now) }
 {
