@@ -135,11 +135,11 @@ module _ (ports : List ℕ) (t : LeafTable) (good : IsOrderly t) where
   inside-other : EachPair OtherLeaf inside
   inside-other = (
     all-mapped (λ (e : LeafEntry). Unit {0}) (OtherLeaf (miss_rule t)) (entry_rule t) t.entries
-    (λ e _. record { one = record { member = t.member; kind = 1 }; other = record { member = t.member; kind = 2 + e.serial }; left = refl; right = refl; differ = λ same. absurd (omega arith) })
-    (all-each (λ (e : LeafEntry). Unit {0}) t.entries (λ e. tt)),
+        (λ e _. record { one = record { member = t.member; kind = 1 }; other = record { member = t.member; kind = 2 + e.serial }; left = refl; right = refl; differ = λ same. absurd (omega arith) })
+        (all-each (λ (e : LeafEntry). Unit {0}) t.entries (λ e. tt)),
     pairs-map (λ (d e : LeafEntry). d.serial ≢ e.serial) OtherLeaf (entry_rule t)
-    (λ d e ne. record { one = record { member = t.member; kind = 2 + d.serial }; other = record { member = t.member; kind = 2 + e.serial }; left = refl; right = refl; differ = λ same. ne (omega arith) })
-    t.entries good.serials,
+        (λ d e ne. record { one = record { member = t.member; kind = 2 + d.serial }; other = record { member = t.member; kind = 2 + e.serial }; left = refl; right = refl; differ = λ same. ne (omega arith) })
+        t.entries good.serials,
   )
 
   -- a placed rule is of the leaf of its rule
@@ -153,8 +153,8 @@ module _ (ports : List ℕ) (t : LeafTable) (good : IsOrderly t) where
       let s = some_met (narrowed a) a.m m c e in
       let u = some_met (narrowed a) a.m n d f in
       let never : overlaps c.m d.m ≡ false =
-          subst (λ (z : Rule). overlaps z.m d.m ≡ false) s.1 (subst (λ (z : Rule). overlaps (both a.m m) z.m ≡ false) u.1
-          (narrower (λ h. h) m n (both a.m m) (both a.m n) (λ h t. (meet_holds a.m m h t s.0).1) (λ h t. (meet_holds a.m n h t u.0).1) o)) in
+      subst (λ (z : Rule). overlaps z.m d.m ≡ false) s.1 (subst (λ (z : Rule). overlaps (both a.m m) z.m ≡ false) u.1
+      (narrower (λ h. h) m n (both a.m m) (both a.m n) (λ h t. (meet_holds a.m m h t s.0).1) (λ h t. (meet_holds a.m n h t u.0).1) o)) in
       record { first = λ _. never; second = λ _. never }
 
   -- of one rule in the cells
@@ -175,8 +175,8 @@ module _ (ports : List ℕ) (t : LeafTable) (good : IsOrderly t) where
   outside-other = (
     record { one = record { member = t.member; kind = 0 }; other = record { member = t.member; kind = 1 }; left = refl; right = refl; differ = λ same. absurd (omega arith) },
     all-mapped (λ (e : LeafEntry). Unit {0}) (OtherLeaf (outside_rule t)) (entry_rule t) t.entries
-    (λ e _. record { one = record { member = t.member; kind = 0 }; other = record { member = t.member; kind = 2 + e.serial }; left = refl; right = refl; differ = λ same. absurd (omega arith) })
-    (all-each (λ (e : LeafEntry). Unit {0}) t.entries (λ e. tt)),
+        (λ e _. record { one = record { member = t.member; kind = 0 }; other = record { member = t.member; kind = 2 + e.serial }; left = refl; right = refl; differ = λ same. absurd (omega arith) })
+        (all-each (λ (e : LeafEntry). Unit {0}) t.entries (λ e. tt)),
   )
 
   outside-apart : AllByRecursion (AreDisjoint (outside_rule t)) (flat_map place inside)
@@ -354,7 +354,7 @@ module _ (sizes : ℕ → ℕ) (rules : ℕ → List Rule) where
   rules-disjoint (override a b) once p =
       let left = flat_map (shifts_with (size_of sizes b)) (of a) in
       let starts : AllByRecursion (Starts (members_of a)) left =
-          all-flat_map (Starts (members_of a)) (Starts (members_of a)) (shifts_with (size_of sizes b)) (of a) (λ x s. shift-starts (members_of a) (shift_level x.level (size_of sizes b)) x s x.touched) (each-starts a p.0) in
+      all-flat_map (Starts (members_of a)) (Starts (members_of a)) (shifts_with (size_of sizes b)) (of a) (λ x s. shift-starts (members_of a) (shift_level x.level (size_of sizes b)) x s x.touched) (each-starts a p.0) in
       pairs-append AreDisjoint left (of b)
       (composed-disjoint (shifts_with (size_of sizes b)) (λ x. shift-made-by _ x x.touched) (λ x. shift-each-by _ x x.touched) (of a) (rules-disjoint a (once-left (members_of a) (members_of b) once) p.0))
       (rules-disjoint b (once-right (members_of a) (members_of b) once) p.1)
@@ -457,8 +457,8 @@ module _ (size : ℕ) (r : RewriteOf) (a x y : Rule) (e : hop_rule size r a x �
       subst (IsMadeAfter a.ancestry (arriving r to) x) linked.2 (record {
         leaves = refl;
         within = λ h t.
-        port-holds x.m (apply r h) to k.port
-        ∙ (sym (holds-pulled r (without_port x.m) h (normal-guarded (without_port x.m) (normal-without_port x.m k.is_normal))) ∙ join_and _ _ (meet_holds a.m (pulled r (without_port x.m)) h t linked.1).1 linked.0);
+            port-holds x.m (apply r h) to k.port
+            ∙ (sym (holds-pulled r (without_port x.m) h (normal-guarded (without_port x.m) (normal-without_port x.m k.is_normal))) ∙ join_and _ _ (meet_holds a.m (pulled r (without_port x.m)) h t linked.1).1 linked.0);
       })
 
 module _ (f : Fabric) (normal : (v : ℕ) → AllByRecursion HasNormal (f.rules v)) (apart : (v : ℕ) → AreAllDisjoint (f.rules v)) where

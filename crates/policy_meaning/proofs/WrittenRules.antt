@@ -215,7 +215,7 @@ module _ (most : ℕ) (f : Fabric) (rules : (v : ℕ) → AllByRecursion (HasLea
         all-filter_map (HasLeaves (m * most)) (HasLeaves (most + m * most)) (hop_rule size on.rewrite (at_node v port x)) (node f m on.place.v on.place.port)
         (λ b y e p.
         let s : (can_pull on.rewrite (without_port b.m) ≡ true) × (overlaps x.m (pulled on.rewrite (without_port b.m)) ≡ true) × (link_of size on.rewrite (at_node v port x) b ≡ y) =
-            some_pulled (hopped size on.rewrite (at_node v port x) b) x.m (without_port b.m) on.rewrite y e in
+        some_pulled (hopped size on.rewrite (at_node v port x) b) x.m (without_port b.m) on.rewrite y e in
         subst (HasLeaves (most + m * most)) s.2 (both-leaves most (m * most) x.ancestry b.ancestry w p)) (before on.place.v on.place.port)
 
   node-leaves : (m v port : ℕ) → AllByRecursion (HasLeaves (m * most)) (node f m v port)
