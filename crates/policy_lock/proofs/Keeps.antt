@@ -183,6 +183,15 @@ module _ {M E R S : Type 0} (g : Ghosts M E R S) (start : S) where
           refl,
           omega arith,
           (λ sits q le. let mine = known.2 sits in calls_none (q ∷ me.0.pass.number) k.log me.0.pass.seen known.0 (k.unborn (q ∷ me.0.pass.number) (mine.4 q le))),
-          λ z sits is. let same : start ≡ z = ap (opt_or start) (sym (known.2 sits).0 ∙ is) in subst (λ y. Rattle.policy_lock.specs.History.IsLegal g y me.0.pass.seen) same (legal_before g start k.log me.0.pass.seen known.0 k.legal),
+          λ z sits is. let mine = known.2 sits in let same : start ≡ z = ap (opt_or start) (sym mine.0 ∙ is) in (
+            subst (λ y. Rattle.policy_lock.specs.History.IsLegal g y me.0.pass.seen) same (legal_before g start k.log me.0.pass.seen known.0 k.legal),
+            record {
+              log = k.log;
+              legal = subst (λ y. Rattle.policy_lock.specs.History.IsLegal g y k.log) same k.legal;
+              later = known.0;
+              calls = mine.2;
+              long = sym half;
+            },
+          ),
         ),
       )

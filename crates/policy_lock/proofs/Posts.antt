@@ -1,21 +1,29 @@
 -- A post, put together from its steps.
-use Rattle.std.proofs.Common.{◌≡◌, ℕ, ◌≤◌, ◌+◌, ◌/◌, false, [], ◌∷◌, ◌++◌, length, refl, sym, ap, ◌∙◌, subst, arith, Some, length-append}
+use Rattle.std.proofs.Common.{◌≡◌, ℕ, ◌≤◌, ◌+◌, ◌/◌, false, [], ◌∷◌, ◌++◌, length, refl, sym, ap, ◌∙◌, subst, arith, Some, Result, Ok, Err, IfOk, length-append}
 use mathlib.Core.Option.{none}
 use mathlib.Core.List.{IsPrefix}
 use Rattle.std.proofs.lemmas.Bool.{false≢true}
 use Rattle.atomic_table.specs.Table.{step, Allows, rest}
+use Rattle.cv_io.specs.declared.memory.Memory.{Memory}
+use Rattle.policy_lock.specs.declared.after.After.{After}
 use Rattle.policy_lock.specs.declared.machine.Machine.{Ghosts}
 use Rattle.policy_lock.specs.declared.locked.Locked.{Locked}
 use Rattle.policy_lock.specs.declared.view.Pass.{Pass}
 use Rattle.policy_lock.specs.declared.view.View.{View}
 use Rattle.policy_lock.specs.History.{after, IsLegal, entry, calls_by}
-use Rattle.policy_lock.specs.Locked.{Stands, Costs, IsIdle, Stores}
+use Rattle.policy_lock.specs.After.{IsAfter}
+use Rattle.policy_lock.specs.Locked.{Stands, Costs, IsIdle, Stores, IsStoredAfter}
 use Rattle.policy_lock.specs.Post.{IsPosted, IsUncommitted}
 use Rattle.policy_lock.specs.View.{took, let_go}
 use Rattle.policy_lock.specs.Rule.{Sat, Kept}
 use Rattle.policy_lock.specs.Play.{made, added, Commits, HasTaken}
 use Rattle.policy_lock.proofs.Histories.{legal-snoc}
+use Rattle.policy_lock.proofs.Follows.{follows}
 use Rattle.policy_lock.proofs.Keeps.{commits, opt_or}
+
+if_ok_map : {A B : Type 0} {P Q : A → Type 0} (r : Result A B) → ((a : A) → Q a → P a) → IfOk r Q → IfOk r P
+if_ok_map (Ok a) f h = f a h
+if_ok_map (Err b) f h = h
 
 -- the seat of the view v has taken x, where its pass was p, and began at s
 module _ {M E R S : Type 0} (g : Ghosts M E R S) (v : View E R S) (word : ℕ) (x : Locked M E R S g) (m : Sat g) (h : HasTaken g v word x m) (p : Pass E R S) (is : v.pass ≡ p) (s : S) (at : p.start ≡ Some s) where
@@ -86,6 +94,11 @@ module _ {M E R S : Type 0} (g : Ghosts M E R S) (v : View E R S) (word : ℕ) (
           entered = λ q. absurd (false≢true (sym q ∙ t.0));
           bounded = cost s h.log stood;
         }
+
+    pub followed : (place : ℕ) → place ≤ length p.seen → (r : Result (After E) Memory) → IfOk r (IsStoredAfter g x place) → IfOk r (IsAfter m2.0.pass.seen place)
+    followed place known r = let more = h.later in let same : length v.pass.seen ≡ length p.seen = ap (λ q. length q.seen) is in
+        let long : length h.log ≡ length v.pass.seen + length more.0 = ap length (sym more.1) ∙ length-append v.pass.seen more.0 in
+        if_ok_map r (λ a t. subst (λ l. IsAfter l place a) (sym seen_is) (follows g s x h.log stood place (omega arith) a t))
 
     pub uncommitted : (e : E) (a b : ℕ) → Costs g x e a b → IsUncommitted g s p m2.0.pass e a b
     uncommitted e a b cost = subst (λ (q : Pass E R S). IsUncommitted g s q m2.0.pass e a b) is record {

@@ -8,6 +8,7 @@ use Rattle.policy_lock.specs.declared.view.Entry.{Entry}
 use Rattle.policy_lock.specs.declared.view.View.{View}
 use Rattle.policy_lock.specs.History.{after, IsLegal, entry, calls_by}
 use Rattle.policy_lock.specs.Locked.{Stands}
+use Rattle.policy_lock.specs.Look.{WasAsLong}
 use Rattle.policy_lock.specs.View.{heard, took, let_go}
 use Rattle.policy_lock.specs.Rule.{Sat}
 
@@ -36,7 +37,7 @@ module _ {M E R S : Type 0} (g : Ghosts M E R S) where
   -- a look: what the seat has seen is legal and no longer than the history, and the numbers that it can still give have no entry in it
   abbrev pub Looks : Step (Option (Locked M E R S g)) → Sat g → ℕ → Sat g → Type 0
   Looks st m r m' = (m' ≡ m) × (length m.0.pass.seen ≤ r / 2) × (m.0.seated ≡ true → (k : ℕ) → m.0.pass.children ≤ k → calls_by (k ∷ m.0.pass.number) m.0.pass.seen ≡ [])
-      × ((s : S) → m.0.seated ≡ true → m.0.pass.start ≡ Some s → IsLegal g s m.0.pass.seen)
+      × ((s : S) → m.0.seated ≡ true → m.0.pass.start ≡ Some s → IsLegal g s m.0.pass.seen × WasAsLong g s m.0.pass (r / 2))
 
   -- a look at which the seat takes in what it was told
   abbrev pub Hears : Step (Option (Locked M E R S g)) → Sat g → ℕ → Sat g → Type 0

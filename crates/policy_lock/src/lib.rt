@@ -10,6 +10,7 @@
 //! without the lock, and only [`PolicyLock::post`] may wait.
 #![tactic(auto)]
 
+mod after;
 mod apply;
 mod close;
 mod count;
@@ -22,6 +23,7 @@ mod rule;
 mod seats;
 mod view;
 
+pub use after::After;
 pub use close::Open;
 pub use lock::{PolicyLock, Receipt, Seat};
 pub use machine::Machine;

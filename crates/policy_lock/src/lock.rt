@@ -8,6 +8,7 @@ use cv_io::List;
 use std::alloc::Global;
 use std::marker::Model;
 use std::snapshot::Snapshot;
+use std::sync::atomic::AtomicU64;
 
 /// A token of the lock's table.
 pub type Token<M> = atomic_table::Seat<
@@ -27,6 +28,8 @@ pub struct PolicyLock<M: Machine> {
         Law<M>,
         Global,
     >,
+    /// How many seats sleep until the machine is given back.
+    pub(crate) waiting: AtomicU64,
 }
 
 impl<M: Machine> Model for PolicyLock<M> {

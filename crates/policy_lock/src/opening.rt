@@ -11,6 +11,7 @@ use atomic_table::{Refused, Table};
 use cv_io::{List, Memory};
 use std::alloc::Global;
 use std::snapshot::Snapshot;
+use std::sync::atomic::AtomicU64;
 
 /// Puts the machine under a lock, and gives so many seats, none of which has seen anything: the first
 /// one, and seats that were split off it. The lock closes once these are back, with those that were
@@ -48,7 +49,10 @@ impl<M: Machine> PolicyLock<M> {
         slots.push_reserved(Some(locked));
         match Table::new(alloc, &[0], slots, &about) {
             Ok((table, token)) => Ok((
-                PolicyLock { table },
+                PolicyLock {
+                    table,
+                    waiting: AtomicU64::new(0),
+                },
                 Seat {
                     token,
                     number: List::new(alloc),
