@@ -28,7 +28,7 @@ pub enum After<E: Drop> {
 
 impl<M: Machine> Locked<M> {
     /// What is stored after a place.
-    fn after(&self, place: u64) -> Result<After<M::Event>, Memory>
+    pub fn after(&self, place: u64) -> Result<After<M::Event>, Memory>
         ensures { IfOk result (λ after. IsStoredAfter ⟦<M as Machine>⟧ self.now place after) }
     {
         if place < self.before {

@@ -72,7 +72,7 @@ impl<M: Machine> PolicyLock<M> {
             before: _,
             events: _,
             state: _,
-        } = locked;
+        } = locked.into_inner();
         Ok(machine)
     }
 }

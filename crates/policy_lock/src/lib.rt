@@ -14,6 +14,7 @@ mod after;
 mod apply;
 mod close;
 mod count;
+mod held;
 mod lock;
 mod locked;
 mod machine;

@@ -1,5 +1,5 @@
 //! The lock and its seats.
-use crate::locked::Locked;
+use crate::held::Held;
 use crate::machine::Machine;
 use crate::rule::Law;
 use crate::view::View;
@@ -12,7 +12,7 @@ use std::sync::atomic::AtomicU64;
 
 /// A token of the lock's table.
 pub type Token<M> = atomic_table::Seat<
-    Option<Locked<M>>,
+    Option<Held<M>>,
     View<<M as Machine>::Event, <M as Machine>::Reply, <M as Machine>::State>,
 >;
 
@@ -22,7 +22,7 @@ pub type Token<M> = atomic_table::Seat<
 #[derive(Drop)]
 pub struct PolicyLock<M: Machine> {
     pub(crate) table: Table<
-        Option<Locked<M>>,
+        Option<Held<M>>,
         View<M::Event, M::Reply, M::State>,
         Snapshot<M>,
         Law<M>,
@@ -49,7 +49,7 @@ impl<M: Machine> Model for PolicyLock<M> {
 /// Contracts see which lock it is of, and its pass: its number and the history that it has seen.
 #[derive(Drop)]
 pub struct Seat<M: Machine> {
-    pub(crate) token: atomic_table::Seat<Option<Locked<M>>, View<M::Event, M::Reply, M::State>>,
+    pub(crate) token: atomic_table::Seat<Option<Held<M>>, View<M::Event, M::Reply, M::State>>,
     pub(crate) number: List<u64>,
     pub(crate) children: u64,
 }

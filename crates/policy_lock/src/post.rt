@@ -7,8 +7,9 @@ ghost use Rattle.policy_lock.specs.Locked.{Stands};
 ghost use Rattle.policy_lock.specs.View.{let_go};
 ghost use Rattle.policy_lock.specs.Play.{HasTaken};
 
+use crate::held::Held;
 use crate::lock::{PolicyLock, Receipt, Seat, Token};
-use crate::locked::{Applied, Locked};
+use crate::locked::Applied;
 use crate::machine::Machine;
 use crate::rule::{Commit, GiveBack, Take};
 use cv_io::{Memory, Steps};
@@ -72,7 +73,7 @@ impl<M: Machine> PolicyLock<M> {
     }
 
     // Takes the lock and the value, and tells the word that was found.
-    pub(crate) fn take<R: Wait>(&self, rt: &R, token: &mut Token<M>) -> (u64, Locked<M>)
+    pub(crate) fn take<R: Wait>(&self, rt: &R, token: &mut Token<M>) -> (u64, Held<M>)
         requires own { token.old.table_id ≡ self.now.id }
         requires free { (token.old.me.0.seated ≡ true) × (token.old.me.1 ≡ []) }
         ensures token { (token.new.table_id ≡ token.old.table_id) × (token.new.id ≡ token.old.id) }
@@ -117,12 +118,12 @@ impl<M: Machine> PolicyLock<M> {
     }
 
     // Puts the value back, with no new entry.
-    pub(crate) fn give_back(&self, token: &mut Token<M>, word: u64, locked: Locked<M>)
+    pub(crate) fn give_back(&self, token: &mut Token<M>, word: u64, locked: Held<M>)
         requires own { token.old.table_id ≡ self.now.id }
         requires held { (token.old.me.0.holds ≡ true) × (token.old.me.1 ≡ (0, None) ∷ []) }
         requires word { word ≡ 2 * length token.old.me.0.pass.seen }
         requires stands { (s : M.State) → token.old.me.0.pass.start ≡ Some s →
-            Stands ⟦<M as Machine>⟧ s locked token.old.me.0.pass.seen }
+            Stands ⟦<M as Machine>⟧ s locked.boxed.value token.old.me.0.pass.seen }
         ensures token { (token.new.table_id ≡ token.old.table_id) × (token.new.id ≡ token.old.id) }
         ensures back { token.new.me ≡ (let_go token.old.me.0, []) }
     {
