@@ -85,9 +85,9 @@ seven a b c d e f g =
 size-sets : (now want : RewriteOf) → size (sets now want) ≤ 16 * set_writes now want
 size-sets now want =
     let all = seven (set_unless (option_map SetDlSrc now.dl_src) (option_map SetDlSrc want.dl_src)) (set_unless (option_map SetDlDst now.dl_dst) (option_map SetDlDst want.dl_dst))
-        (set_unless (option_map SetNwSrc now.nw_src) (option_map SetNwSrc want.nw_src)) (set_unless (option_map SetNwDst now.nw_dst) (option_map SetNwDst want.nw_dst))
-        (set_unless (option_map SetNwTos now.nw_tos) (option_map SetNwTos want.nw_tos)) (set_unless (option_map SetTpSrc now.tp_src) (option_map SetTpSrc want.tp_src))
-        (set_unless (option_map SetTpDst now.tp_dst) (option_map SetTpDst want.tp_dst)) in
+    (set_unless (option_map SetNwSrc now.nw_src) (option_map SetNwSrc want.nw_src)) (set_unless (option_map SetNwDst now.nw_dst) (option_map SetNwDst want.nw_dst))
+    (set_unless (option_map SetNwTos now.nw_tos) (option_map SetNwTos want.nw_tos)) (set_unless (option_map SetTpSrc now.tp_src) (option_map SetTpSrc want.tp_src))
+    (set_unless (option_map SetTpDst now.tp_dst) (option_map SetTpDst want.tp_dst)) in
     let f1 = size-field SetDlSrc (λ u v. refl) (λ v. omega arith) now.dl_src want.dl_src in
     let f2 = size-field SetDlDst (λ u v. refl) (λ v. omega arith) now.dl_dst want.dl_dst in
     let f3 = size-field SetNwSrc (λ u v. refl) (λ v. omega arith) now.nw_src want.nw_src in
@@ -261,7 +261,7 @@ lists-are-short s most each pos pos' good within switch = lists-short s most eac
 pub adds-fit : AddsFit
 adds-fit s good limits switch =
     let all : AllByRecursion AddFits (entries_of s switch) =
-        all-map (Short 64 (s.hops * 12)) AddFits (entries_of s switch)
-        (λ e short. let a : bytes_of e ≤ 16 * (64 * (s.hops * 12)) + 8 = short in let h = limits.hops in omega arith)
-        (lists-short s 12 64 (omega arith) (omega arith) good limits.within switch) in
+    all-map (Short 64 (s.hops * 12)) AddFits (entries_of s switch)
+    (λ e short. let a : bytes_of e ≤ 16 * (64 * (s.hops * 12)) + 8 = short in let h = limits.hops in omega arith)
+    (lists-short s 12 64 (omega arith) (omega arith) good limits.within switch) in
     (all, all-filter AddFits _ _ (all-filter AddFits _ (entries_of s switch) all))

@@ -3,12 +3,10 @@ ghost use Rattle.std.specs.Prelude.{◌<◌, ◌^◌, ◌↔◌, All, IsTrue, le
 ghost use Rattle.agreement.specs.Fitting.{IsFittingSetting, SizesFit};
 ghost use Rattle.policy_meaning.specs.Fitting.{IsFittingTable};
 
+use alg_priority::WIDEST;
 use cv_io::{Duplicate, List, Memory};
 use policy_meaning::{Network, hop_size, tables_fit};
 use switch_meaning::{Wiring, are_tags_in_range};
-
-/// The greatest size over hops: priorities, one above levels, leave 65,535 to fixed entries.
-pub const GREATEST_SIZE: u64 = 65534;
 
 /// A physical switch.
 #[derive(Debug, Drop)]
@@ -64,14 +62,15 @@ impl Setting {
             && are_tags_in_range(&self.wiring)
     }
 
-    /// Whether the sizes over hops leave room for priorities.
+    /// Whether the sizes over hops leave room for priorities, which are one above levels: 65,535 is for
+    /// fixed entries.
     fn sizes_fit(&self) -> bool
         requires tables { All IsFittingTable self.now.network.tables }
         requires switches { length self.now.network.switches < 2 ^ 32 }
         ensures { IsTrue result ↔ SizesFit self.now }
     {
         for v in 0..self.network.switches.len() {
-            if hop_size(&self.network, self.hops, v as u32) > GREATEST_SIZE {
+            if hop_size(&self.network, self.hops, v as u32) > WIDEST {
                 return false;
             }
         }

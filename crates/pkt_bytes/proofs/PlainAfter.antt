@@ -4,8 +4,7 @@ use Rattle.std.specs.Prelude.{is_some, IsTrue}
 use Rattle.std.proofs.lemmas.Bool.{cases_Bool, or_left, or_right, both_ways, leb-true, eqb-true}
 use Rattle.of10_match.specs.Fields.{HeaderOf}
 use Rattle.of10_actions.specs.Fields.{RewriteOf}
-use Rattle.of10_actions.specs.Rewriting.{apply, set_to, is_ip, is_tcp_udp}
-use Rattle.of10_actions.specs.Rewriting as rewriting
+use Rattle.of10_actions.specs.Rewriting.{apply, has_tcp_udp, set_to, is_ip, is_tcp_udp}
 use Rattle.pkt_bytes.specs.declared.ipv4.Ipv4.{Ipv4}
 use Rattle.pkt_bytes.specs.declared.link.Payload.{Payload}
 use Rattle.pkt_bytes.specs.Headers.{header_in, link_header, no_header, with_payload}
@@ -32,7 +31,7 @@ absent b value x h = unset b value x (λ s. absurd (h s))
 -- a header whose nw and tp fields stay
 pub record OnlyDl (r : RewriteOf) (h : HeaderOf) : Type 0 where
   pub nw : IsTrue (sets_nw r) → is_ip h.dl_type ≡ false
-  pub tp : rewriting.has_ports h.dl_type h.nw_proto ≡ false
+  pub tp : has_tcp_udp h.dl_type h.nw_proto ≡ false
 
 abbrev pub with_addresses : RewriteOf → HeaderOf → HeaderOf
 with_addresses r h = record h { dl_src = set_to true r.dl_src h.dl_src; dl_dst = set_to true r.dl_dst h.dl_dst }
@@ -42,8 +41,8 @@ apply_dl r h only =
     let tos = unset (is_ip h.dl_type) r.nw_tos h.nw_tos (λ s. only.nw (or_left (is_some r.nw_tos) _ s)) in
     let src = unset (is_ip h.dl_type) r.nw_src h.nw_src (λ s. only.nw (or_right (is_some r.nw_tos) _ (or_left (is_some r.nw_src) _ s))) in
     let dst = unset (is_ip h.dl_type) r.nw_dst h.nw_dst (λ s. only.nw (or_right (is_some r.nw_tos) _ (or_right (is_some r.nw_src) _ s))) in
-    let tp_src = never (rewriting.has_ports h.dl_type h.nw_proto) r.tp_src h.tp_src only.tp in
-    let tp_dst = never (rewriting.has_ports h.dl_type h.nw_proto) r.tp_dst h.tp_dst only.tp in
+    let tp_src = never (has_tcp_udp h.dl_type h.nw_proto) r.tp_src h.tp_src only.tp in
+    let tp_dst = never (has_tcp_udp h.dl_type h.nw_proto) r.tp_dst h.tp_dst only.tp in
     λ i. record {
       in_port = h.in_port;
       dl_src = set_to true r.dl_src h.dl_src;
@@ -123,7 +122,7 @@ payload_after r payload h xs long lo none =
 -- of such a frame dl_type is the link's, and there are no ports
 payload_type : (payload : Payload) (h : HeaderOf) (xs : List ℕ) → h.dl_type ≡ payload.dl_type → h.nw_proto ≡ 0
     → (payload.dl_type ≡ 0x0800 → ipv4_at payload.place xs ≡ None)
-    → ((with_payload payload xs h).dl_type ≡ payload.dl_type) × (rewriting.has_ports (with_payload payload xs h).dl_type (with_payload payload xs h).nw_proto ≡ false)
+    → ((with_payload payload xs h).dl_type ≡ payload.dl_type) × (has_tcp_udp (with_payload payload xs h).dl_type (with_payload payload xs h).nw_proto ≡ false)
 payload_type payload h xs type proto none =
     elim (cases_Bool (payload.dl_type == 0x0800)) [
       | inl e ↦ let was = none (eqb-true payload.dl_type 0x0800 e) in
@@ -158,8 +157,8 @@ after_plain r in_port xs fits whole e none =
     let type : (header_in in_port xs).dl_type ≡ (link_of xs).payload.dl_type = ap (λ (h : HeaderOf). h.dl_type) (long_header in_port xs e) ∙ known.0 in
     let known_0 = payload_type (link_of xs).payload (link_header (link_of xs) 0 xs) xs refl refl (ipv4_of_none xs none) in
     let type_0 : (header_in 0 xs).dl_type ≡ (link_of xs).payload.dl_type = ap (λ (h : HeaderOf). h.dl_type) (long_header 0 xs e) ∙ known_0.0 in
-    let ports : rewriting.has_ports (header_in in_port xs).dl_type (header_in in_port xs).nw_proto ≡ false =
-    ap (λ (h : HeaderOf). rewriting.has_ports h.dl_type h.nw_proto) (long_header in_port xs e) ∙ known.1 in
+    let ports : has_tcp_udp (header_in in_port xs).dl_type (header_in in_port xs).nw_proto ≡ false =
+    ap (λ (h : HeaderOf). has_tcp_udp h.dl_type h.nw_proto) (long_header in_port xs e) ∙ known.1 in
     let nw : IsTrue (sets_nw r) → is_ip (header_in in_port xs).dl_type ≡ false =
     λ (s : IsTrue (sets_nw r)). elim (cases_Bool (is_ip (header_in in_port xs).dl_type)) [
       | inr f ↦ f

@@ -2,6 +2,7 @@
 -- OpenFlow Switch Specification 1.0.0). What a layer that is cut short would say is zero.
 use Rattle.std.specs.Prelude.{ℕ, ◌+◌, ◌*◌, ◌/◌, ◌==◌, ◌&&◌, List, slice_index, Option, Some, None, if◌then◌else◌}
 use Rattle.of10_match.specs.Fields.{HeaderOf}
+use Rattle.of10_match.specs.Numbers.{IPV4, ARP, UNTAGGED}
 use Rattle.pkt_bytes.specs.declared.ipv4.Ipv4.{Ipv4}
 use Rattle.pkt_bytes.specs.declared.link.Link.{Link}
 use Rattle.pkt_bytes.specs.declared.link.Payload.{Payload}
@@ -15,7 +16,7 @@ no_header in_port = record {
   in_port = in_port;
   dl_src = 0;
   dl_dst = 0;
-  dl_vlan = 65535;
+  dl_vlan = UNTAGGED;
   dl_vlan_pcp = 0;
   dl_type = 0;
   nw_tos = 0;
@@ -59,9 +60,9 @@ with_arp place bytes h = record h {
 -- with what the network layer says
 abbrev pub with_payload : Payload → List ℕ → HeaderOf → HeaderOf
 with_payload payload bytes h =
-    if payload.dl_type == 0x0800
+    if payload.dl_type == IPV4
     then with_ipv4 (ipv4_at payload.place bytes) bytes h
-    else (if payload.dl_type == 0x0806 && has (payload.place + 28) bytes then with_arp payload.place bytes h else h)
+    else (if payload.dl_type == ARP && has (payload.place + 28) bytes then with_arp payload.place bytes h else h)
 
 -- the header of a frame that came by a port
 abbrev pub header_in : ℕ → List ℕ → HeaderOf

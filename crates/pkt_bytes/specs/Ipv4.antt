@@ -1,5 +1,6 @@
 -- An IPv4 packet (RFC 791): where its parts stand, whether it is a fragment, and its ports.
 use Rattle.std.specs.Prelude.{ℕ, ◌+◌, ◌-◌, ◌*◌, ◌/◌, ◌%◌, ◌^◌, ◌==◌, ◌&&◌, Bool, true, false, nat_le, List, slice_index, Option, Some, None, if◌then◌else◌}
+use Rattle.of10_match.specs.Numbers.{ICMP, IPV4}
 use Rattle.of10_actions.specs.Rewriting.{is_tcp_udp}
 use Rattle.pkt_bytes.specs.declared.ipv4.Fragment.{Fragment}
 use Rattle.pkt_bytes.specs.declared.ipv4.Fragment.TheVariants.{Whole, First, Later}
@@ -48,7 +49,7 @@ ipv4_at place bytes =
 -- the IPv4 packet that a frame carries
 abbrev pub ipv4_of : List ℕ → Option Ipv4
 ipv4_of bytes =
-    if (link_of bytes).payload.dl_type == 0x0800 then ipv4_at (link_of bytes).payload.place bytes else None
+    if (link_of bytes).payload.dl_type == IPV4 then ipv4_at (link_of bytes).payload.place bytes else None
 
 -- the ports of TCP or UDP are there
 abbrev pub has_ports : Ipv4 → List ℕ → Bool
@@ -56,7 +57,7 @@ has_ports ip bytes = is_whole ip.fragment && (is_tcp_udp ip.protocol && has (ip.
 
 -- the type and code of ICMP are there
 abbrev pub has_icmp : Ipv4 → List ℕ → Bool
-has_icmp ip bytes = is_whole ip.fragment && (ip.protocol == 1 && has (ip.transport + 2) bytes)
+has_icmp ip bytes = is_whole ip.fragment && (ip.protocol == ICMP && has (ip.transport + 2) bytes)
 
 -- the ports, or the type and code of ICMP, or zeros
 unfoldable pub ports_of : Ipv4 → List ℕ → Ports

@@ -1,6 +1,7 @@
 -- The Ethernet header of a frame: addresses, at most one tag, and the type of what it carries, which a
 -- frame with a length in its place has in a SNAP header.
 use Rattle.std.specs.Prelude.{ℕ, ◌+◌, ◌/◌, ◌%◌, ◌==◌, ◌&&◌, Bool, nat_lt, List, if◌then◌else◌}
+use Rattle.of10_match.specs.Numbers.{UNTAGGED}
 use Rattle.pkt_bytes.specs.declared.link.Link.{Link}
 use Rattle.pkt_bytes.specs.declared.link.Payload.{Payload}
 use Rattle.pkt_bytes.specs.Numbers.{number_at, has}
@@ -38,7 +39,7 @@ tagged bytes =
 
 -- a frame without a tag
 abbrev pub untagged : List ℕ → Link
-untagged bytes = record { dl_vlan = 65535; dl_vlan_pcp = 0; payload = payload_at 12 bytes }
+untagged bytes = record { dl_vlan = UNTAGGED; dl_vlan_pcp = 0; payload = payload_at 12 bytes }
 
 -- what a frame of at least 14 bytes says in front of its network layer
 unfoldable pub link_of : List ℕ → Link

@@ -1,6 +1,7 @@
 -- A frame after a rewrite: fields replaced at their places, then the checksums that cover them mended.
 use Rattle.std.specs.Prelude.{ℕ, ◌+◌, ◌*◌, ◌/◌, ◌%◌, ◌==◌, ◌&&◌, List, slice_index, Option, Some, None, if◌then◌else◌}
 use Rattle.std.specs.Option.{option_map}
+use Rattle.of10_match.specs.Numbers.{TCP, UDP}
 use Rattle.of10_actions.specs.Fields.{RewriteOf}
 use Rattle.pkt_bytes.specs.declared.ipv4.Ipv4.{Ipv4}
 use Rattle.pkt_bytes.specs.declared.rewriting.Checksum.{Checksum}
@@ -64,9 +65,9 @@ header_checksum ip r bytes = mended (number_at (ip.place + 10) 2 bytes) (tos_cha
 -- the place of the checksum of TCP or UDP, if it is there
 unfoldable pub checksum_place : Ipv4 → List ℕ → Option ℕ
 checksum_place ip bytes =
-    if is_start ip.fragment && (ip.protocol == 6 && has (ip.transport + 18) bytes)
+    if is_start ip.fragment && (ip.protocol == TCP && has (ip.transport + 18) bytes)
     then Some (ip.transport + 16)
-    else (if is_start ip.fragment && (ip.protocol == 17 && has (ip.transport + 8) bytes)
+    else (if is_start ip.fragment && (ip.protocol == UDP && has (ip.transport + 8) bytes)
     then Some (ip.transport + 6)
     else None)
 
@@ -78,7 +79,7 @@ udp_mended checksum changes =
 -- the checksum of TCP or UDP that stands at a place
 unfoldable pub transport_checksum : ℕ → Ipv4 → RewriteOf → List ℕ → ℕ
 transport_checksum place ip r bytes =
-    if ip.protocol == 17
+    if ip.protocol == UDP
     then udp_mended (number_at place 2 bytes) (nw_change ip r bytes + tp_change ip r bytes)
     else mended (number_at place 2 bytes) (nw_change ip r bytes + tp_change ip r bytes)
 

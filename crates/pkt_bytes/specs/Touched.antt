@@ -1,5 +1,6 @@
 -- Which layers a rewrite needs, and which bytes it may replace.
 use Rattle.std.specs.Prelude.{ℕ, ◌+◌, ◌^◌, ◌<◌, ◌≤◌, ◌≡◌, ◌⊎◌, ◌||◌, Bool, true, not, List, Option, Some, None, is_some, OnSome, IfSome, IsTrue}
+use Rattle.of10_match.specs.Numbers.{IPV4}
 use Rattle.of10_match.specs.Ranges.{IsTos}
 use Rattle.of10_actions.specs.Fields.{RewriteOf}
 use Rattle.of10_actions.specs.Rewriting.{is_tcp_udp}
@@ -39,7 +40,7 @@ has_ports_if (Some ip) bytes = not (is_tcp_udp ip.protocol) || has_ports ip byte
 -- each layer that the rewrite sets is there as far as it is read, and for ports the packet is no fragment
 pub record AreWhole (r : RewriteOf) (bytes : List ℕ) : Type 0 where
   pub dl : IsTrue (sets_dl r) → IsTrue (has 14 bytes)
-  pub nw : IsTrue (sets_nw r) → (header_in 0 bytes).dl_type ≡ 0x0800 → IsTrue (is_some (ipv4_of bytes))
+  pub nw : IsTrue (sets_nw r) → (header_in 0 bytes).dl_type ≡ IPV4 → IsTrue (is_some (ipv4_of bytes))
   pub tp : IsTrue (sets_tp r) → IsTrue (has_ports_if (ipv4_of bytes) bytes)
 
 -- n bytes at a place do not hold this one

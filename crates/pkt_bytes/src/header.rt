@@ -4,13 +4,10 @@ ghost use Rattle.of10_match.specs.Ranges.{IsVlan};
 ghost use Rattle.pkt_bytes.specs.Headers.{header_in, link_header, no_header, with_arp, with_ipv4, with_payload};
 ghost use Rattle.std.specs.Prelude.{Some};
 
-use crate::ipv4::{IPV4, Ipv4};
+use crate::ipv4::Ipv4;
 use crate::link::{ETHERNET, Link, Payload};
 use crate::numbers::{u32_at, u48_at};
-use of10_match::{Header, UNTAGGED};
-
-/// The type of ARP.
-const ARP: u16 = 0x0806;
+use of10_match::{ARP, Header, IPV4, UNTAGGED};
 
 /// How many bytes of ARP over Ethernet and IPv4 are read.
 const ARP_LENGTH: usize = 28;

@@ -4,15 +4,7 @@ ghost use Rattle.pkt_bytes.specs.Ipv4 as spec;
 
 use crate::link::Link;
 use crate::numbers::u16_at;
-
-/// The type of IPv4.
-pub(crate) const IPV4: u16 = 0x0800;
-
-const ICMP: u8 = 1;
-
-pub(crate) const TCP: u8 = 6;
-
-pub(crate) const UDP: u8 = 17;
+use of10_match::{ICMP, IPV4, TCP, UDP};
 
 /// How many bytes a header without options takes.
 const SHORTEST: usize = 20;

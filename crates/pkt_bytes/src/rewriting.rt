@@ -9,11 +9,12 @@ ghost use Rattle.pkt_bytes.specs.Rewritten as spec;
 ghost use Rattle.pkt_bytes.specs.Touched.{AreWhole, IsApart, IsRewrite};
 
 use crate::checksum::{change, mended};
-use crate::ipv4::{Ipv4, TCP, UDP};
+use crate::ipv4::Ipv4;
 use crate::link::ETHERNET;
 use crate::numbers::{put_u8, put_u16, put_u32, put_u48, u16_at};
 use cv_io::{Bytes, List, Memory};
 use of10_actions::Rewrite;
+use of10_match::{TCP, UDP};
 use std::alloc::Global;
 
 /// A checksum and its place.

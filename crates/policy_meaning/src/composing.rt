@@ -11,6 +11,7 @@ ghost use Rattle.policy_meaning.specs.Rules.{chain_rule as chain_rule_of, chains
 use crate::meaning::{append_after, tail_after};
 use crate::push::joined;
 use crate::rule::Rule;
+use alg_priority::{concat, shift, sum};
 use cv_io::{Duplicate, List, Memory};
 use of10_actions::{Out, Rewrite, Tail};
 use of10_match::Match;
@@ -38,7 +39,7 @@ pub fn sum_rule(a: &Rule, b: &Rule) -> Result<Option<Rule>, Memory>
         None => Ok(None),
         Some(m) => Ok(Some(Rule {
             m,
-            level: a.level + b.level,
+            level: sum(a.level, b.level),
             touched: a.touched | b.touched,
             outs: joined(&a.outs, &b.outs)?,
             tail: b.tail.copy()?,
@@ -84,7 +85,7 @@ pub(crate) fn rule_after(
         None => Ok(None),
         Some(m) => Ok(Some(Rule {
             m,
-            level: a.level * size + b.level,
+            level: concat(a.level, b.level, size),
             touched,
             outs: chained_outs(&a.outs, rewrite, &b.outs)?,
             tail,
@@ -157,7 +158,7 @@ pub(crate) fn add_chains(
 {
     match &a.tail {
         Tail::Pass(rewrite) => add_passed(rules, size, rewrite, a, bs),
-        _ => rules.push(lifted(a.level * size, a)?),
+        _ => rules.push(lifted(concat(a.level, 0, size), a)?),
     }
 }
 
@@ -167,7 +168,7 @@ pub(crate) fn add_shifted(rules: &mut List<Rule>, size: u64, a: &Rule) -> Result
     ensures { OnOk result (rules.new ≡ rules.old ++ shifts_with_of size a.now) }
 {
     if a.touched {
-        rules.push(lifted(size + a.level, a)?)?;
+        rules.push(lifted(shift(a.level, size), a)?)?;
     }
     Ok(())
 }

@@ -5,6 +5,7 @@ ghost use Rattle.policy_meaning.specs.Hops.{at_node as at_node_of, hop_lone as h
 
 use crate::composing::{Second, rule_after};
 use crate::rule::Rule;
+use alg_priority::concat;
 use cv_io::{Duplicate, List, Memory};
 use of10_actions::{Dest, Out, Rewrite, Tail};
 use of10_match::Match;
@@ -70,7 +71,7 @@ pub fn hop_lone(size: u64, a: &Rule) -> Result<Rule, Memory>
 {
     Ok(Rule {
         m: a.m,
-        level: a.level * size,
+        level: concat(a.level, 0, size),
         touched: true,
         outs: a.outs.copy()?,
         tail: Tail::Nothing,
