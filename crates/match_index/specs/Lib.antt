@@ -1,0 +1,4 @@
+pub mod Items
+pub mod Questions
+pub mod InsideShapes
+pub mod InsideGroups
