@@ -1,6 +1,6 @@
 -- How items stand in an index.
 use Rattle.std.specs.Prelude.{◌≡◌, ℕ, ◌==◌, ◌≤◌, Bool, List, ◌++◌, flat_map, map, count_by}
-use Rattle.std.specs.List.{AllByRecursion, IsDistinct}
+use Rattle.std.specs.List.{All, IsDistinct}
 use Rattle.of10_match.specs.Fields.{MatchOf}
 use Rattle.of10_match.specs.Ranges.{IsMatch}
 use Rattle.of10_match.specs.Same.{same_match}
@@ -25,11 +25,11 @@ in_groups groups = flat_map (λ g. g.items) groups
 pub record IsBucket (shape : Shape) (bucket : MatchOf × List Item) : Type 0 where
   pub of_shape : shape_of bucket.0 ≡ shape
   pub in_range : IsMatch bucket.0
-  pub of_match : AllByRecursion (λ e. e.normal ≡ bucket.0) bucket.1
+  pub of_match : All (λ e. e.normal ≡ bucket.0) bucket.1
 
 -- the buckets of a group: one for each match
 pub record AreBuckets (shape : Shape) (buckets : List (MatchOf × List Item)) : Type 0 where
-  pub each : AllByRecursion (IsBucket shape) buckets
+  pub each : All (IsBucket shape) buckets
   pub once : IsDistinct same_match (map (λ b. b.0) buckets)
 
 -- the same items in any order
@@ -38,6 +38,6 @@ SameItems xs ys = (test : Item → Bool) → count_by test xs ≡ count_by test 
 
 -- each item stands under its id, and in the list of those that came late or in a group
 pub record AreKept (held : List (ℕ × Item)) (late : List Item) (groups : List GroupOf) : Type 0 where
-  pub ids : AllByRecursion (λ (p : ℕ × Item). p.0 ≡ p.1.id) held
+  pub ids : All (λ (p : ℕ × Item). p.0 ≡ p.1.id) held
   pub once : IsDistinct ◌==◌ (map (λ (p : ℕ × Item). p.0) held)
   pub same : SameItems (map (λ (p : ℕ × Item). p.1) held) (late ++ in_groups groups)

@@ -1,5 +1,6 @@
 -- Which fields matches name, and how a match is found among those of one shape.
-use Rattle.std.specs.Prelude.{ℕ, ◌-◌, ◌||◌, not, nat_le, Bool, Option, Some, None, is_some, if◌then◌else◌}
+use Rattle.std.specs.Bool.{beq}
+use Rattle.std.specs.Prelude.{ℕ, ◌-◌, ◌==◌, ◌||◌, not, nat_le, Bool, Option, Some, None, is_some, if◌then◌else◌}
 use Rattle.of10_match.specs.Fields.{MatchOf}
 use Rattle.of10_match.specs.Matching.{each}
 use Rattle.of10_match.specs.Normal.{kept}
@@ -33,6 +34,11 @@ shape_of m = record {
   tp_src = is_some m.tp_src;
   tp_dst = is_some m.tp_dst;
 }
+
+-- the same fields, and as many bits
+abbrev pub same_shape : Shape → Shape → Bool
+same_shape s t =
+    each (beq s.in_port t.in_port) (beq s.dl_src t.dl_src) (beq s.dl_dst t.dl_dst) (beq s.dl_vlan t.dl_vlan) (beq s.dl_vlan_pcp t.dl_vlan_pcp) (beq s.dl_type t.dl_type) (beq s.nw_tos t.nw_tos) (beq s.nw_proto t.nw_proto) (s.nw_src == t.nw_src) (s.nw_dst == t.nw_dst) (beq s.tp_src t.tp_src) (beq s.tp_dst t.tp_dst)
 
 -- the second where the first
 abbrev pub implies : Bool → Bool → Bool

@@ -1,5 +1,5 @@
 //! The items of one match.
-ghost use Rattle.std.specs.Prelude.{◌≡◌, ◌==◌, ◌++◌, ◌∷◌, [], IfOk, OnOk, OnErr, length, if◌then◌else◌};
+ghost use Rattle.std.specs.Prelude.{◌≡◌, ◌==◌, ◌++◌, ◌∷◌, [], IfOk, OnOk, OnErr, length, true, false};
 ghost use Rattle.std.specs.List.{list_any};
 ghost use Rattle.match_index.specs.Items.{AddsTo, same_item};
 
@@ -64,7 +64,8 @@ impl Bucket {
     /// Takes an item out; false where it isn't there.
     pub fn remove(&mut self, item: &Item) -> bool
         ensures found { result ≡ list_any (same_item item.now) self.old }
-        ensures others { if result then AddsTo item.now self.new self.old else (self.new ≡ self.old) }
+        ensures taken { result ≡ true → AddsTo item.now self.new self.old }
+        ensures missing { result ≡ false → self.new ≡ self.old }
     {
         take_out(&mut self.items, item)
     }

@@ -1,6 +1,7 @@
 //! The items whose matches have one shape.
 ghost use Rattle.std.specs.Prelude.{◌≡◌, ◌==◌, ◌++◌, ◌∷◌, [], true, IfOk, OnOk, OnErr, length};
 ghost use Rattle.std.specs.List.{list_any};
+ghost use Rattle.match_index.specs.InsideGroups.{in_buckets};
 ghost use Rattle.match_index.specs.InsideShapes.{shape_of};
 ghost use Rattle.match_index.specs.Items.{AddsTo, IsTop, ids_of, same_item};
 ghost use Rattle.match_index.specs.Questions.{asks};

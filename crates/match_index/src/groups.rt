@@ -2,6 +2,7 @@
 ghost use Rattle.std.specs.Prelude.{◌≡◌, ◌++◌, ◌-◌, ◌≤◌, true, OnOk, OnErr, position, vec_len, vec_capacity};
 ghost use Rattle.std.specs.List.{list_any};
 ghost use Rattle.match_index.specs.InsideGroups.{SameItems, in_groups};
+ghost use Rattle.match_index.specs.InsideShapes.{same_shape};
 ghost use Rattle.match_index.specs.Items.{AddsTo, IsTop, ids_of, same_item};
 ghost use Rattle.match_index.specs.Questions.{asks};
 
@@ -14,7 +15,9 @@ use cv_io::Memory;
 use std::alloc::Global;
 
 /// Where the group of a shape stands.
-fn place_of_shape(groups: &[Group], shape: &Shape) -> Option<usize> {
+fn place_of_shape(groups: &[Group], shape: &Shape) -> Option<usize>
+    ensures { result ≡ position (λ g. same_shape g.shape shape.now) groups.now }
+{
     groups.iter().position(|group| group.shape() == *shape)
 }
 
@@ -26,14 +29,14 @@ fn place_of_item(groups: &[Group], item: &Item) -> Option<usize>
 }
 
 /// Adds an item to the group of its shape, or to a new one.
-fn insert_into(groups: &mut Vec<Group>, alloc: Global, item: Item) -> Result<(), Memory>
-    ensures added { OnOk result (AddsTo item (in_groups groups.old.items) (in_groups groups.new.items)) }
+fn insert_into(groups: &mut Vec<Group>, alloc: Global, item: &Item) -> Result<(), Memory>
+    ensures added { OnOk result (AddsTo item.now (in_groups groups.old.items) (in_groups groups.new.items)) }
     ensures memory { OnErr result (SameItems (in_groups groups.old.items) (in_groups groups.new.items)) }
 {
     match place_of_shape(groups, &Shape::of(&item.normal)) {
-        Some(place) => groups[place].insert(alloc, item),
+        Some(place) => groups[place].insert(alloc, *item),
         None => {
-            groups.push(Group::of(alloc, item)?)?;
+            groups.push(Group::of(alloc, *item)?)?;
             Ok(())
         }
     }
@@ -62,7 +65,7 @@ pub fn settle(
     ensures room { vec_capacity late.old - vec_len late.old ≤ vec_capacity late.new - vec_len late.new }
 {
     while let Some(item) = late.pop() {
-        if let Err(memory) = insert_into(groups, alloc, item) {
+        if let Err(memory) = insert_into(groups, alloc, &item) {
             late.push(item).unwrap();
             return Err(memory);
         }

@@ -101,13 +101,8 @@ impl Index {
         ensures items { self.new.items ≡ self.old.items ++ record { id = id; rank = rank; normal = m.now } ∷ [] }
         ensures room { self.new.room + 1 ≡ self.old.room }
     {
-        let item = Item {
-            id,
-            rank,
-            normal: *m,
-        };
-        self.held.insert(id, item).unwrap();
-        self.late.push(item).unwrap();
+        self.held.insert(id, Item::of(id, rank, m)).unwrap();
+        self.late.push(Item::of(id, rank, m)).unwrap();
         self.room -= 1;
     }
 

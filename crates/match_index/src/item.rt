@@ -13,6 +13,16 @@ pub struct Item {
 }
 
 impl Item {
+    pub(crate) fn of(id: u64, rank: u32, m: &Match) -> Item
+        ensures { result ≡ record { id = id; rank = rank; normal = m.now } }
+    {
+        Item {
+            id,
+            rank,
+            normal: *m,
+        }
+    }
+
     /// Whether it comes before another: by a higher rank, and at equal ranks by a lesser id.
     pub fn is_before(&self, other: &Item) -> bool
         ensures { result ≡ is_before_of self.now other.now }

@@ -10,6 +10,7 @@ mod group;
 mod groups;
 pub mod index;
 pub mod item;
+pub mod laws;
 pub mod question;
 mod search;
 pub mod shape;

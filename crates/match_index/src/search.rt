@@ -1,5 +1,5 @@
 //! Questions that are asked of all items of a list.
-ghost use Rattle.std.specs.Prelude.{◌≡◌, ◌+◌, ◌++◌, OnOk, position, count_by, if◌then◌else◌};
+ghost use Rattle.std.specs.Prelude.{◌≡◌, ◌++◌, true, false, OnOk, position, vec_capacity};
 ghost use Rattle.std.specs.List.{list_any};
 ghost use Rattle.match_index.specs.Items.{AddsTo, IsTop, ids_of, same_item};
 ghost use Rattle.match_index.specs.Questions.{asks};
@@ -37,12 +37,21 @@ pub fn list_among(
     Ok(())
 }
 
+/// Where an item stands first.
+fn place_of(items: &[Item], item: &Item) -> Option<usize>
+    ensures { result ≡ position (same_item item.now) items.now }
+{
+    items.iter().position(|other| *item == *other)
+}
+
 /// Takes an item out; false where it isn't there.
 pub fn take_out(items: &mut Vec<Item>, item: &Item) -> bool
     ensures found { result ≡ list_any (same_item item.now) items.old.items }
-    ensures others { if result then AddsTo item.now items.new.items items.old.items else (items.new.items ≡ items.old.items) }
+    ensures taken { result ≡ true → AddsTo item.now items.new.items items.old.items }
+    ensures missing { result ≡ false → items.new.items ≡ items.old.items }
+    ensures capacity { vec_capacity items.new ≡ vec_capacity items.old }
 {
-    match items.iter().position(|other| *item == *other) {
+    match place_of(items, item) {
         Some(place) => {
             items.swap_remove(place);
             true

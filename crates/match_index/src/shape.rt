@@ -2,6 +2,7 @@
 ghost use Rattle.std.specs.Prelude.{◌≡◌, IfSome, Option};
 ghost use Rattle.of10_match.specs.Normal.{kept as kept_of};
 ghost use Rattle.of10_match.specs.Ranges.{IsPrefix};
+ghost use Rattle.of10_match.specs.Wildcards.{prefix_by};
 ghost use Rattle.match_index.specs.InsideShapes.{implies as implies_of, is_named_by as is_named_by_of, kept_by, length_of, shape_of, shortened as shortened_of};
 
 use of10_match::{Match, Prefix};
@@ -33,19 +34,29 @@ fn length(prefix: Option<Prefix>) -> u8
     }
 }
 
-/// The first `len` bits of a prefix; nothing where they are none.
-fn shortened(len: u8, prefix: Option<Prefix>) -> Option<Prefix>
-    requires { IfSome prefix IsPrefix }
-    ensures value { result ≡ shortened_of len prefix }
+/// The prefix of an address that leaves out its `left_out` low bits; it names nothing from 32 on.
+fn prefix(left_out: u32, addr: u32) -> Option<Prefix>
+    ensures value { result ≡ prefix_by left_out addr }
     ensures in_range { IfSome result IsPrefix }
 {
-    let open = 32 - len.min(32);
-    match prefix {
-        Some(prefix) if open < 32 => Some(Prefix {
-            addr: (prefix.addr >> open) << open,
-            len: 32 - open,
-        }),
-        _ => None,
+    if left_out < 32 {
+        Some(Prefix {
+            addr: (addr >> left_out) << left_out,
+            len: 32 - left_out as u8,
+        })
+    } else {
+        None
+    }
+}
+
+/// The first `len` bits of a prefix; nothing where they are none.
+fn shortened(len: u8, whole: Option<Prefix>) -> Option<Prefix>
+    ensures value { result ≡ shortened_of len whole }
+    ensures in_range { IfSome result IsPrefix }
+{
+    match whole {
+        Some(whole) => prefix(32 - u32::from(len.min(32)), whole.addr),
+        None => None,
     }
 }
 

@@ -1,0 +1,35 @@
+-- Lists one item after the other.
+use Rattle.std.proofs.Common.{◌≡◌, ℕ, zero, suc, ◌+◌, ◌<◌, Bool, true, false, cond, List, [], ◌∷◌, ◌++◌, map, filter, take, length, get_or, refl, sym, ap, ap₂, ◌∙◌, arith, suc-add, append_assoc}
+use Rattle.std.proofs.lemmas.List.Elements.{filter-append}
+use Rattle.match_index.specs.Items.{ids_of}
+use Rattle.match_index.specs.declared.item.Item.{Item}
+
+-- one more from the front
+pub take_pushed : {X : Type 0} (xs : List X) (i : ℕ) (x : X) → i < length xs → x ≡ get_or xs i x → take (i + 1) xs ≡ take i xs ++ x ∷ []
+take_pushed [] i x h e = absurd (omega arith)
+take_pushed (y ∷ xs) zero x h e = ap (λ z. z ∷ []) (sym e)
+take_pushed (y ∷ xs) (suc i) x h e = rw suc-add (ap (λ zs. y ∷ zs) (take_pushed xs i x (omega arith) e))
+
+map-both : {X Y : Type 0} (f : X → Y) (xs ys : List X) → map f (xs ++ ys) ≡ map f xs ++ map f ys
+map-both f [] ys = refl
+map-both f (x ∷ xs) ys = ap (λ zs. f x ∷ zs) (map-both f xs ys)
+
+-- the ids of two lists one after the other
+pub ids-append : (p : Item → Bool) (xs ys : List Item) → ids_of p (xs ++ ys) ≡ ids_of p xs ++ ids_of p ys
+ids-append p xs ys = ap (map (λ (e : Item). e.id)) (filter-append p xs ys) ∙ map-both (λ (e : Item). e.id) (filter p xs) (filter p ys)
+
+pub ids_one : (p : Item → Bool) (x : Item) → p x ≡ true → ids_of p (x ∷ []) ≡ x.id ∷ []
+ids_one p x t = ap (λ b. map (λ (e : Item). e.id) (cond b (x ∷ []) [])) t
+
+pub ids_none : (p : Item → Bool) (x : Item) → p x ≡ false → ids_of p (x ∷ []) ≡ []
+ids_none p x t = ap (λ b. map (λ (e : Item). e.id) (cond b (x ∷ []) [])) t
+
+-- what was listed so far, and what is listed next
+pub listed_more : (p : Item → Bool) (start so_far more : List ℕ) (xs ys : List Item) → so_far ≡ start ++ ids_of p xs → more ≡ ids_of p ys → so_far ++ more ≡ start ++ ids_of p (xs ++ ys)
+listed_more p start so_far more xs ys a b = ap₂ (λ s t. s ++ t) a b ∙ (append_assoc start (ids_of p xs) (ids_of p ys) ∙ ap (λ t. start ++ t) (sym (ids-append p xs ys)))
+
+-- what stands at a place of a list doesn't depend on what would stand past its end
+pub got_same : {X : Type 0} (xs : List X) (i : ℕ) (d e : X) → i < length xs → get_or xs i d ≡ get_or xs i e
+got_same [] i d e h = absurd (omega arith)
+got_same (x ∷ xs) zero d e h = refl
+got_same (x ∷ xs) (suc i) d e h = got_same xs i d e (omega arith)
