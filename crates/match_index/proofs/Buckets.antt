@@ -1,10 +1,14 @@
 -- Items in the buckets of their matches.
-use Rattle.std.proofs.Common.{◌≡◌, ℕ, zero, suc, ◌+◌, ◌<◌, Bool, true, false, cond, ◌||◌, List, [], ◌∷◌, ◌++◌, map, filter, length, Option, Some, None, refl, sym, ap, ap₂, subst, ◌∙◌, arith, if◌then◌else◌, true≢false, count_by, slice_get}
+use Rattle.std.proofs.Common.{◌≡◌, ℕ, zero, suc, ◌+◌, ◌<◌, Bool, true, false, cond, ◌||◌, List, [], ◌∷◌, ◌++◌, map, filter, length, Option, Some, None, refl, sym, ap, ap₂, subst, ◌∙◌, arith, if◌then◌else◌, true≢false, count_by, slice_get, get_or, not, position, ltb-false, le-ltb}
 use Rattle.std.specs.Prelude.{IsPermutation, swap_remove}
 use Rattle.std.specs.List.{list_any, All, AllByRecursion, IsDistinct, sum_by}
 use Rattle.std.specs.Map.{keys_of, lookup, values_of}
 use Rattle.indexmap.specs.IndexMap.{set_value_at}
-use Rattle.std.proofs.lemmas.List.Elements.{All-cons, All-head, All-tail, filter-append}
+use Rattle.std.proofs.lemmas.List.Elements.{All-cons, All-head, All-nil, All-push, All-tail, filter-append}
+use Rattle.std.proofs.lemmas.List.Quantifiers.{position-Some}
+use Rattle.std.proofs.lemmas.List.Sorted.{All-permutation, IsPermutation-swap_remove}
+use Rattle.std.proofs.lemmas.Map.Entries.{sum_by_values_permutation}
+use Rattle.std.proofs.lemmas.Option.{slice_get_within, get_or_from_slice_get}
 use Rattle.std.proofs.lemmas.List.Sums.{sum_by-cons}
 use Rattle.of10_match.specs.Fields.{MatchOf}
 use Rattle.of10_match.specs.Ranges.{IsMatch}
@@ -15,7 +19,8 @@ use Rattle.match_index.specs.InsideShapes.{shape_of}
 use Rattle.match_index.specs.Items.{AddsTo}
 use Rattle.match_index.specs.declared.item.Item.{Item}
 use Rattle.match_index.specs.declared.shape.Shape.{Shape}
-use Rattle.match_index.proofs.Counts.{count-append, count-cons, one}
+use Rattle.match_index.proofs.Counts.{any_count, count-append}
+use Rattle.match_index.proofs.Tops.{or_false}
 
 -- the items of a bucket that may be missing
 abbrev pub bucket_items : Option (List Item) → List Item
@@ -88,8 +93,106 @@ count_set p (b ∷ bs) (suc i) old new e =
     let r = count_set p bs i old new e in
     omega (arith, was, is, r)
 
+keys_set : (bs : List (MatchOf × List Item)) (i : ℕ) (new : List Item) → keys_of (set_value_at bs i new) ≡ keys_of bs
+keys_set [] i new = refl
+keys_set (b ∷ bs) zero new = refl
+keys_set (b ∷ bs) (suc i) new = ap (λ ks. b.0 ∷ ks) (keys_set bs i new)
+
 -- each bucket is one still where one at a place is
 pub buckets_set : (shape : Shape) (bs : List (MatchOf × List Item)) (i : ℕ) (new : List Item) → All (IsBucket shape) bs → ((k : MatchOf) (old : List Item) → slice_get bs i ≡ Some (k, old) → IsBucket shape (k, new)) → All (IsBucket shape) (set_value_at bs i new)
 buckets_set shape [] i new a w = a
 buckets_set shape (b ∷ bs) zero new a w = All-cons (IsBucket shape) (b.0, new) bs (w b.0 b.1 refl) (All-tail (IsBucket shape) b bs a)
 buckets_set shape (b ∷ bs) (suc i) new a w = All-cons (IsBucket shape) b (set_value_at bs i new) (All-head (IsBucket shape) b bs a) (buckets_set shape bs i new (All-tail (IsBucket shape) b bs a) w)
+
+-- the key of a place
+keys_got : (bs : List (MatchOf × List Item)) (i : ℕ) (k d : MatchOf) (xs : List Item) → slice_get bs i ≡ Some (k, xs) → get_or (keys_of bs) i d ≡ k
+keys_got [] i k d xs e = absurd (cc)
+keys_got (b ∷ bs) zero k d xs e = cc
+keys_got (b ∷ bs) (suc i) k d xs e = keys_got bs i k d xs e
+
+pub key_at : (m k : MatchOf) (bs : List (MatchOf × List Item)) (i : ℕ) (xs : List Item) → position (same_match m) (keys_of bs) ≡ Some i → slice_get bs i ≡ Some (k, xs) → m ≡ k
+key_at m k bs i xs p e =
+    let s = position-Some (same_match m) (keys_of bs) i m p in
+    (match_decides m _).0 s.1 ∙ keys_got bs i k m xs e
+
+-- the bucket of a place
+bucket_at : (shape : Shape) (bs : List (MatchOf × List Item)) (i : ℕ) (k : MatchOf) (xs : List Item) → All (IsBucket shape) bs → slice_get bs i ≡ Some (k, xs) → IsBucket shape (k, xs)
+bucket_at shape [] i k xs a e = absurd (cc)
+bucket_at shape (b ∷ bs) zero k xs a e = let s : b ≡ (k, xs) = cc in subst (IsBucket shape) s (All-head (IsBucket shape) b bs a)
+bucket_at shape (b ∷ bs) (suc i) k xs a e = bucket_at shape bs i k xs (All-tail (IsBucket shape) b bs a) e
+
+values_got : (bs : List (MatchOf × List Item)) (i : ℕ) (k : MatchOf) (xs ys : List Item) → slice_get bs i ≡ Some (k, xs) → slice_get (values_of bs) i ≡ Some ys → xs ≡ ys
+values_got [] i k xs ys e f = absurd (cc)
+values_got (b ∷ bs) zero k xs ys e f = let s : b ≡ (k, xs) = cc in ap (λ (t : MatchOf × List Item). t.1) (sym s) ∙ (let t : b.1 ≡ ys = cc in t)
+values_got (b ∷ bs) (suc i) k xs ys e f = values_got bs i k xs ys e f
+
+-- one more item in the bucket of its match
+pub buckets_pushed : (shape : Shape) (item : Item) (bs : List (MatchOf × List Item)) (i : ℕ) (old new : List Item) → AreBuckets shape bs → position (same_match item.normal) (keys_of bs) ≡ Some i
+    → slice_get (values_of bs) i ≡ Some old → new ≡ old ++ item ∷ [] → AreBuckets shape (set_value_at bs i new)
+buckets_pushed shape item bs i old new a p v n = record {
+  each = buckets_set shape bs i new a.each (λ k xs e.
+    let b = bucket_at shape bs i k xs a.each e in
+    let same : new ≡ xs ++ item ∷ [] = n ∙ ap (λ ys. ys ++ item ∷ []) (sym (values_got bs i k xs old e v)) in
+    let of_match = All-push (λ (x : Item). x.normal ≡ k) xs item b.of_match (key_at item.normal k bs i xs p e) in
+    let P : List Item → Type 0 = All (λ (x : Item). x.normal ≡ k) in
+    record { of_shape = b.of_shape; in_range = b.in_range; of_match = subst P (sym same) of_match });
+  once = let D : List MatchOf → Type 0 = IsDistinct same_match in subst D (sym (keys_set bs i new)) a.once;
+}
+
+-- of one match alone, as a test
+abbrev is_other : MatchOf → Item → Bool
+is_other k x = not (same_match k x.normal)
+
+none_other : (k : MatchOf) (xs : List Item) → All (λ x. x.normal ≡ k) xs → list_any (is_other k) xs ≡ false
+none_other k [] a = refl
+none_other k (x ∷ xs) a =
+    ap₂ (λ b c. not b || c) ((match_decides k x.normal).1 (sym (All-head (λ y. y.normal ≡ k) x xs a))) (none_other k xs (All-tail (λ y. y.normal ≡ k) x xs a))
+
+all_same : (k : MatchOf) (xs : List Item) → list_any (is_other k) xs ≡ false → All (λ x. x.normal ≡ k) xs
+all_same k [] n = All-nil (λ x. x.normal ≡ k)
+all_same k (x ∷ xs) n = let o = or_false (is_other k x) (list_any (is_other k) xs) n in All-cons (λ y. y.normal ≡ k) x xs (by (same_match k x.normal) refl o.0) (all_same k xs o.1)
+  where
+    by : (b : Bool) → same_match k x.normal ≡ b → not b ≡ false → x.normal ≡ k
+    by true t e = sym ((match_decides k x.normal).0 t)
+    by false t e = absurd (true≢false e)
+
+-- what none of more passes, none of fewer does
+none_fewer : (q : Item → Bool) (x : Item) (xs ys : List Item) → AddsTo x xs ys → list_any q ys ≡ false → list_any q xs ≡ false
+none_fewer q x xs ys a n =
+    let c = a q in
+    let zero_there = ltb-false 0 (count_by q ys) (sym (any_count q ys) ∙ n) in
+    any_count q xs ∙ le-ltb 0 (count_by q xs) (omega (arith, c, zero_there))
+
+-- one item less
+pub buckets_taken : (shape : Shape) (item : Item) (bs : List (MatchOf × List Item)) (i : ℕ) (old new : List Item) → AreBuckets shape bs
+    → slice_get (values_of bs) i ≡ Some old → AddsTo item new old → AreBuckets shape (set_value_at bs i new)
+buckets_taken shape item bs i old new a v t = record {
+  each = buckets_set shape bs i new a.each (λ k xs e.
+    let b = bucket_at shape bs i k xs a.each e in
+    let Of : List Item → Type 0 = All (λ (x : Item). x.normal ≡ k) in
+    let of_old = subst Of (values_got bs i k xs old e v) b.of_match in
+    record { of_shape = b.of_shape; in_range = b.in_range; of_match = all_same k new (none_fewer (is_other k) item new old t (none_other k old of_old)) });
+  once = let D : List MatchOf → Type 0 = IsDistinct same_match in subst D (sym (keys_set bs i new)) a.once;
+}
+
+-- nothing changes
+pub set_same : (bs : List (MatchOf × List Item)) (i : ℕ) (old new : List Item) → slice_get (values_of bs) i ≡ Some old → new ≡ old → set_value_at bs i new ≡ bs
+set_same [] i old new v n = refl
+set_same (b ∷ bs) zero old new v n = let s : b.1 ≡ old = cc in ap (λ xs. (b.0, xs) ∷ bs) (n ∙ sym s)
+set_same (b ∷ bs) (suc i) old new v n = ap (λ cs. b ∷ cs) (set_same bs i old new v n)
+
+-- without an empty bucket
+pub count_dropped : (p : Item → Bool) (bs : List (MatchOf × List Item)) (i : ℕ) (b : MatchOf × List Item) → slice_get bs i ≡ Some b → b.1 ≡ [] → count_by p (in_buckets (swap_remove bs i b)) ≡ count_by p (in_buckets bs)
+count_dropped p bs i b e n =
+    let moved = IsPermutation-swap_remove bs i b (slice_get_within bs i b e) (sym (get_or_from_slice_get bs i b b e)) in
+    let s = sum_by_values_permutation (λ xs. count_by p xs) bs (b ∷ swap_remove bs i b) moved in
+    let c = count_buckets p bs in
+    let d = count_buckets p (swap_remove bs i b) in
+    let f = sum_by-cons (λ xs. count_by p xs) b.1 (values_of (swap_remove bs i b)) in
+    let z : count_by p b.1 ≡ 0 = ap (λ xs. count_by p xs) n in
+    omega (arith, s, c, d, f, z)
+
+pub each_dropped : (shape : Shape) (bs : List (MatchOf × List Item)) (i : ℕ) (b : MatchOf × List Item) → slice_get bs i ≡ Some b → All (IsBucket shape) bs → All (IsBucket shape) (swap_remove bs i b)
+each_dropped shape bs i b e a =
+    let moved = IsPermutation-swap_remove bs i b (slice_get_within bs i b e) (sym (get_or_from_slice_get bs i b b e)) in
+    All-tail (IsBucket shape) b (swap_remove bs i b) (All-permutation (IsBucket shape) bs (b ∷ swap_remove bs i b) moved a)

@@ -1,6 +1,9 @@
 -- Lists one item after the other.
 use Rattle.std.proofs.Common.{◌≡◌, ℕ, zero, suc, ◌+◌, ◌<◌, Bool, true, false, cond, List, [], ◌∷◌, ◌++◌, map, filter, take, length, get_or, refl, sym, ap, ap₂, ◌∙◌, arith, suc-add, append_assoc}
 use Rattle.std.proofs.lemmas.List.Elements.{filter-append}
+use Rattle.std.specs.Prelude.{flat_map}
+use Rattle.of10_match.specs.Fields.{MatchOf}
+use Rattle.match_index.specs.InsideGroups.{GroupOf, in_buckets, in_groups}
 use Rattle.match_index.specs.Items.{ids_of}
 use Rattle.match_index.specs.declared.item.Item.{Item}
 
@@ -33,3 +36,27 @@ pub got_same : {X : Type 0} (xs : List X) (i : ℕ) (d e : X) → i < length xs 
 got_same [] i d e h = absurd (omega arith)
 got_same (x ∷ xs) zero d e h = refl
 got_same (x ∷ xs) (suc i) d e h = got_same xs i d e (omega arith)
+
+-- lists one after the other
+abbrev pub joined : {X : Type 0} → List (List X) → List X
+joined xss = flat_map (λ xs. xs) xss
+
+joined-both : {X : Type 0} (xss yss : List (List X)) → joined (xss ++ yss) ≡ joined xss ++ joined yss
+joined-both [] yss = refl
+joined-both (xs ∷ xss) yss = ap (λ zs. xs ++ zs) (joined-both xss yss) ∙ sym (append_assoc xs (joined xss) (joined yss))
+
+append_none : {X : Type 0} (xs : List X) → xs ++ [] ≡ xs
+append_none [] = refl
+append_none (x ∷ xs) = ap (λ ys. x ∷ ys) (append_none xs)
+
+-- one list more
+pub joined_pushed : {X Y : Type 0} (f : X → List Y) (xs : List X) (x : X) → joined (map f (xs ++ x ∷ [])) ≡ joined (map f xs) ++ f x
+joined_pushed f xs x = ap joined (map-both f xs (x ∷ [])) ∙ (joined-both (map f xs) (f x ∷ []) ∙ ap (λ zs. joined (map f xs) ++ zs) (append_none (f x)))
+
+pub joined_buckets : (bs : List (MatchOf × List Item)) → joined (map (λ (b : MatchOf × List Item). b.1) bs) ≡ in_buckets bs
+joined_buckets [] = refl
+joined_buckets (b ∷ bs) = ap (λ zs. b.1 ++ zs) (joined_buckets bs)
+
+pub joined_groups : (gs : List GroupOf) → joined (map (λ (g : GroupOf). g.items) gs) ≡ in_groups gs
+joined_groups [] = refl
+joined_groups (g ∷ gs) = ap (λ zs. g.items ++ zs) (joined_groups gs)

@@ -1,7 +1,9 @@
 //! The items whose matches have one shape.
-ghost use Rattle.std.specs.Prelude.{◌≡◌, ◌==◌, ◌++◌, ◌∷◌, [], true, IfOk, OnOk, OnErr, length};
+ghost use Rattle.std.specs.Prelude.{◌≡◌, ◌<◌, ◌++◌, ◌∷◌, [], Some, true, IfOk, OnOk, OnErr, slice_get};
 ghost use Rattle.std.specs.List.{list_any};
-ghost use Rattle.match_index.specs.InsideGroups.{in_buckets};
+ghost use Rattle.of10_match.specs.Same.{same_match};
+ghost use Rattle.indexmap.specs.IndexMap.{get, index_map_len, index_of, values};
+ghost use Rattle.match_index.specs.InsideGroups.{AreBuckets, SameItems, in_buckets};
 ghost use Rattle.match_index.specs.InsideShapes.{shape_of};
 ghost use Rattle.match_index.specs.Items.{AddsTo, IsTop, ids_of, same_item};
 ghost use Rattle.match_index.specs.Questions.{asks};
@@ -59,6 +61,44 @@ fn list_all(
     Ok(())
 }
 
+/// Adds an item to the bucket of its match, which stands at the place.
+fn push_at(
+    buckets: &mut IndexMap<Match, Bucket>,
+    place: usize,
+    item: Item,
+) -> Result<(), Memory>
+    requires within { place < index_map_len buckets.old }
+    requires at { index_of same_match buckets.old item.normal ≡ Some place }
+    ensures added { OnOk result (AddsTo item (in_buckets buckets.old.entries) (in_buckets buckets.new.entries)) }
+    ensures memory { OnErr result (buckets.new.entries ≡ buckets.old.entries) }
+    ensures buckets { (shape : Shape) → AreBuckets shape buckets.old.entries → AreBuckets shape buckets.new.entries }
+{
+    buckets[place].push(item)
+}
+
+/// Takes an item out of the bucket of its match, which stands at the place.
+fn remove_at(buckets: &mut IndexMap<Match, Bucket>, place: usize, item: &Item)
+    requires within { place < index_map_len buckets.old }
+    requires at { slice_get (values buckets.old) place ≡ get same_match buckets.old item.now.normal }
+    ensures taken { (shape : Shape) → AreBuckets shape buckets.old.entries → list_any (same_item item.now) (in_buckets buckets.old.entries) ≡ true
+        → AddsTo item.now (in_buckets buckets.new.entries) (in_buckets buckets.old.entries) }
+    ensures buckets { (shape : Shape) → AreBuckets shape buckets.old.entries → AreBuckets shape buckets.new.entries }
+    ensures len { index_map_len buckets.new ≡ index_map_len buckets.old }
+{
+    buckets[place].remove(item);
+}
+
+/// Takes out the bucket at a place, where it is empty.
+fn drop_empty(buckets: &mut IndexMap<Match, Bucket>, place: usize)
+    requires { place < index_map_len buckets.old }
+    ensures items { SameItems (in_buckets buckets.new.entries) (in_buckets buckets.old.entries) }
+    ensures buckets { (shape : Shape) → AreBuckets shape buckets.old.entries → AreBuckets shape buckets.new.entries }
+{
+    if buckets[place].is_empty() {
+        buckets.swap_remove_index(place);
+    }
+}
+
 impl Group {
     /// The group of one item.
     pub fn of(alloc: Global, item: Item) -> Result<Group, Memory>
@@ -79,8 +119,9 @@ impl Group {
         self.shape
     }
 
+    /// Whether there is no bucket left.
     pub fn is_empty(&self) -> bool
-        ensures { result ≡ (length self.now.items == 0) }
+        ensures { result ≡ true → self.now.items ≡ [] }
     {
         self.buckets.is_empty()
     }
@@ -102,7 +143,7 @@ impl Group {
         ensures memory { OnErr result (self.new ≡ self.old) }
     {
         match self.buckets.get_index_of(&item.normal) {
-            Some(place) => self.buckets[place].push(item),
+            Some(place) => push_at(&mut self.buckets, place, item),
             None => {
                 self.buckets
                     .insert(item.normal, Bucket::of(alloc, item)?)?;
@@ -117,10 +158,8 @@ impl Group {
         ensures { AddsTo item.now self.new.items self.old.items }
     {
         if let Some(place) = self.buckets.get_index_of(&item.normal) {
-            self.buckets[place].remove(item);
-            if self.buckets[place].is_empty() {
-                self.buckets.swap_remove_index(place);
-            }
+            remove_at(&mut self.buckets, place, item);
+            drop_empty(&mut self.buckets, place);
         }
     }
 
