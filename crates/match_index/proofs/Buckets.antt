@@ -19,7 +19,7 @@ use Rattle.match_index.specs.InsideShapes.{shape_of}
 use Rattle.match_index.specs.Items.{AddsTo}
 use Rattle.match_index.specs.declared.item.Item.{Item}
 use Rattle.match_index.specs.declared.shape.Shape.{Shape}
-use Rattle.match_index.proofs.Counts.{any_count, count-append}
+use Rattle.match_index.proofs.Counts.{AddsTo-push, any_count, count-append, count-cons}
 use Rattle.match_index.proofs.Tops.{or_false}
 
 -- the items of a bucket that may be missing
@@ -196,3 +196,25 @@ pub each_dropped : (shape : Shape) (bs : List (MatchOf × List Item)) (i : ℕ) 
 each_dropped shape bs i b e a =
     let moved = IsPermutation-swap_remove bs i b (slice_get_within bs i b e) (sym (get_or_from_slice_get bs i b b e)) in
     All-tail (IsBucket shape) b (swap_remove bs i b) (All-permutation (IsBucket shape) bs (b ∷ swap_remove bs i b) moved a)
+
+pub pushed_at : (item : Item) (bs : List (MatchOf × List Item)) (i : ℕ) (old new : List Item) → slice_get (values_of bs) i ≡ Some old → new ≡ old ++ item ∷ [] → AddsTo item (in_buckets bs) (in_buckets (set_value_at bs i new))
+pushed_at item bs i old new v n p =
+    let s = count_set p bs i old new v in
+    let a = AddsTo-push old item p in
+    let c : count_by p new ≡ count_by p (old ++ item ∷ []) = ap (λ xs. count_by p xs) n in
+    omega (arith, s, a, c)
+
+pub taken_at : (item : Item) (bs : List (MatchOf × List Item)) (i : ℕ) (old new : List Item) → slice_get (values_of bs) i ≡ Some old → AddsTo item new old → AddsTo item (in_buckets (set_value_at bs i new)) (in_buckets bs)
+taken_at item bs i old new v t p = let s = count_set p bs i old new v in let a = t p in omega (arith, s, a)
+
+-- one more bucket
+pub bucket_added : (item : Item) (k : MatchOf) (bs : List (MatchOf × List Item)) → AddsTo item (in_buckets bs) (in_buckets (bs ++ (k, item ∷ []) ∷ []))
+bucket_added item k [] p = let c = count-cons p item [] in omega (arith, c)
+bucket_added item k (b ∷ bs) p =
+    let was = count-append p b.1 (in_buckets bs) in
+    let is = count-append p b.1 (in_buckets (bs ++ (k, item ∷ []) ∷ [])) in
+    let r = bucket_added item k bs p in
+    omega (arith, was, is, r)
+
+pub bucket_new : (shape : Shape) (item : Item) (bs : List (MatchOf × List Item)) → All (IsBucket shape) bs → shape_of item.normal ≡ shape → IsMatch item.normal → All (IsBucket shape) (bs ++ (item.normal, item ∷ []) ∷ [])
+bucket_new shape item bs a s r = All-push (IsBucket shape) bs (item.normal, item ∷ []) a (record { of_shape = s; in_range = r; of_match = All-cons (λ (x : Item). x.normal ≡ item.normal) item [] refl (All-nil (λ (x : Item). x.normal ≡ item.normal)) })

@@ -6,3 +6,4 @@ pub mod Rising
 pub mod Lists
 pub mod Buckets
 pub mod Asked
+pub mod Grouped

@@ -1,5 +1,5 @@
 -- Lists one item after the other.
-use Rattle.std.proofs.Common.{◌≡◌, ℕ, zero, suc, ◌+◌, ◌<◌, Bool, true, false, cond, List, [], ◌∷◌, ◌++◌, map, filter, take, length, get_or, refl, sym, ap, ap₂, ◌∙◌, arith, suc-add, append_assoc}
+use Rattle.std.proofs.Common.{◌≡◌, ℕ, zero, suc, ◌+◌, ◌<◌, Bool, true, false, cond, List, [], ◌∷◌, ◌++◌, map, filter, take, length, get_or, refl, sym, ap, ap₂, ◌∙◌, arith, suc-add, append_assoc, Result, Ok, Err, OnOk, OnErr, Option, Some, None, is_some, true≢false, ◌==◌, eqb-true}
 use Rattle.std.proofs.lemmas.List.Elements.{filter-append}
 use Rattle.std.specs.Prelude.{flat_map}
 use Rattle.of10_match.specs.Fields.{MatchOf}
@@ -45,7 +45,7 @@ joined-both : {X : Type 0} (xss yss : List (List X)) → joined (xss ++ yss) ≡
 joined-both [] yss = refl
 joined-both (xs ∷ xss) yss = ap (λ zs. xs ++ zs) (joined-both xss yss) ∙ sym (append_assoc xs (joined xss) (joined yss))
 
-append_none : {X : Type 0} (xs : List X) → xs ++ [] ≡ xs
+pub append_none : {X : Type 0} (xs : List X) → xs ++ [] ≡ xs
 append_none [] = refl
 append_none (x ∷ xs) = ap (λ ys. x ∷ ys) (append_none xs)
 
@@ -60,3 +60,28 @@ joined_buckets (b ∷ bs) = ap (λ zs. b.1 ++ zs) (joined_buckets bs)
 pub joined_groups : (gs : List GroupOf) → joined (map (λ (g : GroupOf). g.items) gs) ≡ in_groups gs
 joined_groups [] = refl
 joined_groups (g ∷ gs) = ap (λ zs. g.items ++ zs) (joined_groups gs)
+
+pub groups_pushed : (gs : List GroupOf) (g : GroupOf) → in_groups (gs ++ g ∷ []) ≡ in_groups gs ++ g.items
+groups_pushed [] g = append_none g.items
+groups_pushed (h ∷ gs) g = ap (λ zs. h.items ++ zs) (groups_pushed gs g) ∙ sym (append_assoc h.items (in_groups gs) g.items)
+
+-- what stands after a success, after a failure, and after either
+pub ok_then : {X E : Type 0} (P Q : Type 0) (r : Result X E) → (P → Q) → OnOk r P → OnOk r Q
+ok_then P Q (Ok x) w h = w h
+ok_then P Q (Err e) w h = tt
+
+pub err_then : {X E : Type 0} (P Q : Type 0) (r : Result X E) → (P → Q) → OnErr r P → OnErr r Q
+err_then P Q (Ok x) w h = tt
+err_then P Q (Err e) w h = w h
+
+pub either_then : {X E : Type 0} (P Q R : Type 0) (r : Result X E) → (P → R) → (Q → R) → OnOk r P → OnErr r Q → R
+either_then P Q R (Ok x) w v h k = w h
+either_then P Q R (Err e) w v h k = v k
+
+pub none_from : {X : Type 0} (o : Option X) → false ≡ is_some o → o ≡ None
+none_from None e = refl
+none_from (Some x) e = absurd (true≢false (sym e))
+
+pub empty_from : {X : Type 0} (xs : List X) → (length xs == 0) ≡ true → xs ≡ []
+empty_from [] e = refl
+empty_from (x ∷ xs) e = let z = eqb-true (length (x ∷ xs)) 0 e in absurd (omega arith)

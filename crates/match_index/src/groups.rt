@@ -1,5 +1,5 @@
 //! The groups of an index, and the items that are in none of them yet.
-ghost use Rattle.std.specs.Prelude.{◌≡◌, ◌++◌, ◌-◌, ◌≤◌, true, OnOk, OnErr, position, vec_len, vec_capacity};
+ghost use Rattle.std.specs.Prelude.{◌≡◌, ◌++◌, ◌-◌, ◌<◌, ◌≤◌, true, OnOk, OnErr, position, vec_len, vec_capacity};
 ghost use Rattle.std.specs.List.{list_any};
 ghost use Rattle.match_index.specs.InsideGroups.{SameItems, in_groups};
 ghost use Rattle.match_index.specs.InsideShapes.{same_shape};
@@ -42,6 +42,16 @@ fn insert_into(groups: &mut Vec<Group>, alloc: Global, item: &Item) -> Result<()
     }
 }
 
+/// Takes out the group at a place, where it is empty.
+fn drop_empty(groups: &mut Vec<Group>, place: usize)
+    requires { place < vec_len groups.old }
+    ensures { SameItems (in_groups groups.new.items) (in_groups groups.old.items) }
+{
+    if groups[place].is_empty() {
+        groups.swap_remove(place);
+    }
+}
+
 /// Takes an item out that is there.
 pub fn remove_from(groups: &mut Vec<Group>, item: &Item)
     requires { list_any (same_item item.now) (in_groups groups.old.items) ≡ true }
@@ -49,9 +59,7 @@ pub fn remove_from(groups: &mut Vec<Group>, item: &Item)
 {
     if let Some(place) = place_of_item(groups, item) {
         groups[place].remove(item);
-        if groups[place].is_empty() {
-            groups.swap_remove(place);
-        }
+        drop_empty(groups, place);
     }
 }
 
