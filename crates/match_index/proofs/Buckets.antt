@@ -121,7 +121,7 @@ bucket_at shape [] i k xs a e = absurd (cc)
 bucket_at shape (b ∷ bs) zero k xs a e = let s : b ≡ (k, xs) = cc in subst (IsBucket shape) s (All-head (IsBucket shape) b bs a)
 bucket_at shape (b ∷ bs) (suc i) k xs a e = bucket_at shape bs i k xs (All-tail (IsBucket shape) b bs a) e
 
-values_got : (bs : List (MatchOf × List Item)) (i : ℕ) (k : MatchOf) (xs ys : List Item) → slice_get bs i ≡ Some (k, xs) → slice_get (values_of bs) i ≡ Some ys → xs ≡ ys
+pub values_got : (bs : List (MatchOf × List Item)) (i : ℕ) (k : MatchOf) (xs ys : List Item) → slice_get bs i ≡ Some (k, xs) → slice_get (values_of bs) i ≡ Some ys → xs ≡ ys
 values_got [] i k xs ys e f = absurd (cc)
 values_got (b ∷ bs) zero k xs ys e f = let s : b ≡ (k, xs) = cc in ap (λ (t : MatchOf × List Item). t.1) (sym s) ∙ (let t : b.1 ≡ ys = cc in t)
 values_got (b ∷ bs) (suc i) k xs ys e f = values_got bs i k xs ys e f

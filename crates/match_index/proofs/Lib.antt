@@ -7,3 +7,4 @@ pub mod Lists
 pub mod Buckets
 pub mod Asked
 pub mod Grouped
+pub mod Holds

@@ -13,7 +13,7 @@ take_pushed [] i x h e = absurd (omega arith)
 take_pushed (y ∷ xs) zero x h e = ap (λ z. z ∷ []) (sym e)
 take_pushed (y ∷ xs) (suc i) x h e = rw suc-add (ap (λ zs. y ∷ zs) (take_pushed xs i x (omega arith) e))
 
-map-both : {X Y : Type 0} (f : X → Y) (xs ys : List X) → map f (xs ++ ys) ≡ map f xs ++ map f ys
+pub map-both : {X Y : Type 0} (f : X → Y) (xs ys : List X) → map f (xs ++ ys) ≡ map f xs ++ map f ys
 map-both f [] ys = refl
 map-both f (x ∷ xs) ys = ap (λ zs. f x ∷ zs) (map-both f xs ys)
 

@@ -1,6 +1,7 @@
 //! The items whose matches have one shape.
 ghost use Rattle.std.specs.Prelude.{◌≡◌, ◌<◌, ◌++◌, ◌∷◌, [], Some, true, IfOk, OnOk, OnErr, slice_get};
 ghost use Rattle.std.specs.List.{list_any};
+ghost use Rattle.of10_match.specs.Ranges.{IsMatch};
 ghost use Rattle.of10_match.specs.Same.{same_match};
 ghost use Rattle.indexmap.specs.IndexMap.{get, index_map_len, index_of, values};
 ghost use Rattle.match_index.specs.InsideGroups.{AreBuckets, SameItems, in_buckets};
@@ -138,7 +139,8 @@ impl Group {
 
     /// Adds an item of the group's shape.
     pub fn insert(&mut self, alloc: Global, item: Item) -> Result<(), Memory>
-        requires { shape_of item.normal ≡ self.old.shape }
+        requires shape { shape_of item.normal ≡ self.old.shape }
+        requires in_range { IsMatch item.normal }
         ensures added { OnOk result (AddsTo item self.old.items self.new.items) }
         ensures memory { OnErr result (self.new ≡ self.old) }
     {

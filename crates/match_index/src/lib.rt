@@ -16,6 +16,7 @@ mod search;
 pub mod shape;
 #[cfg(test)]
 mod tests;
+pub mod worked;
 
 pub use index::Index;
 pub use item::Item;

@@ -1,5 +1,5 @@
 //! Questions that are asked of all items of a list.
-ghost use Rattle.std.specs.Prelude.{◌≡◌, ◌++◌, true, false, OnOk, position, vec_capacity};
+ghost use Rattle.std.specs.Prelude.{◌≡◌, ◌-◌, ◌≤◌, ◌++◌, true, false, OnOk, position, vec_capacity, vec_len};
 ghost use Rattle.std.specs.List.{list_any};
 ghost use Rattle.match_index.specs.Items.{AddsTo, IsTop, ids_of, same_item};
 ghost use Rattle.match_index.specs.Questions.{asks};
@@ -49,7 +49,7 @@ pub fn take_out(items: &mut Vec<Item>, item: &Item) -> bool
     ensures found { result ≡ list_any (same_item item.now) items.old.items }
     ensures taken { result ≡ true → AddsTo item.now items.new.items items.old.items }
     ensures missing { result ≡ false → items.new.items ≡ items.old.items }
-    ensures capacity { vec_capacity items.new ≡ vec_capacity items.old }
+    ensures room { vec_capacity items.old - vec_len items.old ≤ vec_capacity items.new - vec_len items.new }
 {
     match place_of(items, item) {
         Some(place) => {

@@ -1,7 +1,7 @@
 //! Which fields a match names.
 ghost use Rattle.std.specs.Prelude.{◌≡◌, IfSome, Option};
 ghost use Rattle.of10_match.specs.Normal.{kept as kept_of};
-ghost use Rattle.of10_match.specs.Ranges.{IsPrefix};
+ghost use Rattle.of10_match.specs.Ranges.{IsMatch, IsPrefix};
 ghost use Rattle.of10_match.specs.Wildcards.{prefix_by};
 ghost use Rattle.match_index.specs.InsideShapes.{implies as implies_of, is_named_by as is_named_by_of, kept_by, length_of, shape_of, shortened as shortened_of};
 
@@ -75,7 +75,8 @@ fn implies(must: bool, named: bool) -> bool
 
 impl Shape {
     pub fn of(m: &Match) -> Shape
-        ensures { result ≡ shape_of m.now }
+        ensures value { result ≡ shape_of m.now }
+        ensures in_range { IsMatch m.now }
     {
         Shape {
             in_port: m.in_port.is_some(),

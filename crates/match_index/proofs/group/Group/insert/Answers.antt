@@ -1,4 +1,4 @@
-use Rattle.std.proofs.Common.{◌≡◌, ◌∙◌, ◌++◌, ◌∷◌, [], List, OnOk, sym, ap, subst, rules}
+use Rattle.std.proofs.Common.{◌≡◌, ◌∙◌, ◌++◌, ◌∷◌, [], List, OnOk, sym, ap, subst, arith, count_by}
 use Rattle.std.specs.List.{All}
 use Rattle.of10_match.specs.Fields.{MatchOf}
 use Rattle.of10_match.specs.Same.{same_match}
@@ -13,7 +13,7 @@ use Rattle.match_index.proofs.group.Group.insert.Goals as goal
 pub invariant_of-self : goal.invariant_of-self
 invariant_of-self c = c.push_at.ensures.buckets c.self.inside.shape c.self.invariant
 
-entries_are : (c : goal.In_ok-insert-in-None) → c.insert.new.self.entries ≡ c.self.inside.buckets.entries ++ (c.args.item.normal, c.args.item ∷ []) ∷ []
+entries_are : (c : goal.Joined-branch-3) → c.insert.new.self.entries ≡ c.self.inside.buckets.entries ++ (c.args.item.normal, c.args.item ∷ []) ∷ []
 entries_are c =
     c.in_ok-insert-in-None.ensures.entries
     ∙ (insert_entry-new same_match c.self.inside.buckets c.args.item.normal c.in_ok-of-in-None.field-0 (none_from _ c.in-None.ensures.found)
@@ -23,7 +23,7 @@ pub invariant_of-self-in-None : goal.invariant_of-self-in-None
 invariant_of-self-in-None c =
     let P : List (MatchOf × List Item) → Type 0 = All (IsBucket c.self.inside.shape) in
     record {
-      each = subst P (sym (entries_are c)) (bucket_new c.self.inside.shape c.args.item c.self.inside.buckets.entries c.self.invariant.each ? ?);
+      each = subst P (sym (entries_are c)) (bucket_new c.self.inside.shape c.args.item c.self.inside.buckets.entries c.self.invariant.each (c.requires.shape ∙ ap (λ g. g.shape) (sym c.self.view_is)) c.requires.in_range);
       once = c.insert.ensures.unique;
     }
 
@@ -33,4 +33,8 @@ returns-in-Some-clause-added c =
     subst P (ap (λ g. g.items) c.self.view_is) c.push_at.ensures.added
 
 pub returns-in_ok-insert-in-None-clause-added : goal.returns-in_ok-insert-in-None-clause-added
-returns-in_ok-insert-in-None-clause-added c = ?
+returns-in_ok-insert-in-None-clause-added c p =
+    let a = bucket_added c.args.item c.args.item.normal c.self.inside.buckets.entries p in
+    let is : count_by p (in_buckets c.insert.new.self.entries) ≡ count_by p (in_buckets (c.self.inside.buckets.entries ++ (c.args.item.normal, c.args.item ∷ []) ∷ [])) = ap (λ bs. count_by p (in_buckets bs)) (entries_are c) in
+    let was : count_by p (in_buckets c.self.inside.buckets.entries) ≡ count_by p c.args.self.now.items = ap (λ g. count_by p g.items) c.self.view_is in
+    omega (arith, a, is, was)
