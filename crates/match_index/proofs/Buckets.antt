@@ -131,11 +131,11 @@ pub buckets_pushed : (shape : Shape) (item : Item) (bs : List (MatchOf × List I
     → slice_get (values_of bs) i ≡ Some old → new ≡ old ++ item ∷ [] → AreBuckets shape (set_value_at bs i new)
 buckets_pushed shape item bs i old new a p v n = record {
   each = buckets_set shape bs i new a.each (λ k xs e.
-    let b = bucket_at shape bs i k xs a.each e in
-    let same : new ≡ xs ++ item ∷ [] = n ∙ ap (λ ys. ys ++ item ∷ []) (sym (values_got bs i k xs old e v)) in
-    let of_match = All-push (λ (x : Item). x.normal ≡ k) xs item b.of_match (key_at item.normal k bs i xs p e) in
-    let P : List Item → Type 0 = All (λ (x : Item). x.normal ≡ k) in
-    record { of_shape = b.of_shape; in_range = b.in_range; of_match = subst P (sym same) of_match });
+      let b = bucket_at shape bs i k xs a.each e in
+      let same : new ≡ xs ++ item ∷ [] = n ∙ ap (λ ys. ys ++ item ∷ []) (sym (values_got bs i k xs old e v)) in
+      let of_match = All-push (λ (x : Item). x.normal ≡ k) xs item b.of_match (key_at item.normal k bs i xs p e) in
+      let P : List Item → Type 0 = All (λ (x : Item). x.normal ≡ k) in
+      record { of_shape = b.of_shape; in_range = b.in_range; of_match = subst P (sym same) of_match });
   once = let D : List MatchOf → Type 0 = IsDistinct same_match in subst D (sym (keys_set bs i new)) a.once;
 }
 
@@ -168,10 +168,10 @@ pub buckets_taken : (shape : Shape) (item : Item) (bs : List (MatchOf × List It
     → slice_get (values_of bs) i ≡ Some old → AddsTo item new old → AreBuckets shape (set_value_at bs i new)
 buckets_taken shape item bs i old new a v t = record {
   each = buckets_set shape bs i new a.each (λ k xs e.
-    let b = bucket_at shape bs i k xs a.each e in
-    let Of : List Item → Type 0 = All (λ (x : Item). x.normal ≡ k) in
-    let of_old = subst Of (values_got bs i k xs old e v) b.of_match in
-    record { of_shape = b.of_shape; in_range = b.in_range; of_match = all_same k new (none_fewer (is_other k) item new old t (none_other k old of_old)) });
+      let b = bucket_at shape bs i k xs a.each e in
+      let Of : List Item → Type 0 = All (λ (x : Item). x.normal ≡ k) in
+      let of_old = subst Of (values_got bs i k xs old e v) b.of_match in
+      record { of_shape = b.of_shape; in_range = b.in_range; of_match = all_same k new (none_fewer (is_other k) item new old t (none_other k old of_old)) });
   once = let D : List MatchOf → Type 0 = IsDistinct same_match in subst D (sym (keys_set bs i new)) a.once;
 }
 

@@ -1,7 +1,8 @@
 -- Items under their ids, and where they stand.
 use Rattle.std.proofs.Common.{◌≡◌, ℕ, zero, suc, ◌+◌, ◌<◌, Bool, true, false, ◌||◌, cond, List, [], ◌∷◌, ◌++◌, map, find, length, Option, Some, None, refl, sym, ap, ap₂, subst, subst₂, ◌∙◌, arith, true≢false, count_by, get_or, set, take, ◌-◌, position, is_some, option_to_list, nat_eq, ◌==◌, eqb-true, eq-eqb}
 use Rattle.std.specs.Prelude.{IsPermutation, swap_remove}
-use Rattle.std.specs.List.{list_any, All, IsDistinct, position_or_len}
+use Rattle.std.specs.List.{list_any, All, AllByRecursion, IsDistinct, position_or_len}
+use Rattle.of10_match.proofs.Prefixes.{eqb-flip}
 use Rattle.std.specs.Map.{keys_of, lookup, values_of}
 use Rattle.std.proofs.lemmas.List.Elements.{All-head, All-tail, All-push}
 use Rattle.std.proofs.lemmas.List.Folds.{list_any-append}
@@ -138,11 +139,22 @@ put_late held late groups id item e d k = record {
   ids = All-push (λ (p : ℕ × Item). p.0 ≡ p.1.id) held (id, item) k.ids e;
   once = d;
   same = λ p.
-    let s = k.same p in
-    let v : count_by p (values_of (held ++ (id, item) ∷ [])) ≡ count_by p (values_of held ++ item ∷ []) = ap (λ xs. count_by p xs) (map-both (λ (q : ℕ × Item). q.1) held ((id, item) ∷ [])) in
-    let w = AddsTo-push (values_of held) item p in
-    let l = AddsTo-push late item p in
-    let was = count-append p late (in_groups groups) in
-    let is = count-append p (late ++ item ∷ []) (in_groups groups) in
-    omega (arith, s, v, w, l, was, is);
+      let s = k.same p in
+      let v : count_by p (values_of (held ++ (id, item) ∷ [])) ≡ count_by p (values_of held ++ item ∷ []) = ap (λ xs. count_by p xs) (map-both (λ (q : ℕ × Item). q.1) held ((id, item) ∷ [])) in
+      let w = AddsTo-push (values_of held) item p in
+      let l = AddsTo-push late item p in
+      let was = count-append p late (in_groups groups) in
+      let is = count-append p (late ++ item ∷ []) (in_groups groups) in
+      omega (arith, s, v, w, l, was, is);
 }
+
+at_middle : {X : Type 0} (P : ℕ → Type 0) (f : X → ℕ) (xs : List X) (x : X) (ys : List X) → AllByRecursion P (map f (xs ++ x ∷ ys)) → P (f x)
+at_middle P f [] x ys a = a.0
+at_middle P f (z ∷ zs) x ys a = at_middle P f zs x ys a.1
+
+-- the id of an item stands nowhere before it
+pub distinct_before : (xs : List Item) (x : Item) (ys : List Item) → IsDistinct ◌==◌ (map (λ (e : Item). e.id) (xs ++ x ∷ ys)) → list_any (has_id x.id) xs ≡ false
+unfolding IsDistinct
+distinct_before [] x ys d = refl
+distinct_before (z ∷ zs) x ys d =
+    ap₂ (λ a b. a || b) (eqb-flip x.id z.id ∙ at_middle (λ n. (z.id == n) ≡ false) (λ (e : Item). e.id) zs x ys d.0) (distinct_before zs x ys d.1)

@@ -63,11 +63,7 @@ fn list_all(
 }
 
 /// Adds an item to the bucket of its match, which stands at the place.
-fn push_at(
-    buckets: &mut IndexMap<Match, Bucket>,
-    place: usize,
-    item: Item,
-) -> Result<(), Memory>
+fn push_at(buckets: &mut IndexMap<Match, Bucket>, place: usize, item: Item) -> Result<(), Memory>
     requires within { place < index_map_len buckets.old }
     requires at { index_of same_match buckets.old item.normal ≡ Some place }
     ensures added { OnOk result (AddsTo item (in_buckets buckets.old.entries) (in_buckets buckets.new.entries)) }
@@ -147,8 +143,7 @@ impl Group {
         match self.buckets.get_index_of(&item.normal) {
             Some(place) => push_at(&mut self.buckets, place, item),
             None => {
-                self.buckets
-                    .insert(item.normal, Bucket::of(alloc, item)?)?;
+                self.buckets.insert(item.normal, Bucket::of(alloc, item)?)?;
                 Ok(())
             }
         }

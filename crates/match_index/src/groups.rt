@@ -64,11 +64,7 @@ pub fn remove_from(groups: &mut Vec<Group>, item: &Item)
 }
 
 /// Moves the items that came late to their groups.
-pub fn settle(
-    late: &mut Vec<Item>,
-    groups: &mut Vec<Group>,
-    alloc: Global,
-) -> Result<(), Memory>
+pub fn settle(late: &mut Vec<Item>, groups: &mut Vec<Group>, alloc: Global) -> Result<(), Memory>
     ensures same { SameItems (late.old.items ++ in_groups groups.old.items) (late.new.items ++ in_groups groups.new.items) }
     ensures room { vec_capacity late.old - vec_len late.old ≤ vec_capacity late.new - vec_len late.new }
 {

@@ -4,11 +4,11 @@ ghost use Rattle.std.specs.List.{IsDistinct, list_any};
 ghost use Rattle.std.specs.Option.{option_copied};
 ghost use Rattle.std.specs.Ordering.{nat_cmp};
 
+use crate::group::Group;
 use crate::groups::{list_of, remove_from, settle, top_of};
 use crate::item::Item;
 use crate::question::Question;
 use crate::search::take_out;
-use crate::group::Group;
 use cv_io::{List, Memory};
 use indexmap::IndexMap;
 use of10_match::{Header, Match};

@@ -22,11 +22,7 @@ pub fn top_among(items: &[Item], question: &Question) -> Option<Item>
 }
 
 /// Appends the ids of those that are asked for.
-pub fn list_among(
-    items: &[Item],
-    question: &Question,
-    ids: &mut Vec<u64>,
-) -> Result<(), Memory>
+pub fn list_among(items: &[Item], question: &Question, ids: &mut Vec<u64>) -> Result<(), Memory>
     ensures { OnOk result (ids.new.items ≡ ids.old.items ++ ids_of (asks question.now) items.now) }
 {
     for item in items {

@@ -35,7 +35,7 @@ fn length(prefix: Option<Prefix>) -> u8
 }
 
 /// The prefix of an address that leaves out its `left_out` low bits; it names nothing from 32 on.
-fn prefix(left_out: u32, addr: u32) -> Option<Prefix>
+pub(crate) fn prefix(left_out: u32, addr: u32) -> Option<Prefix>
     ensures value { result ≡ prefix_by left_out addr }
     ensures in_range { IfSome result IsPrefix }
 {

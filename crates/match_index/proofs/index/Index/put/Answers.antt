@@ -1,4 +1,4 @@
-use Rattle.std.proofs.Common.{◌≡◌, ◌∙◌, ◌++◌, ◌∷◌, [], ◌==◌, ◌≤◌, List, ℕ, Result, Ok, OnOk, is_ok, if◌then◌else◌, map, refl, sym, ap, subst, subst₂, nat_eq, arith}
+use Rattle.std.proofs.Common.{◌≡◌, ◌∙◌, ◌++◌, ◌∷◌, [], ◌==◌, ◌≤◌, List, ℕ, Result, Ok, Err, OnOk, is_ok, if◌then◌else◌, Option, None, sym, ap, subst, subst₂, nat_eq, arith}
 use Rattle.std.specs.List.{list_any, IsDistinct}
 use Rattle.std.specs.Map.{keys_of, values_of}
 use Rattle.indexmap.proofs.CallerLemmas.{insert_entry-new}
@@ -13,31 +13,37 @@ use Rattle.match_index.proofs.index.Index.put.Goals as goal
 after_ok : {X E : Type 0} (r : Result X E) (x : X) → r ≡ Ok x → (P : Type 0) → OnOk r P → P
 after_ok r x e P h = let Q : Result _ _ → Type 0 = λ o. OnOk o P in subst Q e h
 
-entries_are : (c : goal.Joined-unwrap-2) → c.insert.new.self.entries ≡ c.self.inside.held.entries ++ (c.args.id, c.of.result) ∷ []
-entries_are c =
-    let new_id = ap (λ x. list_any (has_id c.args.id) x.items) c.self.view_is ∙ c.requires.new_id in
-    after_ok c.insert.result c.unwrap.result c.unwrap.ensures _ c.insert.ensures.entries
-    ∙ insert_entry-new nat_eq c.self.inside.held c.args.id c.of.result (absent c.args.id c.self.inside.held.entries c.self.invariant.0.ids new_id)
-
-late_is : (c : goal.Joined-unwrap-2) → c.push.new.self.items ≡ c.self.inside.late.items ++ c.of.result ∷ []
-late_is c =
-    let late = c.self.inside.late.items in
-    c.push.ensures.items ∙ (ap (λ r. if is_ok r then late ++ c.of-2.result ∷ [] else late) c.unwrap-2.ensures ∙ ap (λ x. late ++ x ∷ []) (c.of-2.ensures ∙ sym c.of.ensures))
+if_ok : {X E Y : Type 0} (r : Result X E) (x : X) → r ≡ Ok x → (a b : Y) → (if is_ok r then a else b) ≡ a
+if_ok r x e a b = ap (λ o. if is_ok o then a else b) e
 
 pub invariant_of-self : goal.invariant_of-self
 invariant_of-self c =
-    let D : List (ℕ × Item) → Type 0 = λ held. IsDistinct ◌==◌ (keys_of held) in
-    let K : List (ℕ × Item) → List Item → Type 0 = λ held late. AreKept held late c.self.inside.groups.items in
-    let kept = put_late c.self.inside.held.entries c.self.inside.late.items c.self.inside.groups.items c.args.id c.of.result (sym (ap (λ (x : Item). x.id) c.of.ensures)) (subst D (entries_are c) c.insert.ensures.unique) c.self.invariant.0 in
+    let held = c.self.inside.held.entries in
+    let late = c.self.inside.late.items in
+    let x = c.of.result in
+    let new_id = ap (λ i. list_any (has_id c.args.id) i.items) c.self.view_is ∙ c.requires.new_id in
+    let none = absent c.args.id held c.self.invariant.0.ids new_id in
+    let entries : c.insert.new.self.entries ≡ held ++ (c.args.id, x) ∷ [] =
+    after_ok c.insert.result c.unwrap.result c.unwrap.ensures _ c.insert.ensures.entries ∙ insert_entry-new nat_eq c.self.inside.held c.args.id x none in
+    let late_is : c.push.new.self.items ≡ late ++ x ∷ [] =
+    c.push.ensures.items ∙ (if_ok c.push.result c.unwrap-2.result c.unwrap-2.ensures _ _ ∙ ap (λ y. late ++ y ∷ []) (c.of-2.ensures ∙ sym c.of.ensures)) in
+    let D : List (ℕ × Item) → Type 0 = λ h. IsDistinct ◌==◌ (keys_of h) in
+    let K : List (ℕ × Item) → List Item → Type 0 = λ h l. AreKept h l c.self.inside.groups.items in
+    let kept = put_late held late c.self.inside.groups.items c.args.id x (sym (ap (λ (y : Item). y.id) c.of.ensures)) (subst D entries c.insert.ensures.unique) c.self.invariant.0 in
     let spare = c.insert.ensures.spare in
     let capacity = c.push.ensures.capacity in
     let upper = c.push.ensures.upper_bound in
     let room_held = c.self.invariant.1 in
     let room_late = c.self.invariant.2 in
-    (subst₂ K (sym (entries_are c)) (sym (late_is c)) kept, omega arith, omega arith)
+    (subst₂ K (sym entries) (sym late_is) kept, omega arith, omega arith)
 
 pub returns-clause-items : goal.returns-clause-items
 returns-clause-items c =
-    ap values_of (entries_are c)
-    ∙ (map-both (λ (p : ℕ × Item). p.1) c.self.inside.held.entries ((c.args.id, c.of.result) ∷ [])
-    ∙ (ap (λ x. values_of c.self.inside.held.entries ++ x ∷ []) c.of.ensures ∙ ap (λ x. x.items ++ record { id = c.args.id; rank = c.args.rank; normal = c.args.m.now } ∷ []) c.self.view_is))
+    let held = c.self.inside.held.entries in
+    let new_id = ap (λ i. list_any (has_id c.args.id) i.items) c.self.view_is ∙ c.requires.new_id in
+    let none = absent c.args.id held c.self.invariant.0.ids new_id in
+    let entries : c.insert.new.self.entries ≡ held ++ (c.args.id, c.of.result) ∷ [] =
+    after_ok c.insert.result c.unwrap.result c.unwrap.ensures _ c.insert.ensures.entries ∙ insert_entry-new nat_eq c.self.inside.held c.args.id c.of.result none in
+    ap values_of entries
+    ∙ (map-both (λ (p : ℕ × Item). p.1) held ((c.args.id, c.of.result) ∷ [])
+    ∙ (ap (λ x. values_of held ++ x ∷ []) c.of.ensures ∙ ap (λ i. i.items ++ record { id = c.args.id; rank = c.args.rank; normal = c.args.m.now } ∷ []) c.self.view_is))
