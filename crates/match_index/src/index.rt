@@ -41,7 +41,6 @@ impl Model for Index {
 }
 
 impl Index {
-    ghost use Rattle.of10_match.specs.Matching.{overlaps, covers};
     ghost use Rattle.match_index.specs.Items.{IndexOf, IsLeast, IsTop, has_id, ids_of};
     ghost use Rattle.match_index.specs.Questions.{asks, is_covered, is_holding, is_in_way, is_meeting};
 
@@ -162,6 +161,14 @@ impl Index {
             Some(item) => Some(item.id),
             None => None,
         }
+    }
+
+    /// The ids of the items whose match holds the header, rising.
+    pub fn holding(&self, header: &Header) -> Result<List<u64>, Memory>
+        ensures ids { IfOk result (IsPermutation (ids_of (is_holding header.now) self.now.items)) }
+        ensures rising { IfOk result (IsSorted nat_cmp) }
+    {
+        self.listed(&Question::Holding { header: *header })
     }
 
     /// The ids of the items whose match overlaps, rising.
