@@ -1,12 +1,11 @@
 -- Where a question is asked of the buckets of a group.
-use Rattle.std.proofs.Common.{◌≡◌, Bool, true, false, List, [], ◌∷◌, ◌++◌, filter, map, Option, Some, None, refl, sym, ap, subst, ◌∙◌, if◌then◌else◌}
+use Rattle.std.proofs.Common.{◌≡◌, Bool, true, false, List, filter, map, Option, Some, None, refl, sym, ap, subst, ◌∙◌, if◌then◌else◌}
 use Rattle.std.specs.List.{list_any}
 use Rattle.std.specs.Map.{lookup}
 use Rattle.of10_match.specs.Fields.{MatchOf}
-use Rattle.of10_match.specs.Ranges.{IsMatch}
 use Rattle.of10_match.specs.Same.{same_match}
 use Rattle.match_index.specs.InsideGroups.{AreBuckets, in_buckets}
-use Rattle.match_index.specs.InsideShapes.{is_named_by, kept_by, place_in, shape_of}
+use Rattle.match_index.specs.InsideShapes.{is_named_by, kept_by, place_in}
 use Rattle.match_index.specs.Items.{IsTop, ids_of, same_item}
 use Rattle.match_index.specs.Questions.{asks, probe}
 use Rattle.match_index.specs.declared.item.Item.{Item}

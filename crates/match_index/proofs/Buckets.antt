@@ -1,6 +1,6 @@
 -- Items in the buckets of their matches.
-use Rattle.std.proofs.Common.{◌≡◌, ℕ, zero, suc, ◌+◌, ◌<◌, Bool, true, false, cond, ◌||◌, List, [], ◌∷◌, ◌++◌, map, filter, length, Option, Some, None, refl, sym, ap, ap₂, subst, ◌∙◌, arith, if◌then◌else◌, true≢false, count_by, slice_get, get_or, not, position, ltb-false, le-ltb}
-use Rattle.std.specs.Prelude.{IsPermutation, swap_remove}
+use Rattle.std.proofs.Common.{◌≡◌, ℕ, zero, suc, ◌+◌, Bool, true, false, cond, ◌||◌, List, [], ◌∷◌, ◌++◌, map, filter, Option, Some, None, refl, sym, ap, ap₂, subst, ◌∙◌, arith, true≢false, count_by, slice_get, get_or, not, position, ltb-false, le-ltb}
+use Rattle.std.specs.Prelude.{swap_remove}
 use Rattle.std.specs.List.{list_any, All, AllByRecursion, IsDistinct, sum_by}
 use Rattle.std.specs.Map.{keys_of, lookup, values_of}
 use Rattle.indexmap.specs.IndexMap.{set_value_at}

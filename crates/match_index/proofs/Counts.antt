@@ -1,5 +1,5 @@
 -- Items by how many of them pass a test.
-use Rattle.std.proofs.Common.{◌≡◌, ℕ, ◌+◌, ◌<◌, Bool, true, false, cond, ◌||◌, ◌&&◌, List, [], ◌∷◌, ◌++◌, filter, refl, sym, ap, ◌∙◌, arith, if◌then◌else◌, true≢false, count_by, nat_lt, lt-ltb, get_or, length, Decides, ◌==◌, Option, Some, None, position}
+use Rattle.std.proofs.Common.{◌≡◌, ℕ, ◌+◌, ◌<◌, Bool, true, false, cond, ◌||◌, List, [], ◌∷◌, ◌++◌, refl, sym, ap, ◌∙◌, arith, if◌then◌else◌, true≢false, count_by, nat_lt, lt-ltb, get_or, length, Decides, ◌==◌, Some, None, position}
 use Rattle.std.specs.Prelude.{IsPermutation, swap_remove}
 use Rattle.std.specs.List.{list_any, position_or_len}
 use Rattle.std.proofs.lemmas.List.Folds.{list_any_at}

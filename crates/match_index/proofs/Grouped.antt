@@ -1,7 +1,6 @@
 -- Items in groups.
-use Rattle.std.proofs.Common.{◌≡◌, ℕ, zero, suc, ◌+◌, ◌<◌, Bool, true, false, ◌||◌, ◌&&◌, List, [], ◌∷◌, ◌++◌, length, Option, Some, None, refl, sym, ap, ap₂, subst, ◌∙◌, arith, true≢false, count_by, get_or, set, position, Decides, ◌==◌}
+use Rattle.std.proofs.Common.{◌≡◌, ℕ, zero, suc, ◌+◌, ◌<◌, Bool, true, false, ◌||◌, List, [], ◌∷◌, length, Some, None, refl, sym, ap, ◌∙◌, arith, count_by, get_or, set, position, Decides}
 use Rattle.std.specs.Prelude.{swap_remove}
-use Rattle.std.specs.Bool.{beq}
 use Rattle.std.specs.Cmp.{booleans_Decides}
 use Rattle.std.specs.List.{list_any}
 use Rattle.std.proofs.lemmas.Bool.Decides.{Decides-eqb, Decides-and, Decides-like}
@@ -16,7 +15,6 @@ use Rattle.match_index.specs.Items.{AddsTo, same_item}
 use Rattle.match_index.specs.declared.item.Item.{Item}
 use Rattle.match_index.specs.declared.shape.Shape.{Shape}
 use Rattle.match_index.proofs.Counts.{count-append, position-none}
-use Rattle.match_index.proofs.Lists.{got_same}
 
 -- the test of equality of shapes decides it
 pub shape_decides : (s t : Shape) → Decides (same_shape s t) (s ≡ t)

@@ -1,6 +1,6 @@
 -- Items under their ids, and where they stand.
-use Rattle.std.proofs.Common.{◌≡◌, ℕ, zero, suc, ◌+◌, ◌<◌, Bool, true, false, ◌||◌, cond, List, [], ◌∷◌, ◌++◌, map, find, length, Option, Some, None, refl, sym, ap, ap₂, subst, subst₂, ◌∙◌, arith, true≢false, count_by, get_or, set, take, ◌-◌, position, is_some, option_to_list, nat_eq, ◌==◌, eqb-true, eq-eqb}
-use Rattle.std.specs.Prelude.{IsPermutation, swap_remove}
+use Rattle.std.proofs.Common.{◌≡◌, ℕ, zero, suc, ◌<◌, Bool, true, false, ◌||◌, cond, List, [], ◌∷◌, ◌++◌, map, find, length, Option, Some, None, refl, sym, ap, ap₂, subst₂, ◌∙◌, arith, true≢false, count_by, get_or, position, is_some, nat_eq, ◌==◌}
+use Rattle.std.specs.Prelude.{IsPermutation}
 use Rattle.std.specs.List.{list_any, All, AllByRecursion, IsDistinct, position_or_len}
 use Rattle.of10_match.proofs.Prefixes.{eqb-flip}
 use Rattle.std.specs.Map.{keys_of, lookup, values_of}
@@ -15,7 +15,7 @@ use Rattle.match_index.specs.Items.{AddsTo, has_id, same_item}
 use Rattle.match_index.specs.declared.item.Item.{Item}
 use Rattle.match_index.proofs.Counts.{AddsTo-push, count-append, count-cons, count-permuted, item_decides, position-any, same_any}
 use Rattle.match_index.proofs.Lists.{got_same, map-both}
-use Rattle.match_index.proofs.Tops.{or_false, or_left}
+use Rattle.match_index.proofs.Tops.{or_left}
 
 -- each item stands under its id
 abbrev pub AreIds : List (ℕ × Item) → Type 0

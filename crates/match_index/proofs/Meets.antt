@@ -1,10 +1,10 @@
 -- What is asked for meets the match that the question has.
-use Rattle.std.proofs.Common.{◌≡◌, ℕ, ◌-◌, ◌/◌, ◌^◌, ◌≤◌, ◌<◌, Bool, true, false, ◌&&◌, Option, Some, None, refl, sym, ap, subst, ◌∙◌, arith, nat_le, eqb-true, eq-eqb, leb-true, true≢false, if◌then◌else◌}
+use Rattle.std.proofs.Common.{◌≡◌, ℕ, ◌-◌, ◌/◌, ◌^◌, Bool, true, false, ◌&&◌, Option, Some, None, refl, sym, subst, ◌∙◌, arith, leb-true, true≢false, if◌then◌else◌}
 use Rattle.std.specs.Prelude.{◌==◌}
 use Rattle.of10_match.specs.Fields.{HeaderOf, MatchOf}
 use Rattle.of10_match.specs.Matching.{holds, fits, fits_prefix, covers, asks, asks_prefix, agree, agree_prefix, overlaps, is_longer, top_bits}
 use Rattle.of10_match.specs.declared.header.Prefix.{Prefix}
-use Rattle.of10_match.proofs.FieldTests.{Fits, Asks, holds-fields, covers-fields, overlaps-intro}
+use Rattle.of10_match.proofs.FieldTests.{holds-fields, covers-fields, overlaps-intro}
 use Rattle.of10_match.proofs.Prefixes.{eqb-flip}
 use Rattle.of10_match.proofs.Twelve.{and-first, and-second}
 use Rattle.match_index.specs.Questions as spec

@@ -1,5 +1,5 @@
 -- Of the matches of one shape that a match names all of, one alone can overlap it.
-use Rattle.std.proofs.Common.{◌≡◌, ℕ, ◌+◌, ◌-◌, ◌*◌, ◌/◌, ◌%◌, ◌^◌, ◌≤◌, ◌<◌, Bool, true, false, ◌&&◌, Option, Some, None, IfSome, refl, sym, ap, subst, ◌∙◌, arith, nat_le, nat_lt, eqb-true, leb-true, lt-ltb, true≢false, is_some, if◌then◌else◌}
+use Rattle.std.proofs.Common.{◌≡◌, ℕ, ◌-◌, ◌*◌, ◌/◌, ◌%◌, ◌^◌, ◌≤◌, ◌<◌, Bool, true, false, Option, Some, None, IfSome, refl, sym, ap, subst, ◌∙◌, arith, nat_le, eqb-true, leb-true, lt-ltb, true≢false, is_some, if◌then◌else◌}
 use Rattle.std.specs.Prelude.{◌==◌}
 use Rattle.std.proofs.Math.Nat.{mod-eq-sub-div-mul, div-mul-le_self}
 use Rattle.of10_match.specs.Fields.{MatchOf}
@@ -8,7 +8,7 @@ use Rattle.of10_match.specs.Normal.{kept}
 use Rattle.of10_match.specs.Ranges.{IsMatch, IsPrefix}
 use Rattle.of10_match.specs.Wildcards.{prefix_by}
 use Rattle.of10_match.specs.declared.header.Prefix.{Prefix}
-use Rattle.of10_match.proofs.FieldTests.{Agrees, overlaps-fields}
+use Rattle.of10_match.proofs.FieldTests.{overlaps-fields}
 use Rattle.of10_match.proofs.Twelve.{each-fields}
 use Rattle.match_index.specs.InsideShapes.{implies, is_named_by, kept_by, length_of, shape_of, shortened}
 use Rattle.match_index.specs.Questions as spec

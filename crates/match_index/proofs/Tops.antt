@@ -1,12 +1,10 @@
 -- The first of the items that pass a test.
-use Rattle.std.proofs.Common.{◌≡◌, ℕ, ◌+◌, ◌<◌, ◌≤◌, Bool, true, false, cond, ◌||◌, ◌&&◌, List, [], ◌∷◌, ◌++◌, filter, Option, Some, None, refl, sym, ap, ap₂, subst, ◌∙◌, arith, if◌then◌else◌, true≢false, count_by, nat_lt, ◌==◌, not, eqb-true, eq-eqb, ltb-true, ltb-false, lt-ltb, le-ltb}
+use Rattle.std.proofs.Common.{◌≡◌, ℕ, Bool, true, false, cond, ◌||◌, ◌&&◌, List, [], ◌∷◌, ◌++◌, filter, Option, Some, None, refl, sym, ap, ap₂, ◌∙◌, arith, if◌then◌else◌, true≢false, nat_lt, ◌==◌, eqb-true, eq-eqb}
 use Rattle.std.specs.List.{list_any}
 use Rattle.std.proofs.lemmas.Bool.Decides.{nat_tests}
 use Rattle.std.proofs.lemmas.List.Folds.{list_any-append}
 use Rattle.of10_match.specs.Fields.{MatchOf}
-use Rattle.of10_match.specs.Matching.{overlaps}
-use Rattle.of10_match.specs.Same.{same_match}
-use Rattle.match_index.specs.Items.{IsFirst, IsLeast, IsLeastId, IsTop, before, is_before, same_item}
+use Rattle.match_index.specs.Items.{IsFirst, IsLeastId, IsTop, before, is_before, same_item}
 use Rattle.match_index.specs.InsideGroups.{SameItems}
 use Rattle.match_index.specs.Questions.{is_in_way}
 use Rattle.match_index.specs.declared.item.Item.{Item}

@@ -1,5 +1,5 @@
 -- How items stand in an index.
-use Rattle.std.specs.Prelude.{◌≡◌, ℕ, ◌==◌, ◌≤◌, Bool, List, ◌++◌, flat_map, map, count_by}
+use Rattle.std.specs.Prelude.{◌≡◌, ℕ, ◌==◌, Bool, List, ◌++◌, flat_map, map, count_by}
 use Rattle.std.specs.List.{All, IsDistinct}
 use Rattle.of10_match.specs.Fields.{MatchOf}
 use Rattle.of10_match.specs.Ranges.{IsMatch}

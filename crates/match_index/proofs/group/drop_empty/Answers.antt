@@ -3,7 +3,7 @@ use Rattle.std.specs.Prelude.{swap_remove}
 use Rattle.std.specs.List.{All}
 use Rattle.std.specs.Map.{values_of}
 use Rattle.of10_match.specs.Fields.{MatchOf}
-use Rattle.match_index.specs.InsideGroups.{AreBuckets, IsBucket, in_buckets}
+use Rattle.match_index.specs.InsideGroups.{IsBucket, in_buckets}
 use Rattle.match_index.specs.declared.item.Item.{Item}
 use Rattle.match_index.specs.declared.shape.Shape.{Shape}
 use Rattle.match_index.proofs.Buckets.{count_dropped, each_dropped, values_got}

@@ -1,6 +1,5 @@
 use Rattle.std.proofs.Common.{◌≡◌, ◌++◌, ◌∷◌, [], sym, subst}
-use Rattle.match_index.specs.InsideGroups.{AreBuckets, in_buckets}
-use Rattle.match_index.specs.Items.{AddsTo}
+use Rattle.match_index.specs.InsideGroups.{AreBuckets}
 use Rattle.match_index.proofs.Buckets.{buckets_pushed, pushed_at, set_same}
 use Rattle.match_index.proofs.Lists.{either_then, err_then, ok_then}
 use Rattle.match_index.proofs.group.push_at.Goals as goal

@@ -1,5 +1,4 @@
-use Rattle.std.proofs.Common.{◌≡◌, ◌∙◌, ◌<◌, List, length, sym, ap, subst, arith, rules}
-use Rattle.std.specs.Prelude.{swap_remove}
+use Rattle.std.proofs.Common.{◌≡◌, ◌∙◌, ◌<◌, List, length, sym, ap, subst, rules}
 use Rattle.match_index.specs.InsideGroups.{GroupOf, SameItems, in_groups}
 use Rattle.match_index.proofs.Grouped.{group_dropped}
 use Rattle.match_index.proofs.Lists.{got_same}

@@ -1,5 +1,5 @@
-use Rattle.std.proofs.Common.{◌≡◌, ◌∙◌, ◌++◌, ◌∷◌, [], List, take, take_all, refl, sym, ap, subst, append_assoc}
-use Rattle.match_index.specs.InsideGroups.{GroupOf, in_groups}
+use Rattle.std.proofs.Common.{◌∙◌, ◌++◌, take, take_all, refl, sym, ap, append_assoc}
+use Rattle.match_index.specs.InsideGroups.{in_groups}
 use Rattle.match_index.specs.Items.{ids_of}
 use Rattle.match_index.specs.Questions.{asks}
 use Rattle.match_index.proofs.Lists.{append_none, groups_pushed, listed_more, take_pushed}

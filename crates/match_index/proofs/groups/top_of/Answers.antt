@@ -1,4 +1,4 @@
-use Rattle.std.proofs.Common.{◌∙◌, ◌++◌, ◌∷◌, [], List, take, take_all, sym, ap, subst, subst₂, append_assoc, Option}
+use Rattle.std.proofs.Common.{◌∙◌, ◌++◌, List, take, take_all, sym, ap, subst, subst₂, append_assoc, Option}
 use Rattle.match_index.specs.InsideGroups.{GroupOf, in_groups}
 use Rattle.match_index.specs.Items.{IsTop}
 use Rattle.match_index.specs.Questions.{asks}

@@ -1,4 +1,4 @@
-use Rattle.std.proofs.Common.{◌≡◌, refl, sym, ◌∙◌, ap, subst, subst₂, Bool, take, List, take_all, Option, Some, None}
+use Rattle.std.proofs.Common.{◌≡◌, refl, sym, ◌∙◌, subst, subst₂, Bool, take, List, take_all, Option, Some, None}
 use Rattle.match_index.specs.Items.{IsTop, before}
 use Rattle.match_index.specs.Questions.{asks}
 use Rattle.match_index.specs.declared.item.Item.{Item}

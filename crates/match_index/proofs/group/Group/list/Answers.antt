@@ -1,7 +1,6 @@
-use Rattle.std.proofs.Common.{◌≡◌, ◌∙◌, ◌++◌, List, ℕ, OnOk, Some, None, refl, sym, ap, subst}
+use Rattle.std.proofs.Common.{◌≡◌, ◌∙◌, ◌++◌, List, ℕ, OnOk, Some, None, sym, ap, subst}
 use Rattle.match_index.specs.Items.{ids_of}
 use Rattle.match_index.specs.Questions.{asks}
-use Rattle.match_index.specs.declared.item.Item.{Item}
 use Rattle.match_index.proofs.Asked.{ids_at}
 use Rattle.match_index.proofs.Lists.{append_none}
 use Rattle.match_index.proofs.group.Group.list.Goals as goal

@@ -2,10 +2,9 @@ use Rattle.std.proofs.Common.{◌≡◌, ◌∙◌, ◌++◌, List, ℕ, sym, ap
 use Rattle.std.specs.Prelude.{IsPermutation}
 use Rattle.std.specs.Map.{values_of}
 use Rattle.std.proofs.lemmas.List.Sorted.{IsPermutation-trans}
-use Rattle.match_index.specs.InsideGroups.{GroupOf, in_groups}
+use Rattle.match_index.specs.InsideGroups.{in_groups}
 use Rattle.match_index.specs.Items.{ids_of}
 use Rattle.match_index.specs.Questions.{asks}
-use Rattle.match_index.specs.declared.item.Item.{Item}
 use Rattle.match_index.proofs.Rising.{ids_same}
 use Rattle.match_index.proofs.index.Index.listed.Goals as goal
 

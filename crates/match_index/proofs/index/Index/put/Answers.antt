@@ -1,4 +1,4 @@
-use Rattle.std.proofs.Common.{◌≡◌, ◌∙◌, ◌++◌, ◌∷◌, [], ◌==◌, ◌≤◌, List, ℕ, Result, Ok, Err, OnOk, is_ok, if◌then◌else◌, Option, None, sym, ap, subst, subst₂, nat_eq, arith}
+use Rattle.std.proofs.Common.{◌≡◌, ◌∙◌, ◌++◌, ◌∷◌, [], ◌==◌, List, ℕ, Result, Ok, OnOk, is_ok, if◌then◌else◌, sym, ap, subst, subst₂, nat_eq, arith}
 use Rattle.std.specs.List.{list_any, IsDistinct}
 use Rattle.std.specs.Map.{keys_of, values_of}
 use Rattle.indexmap.proofs.CallerLemmas.{insert_entry-new}

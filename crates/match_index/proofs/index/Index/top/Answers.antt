@@ -1,4 +1,4 @@
-use Rattle.std.proofs.Common.{◌++◌, List, ap, subst, subst₂}
+use Rattle.std.proofs.Common.{◌++◌, List, subst, subst₂}
 use Rattle.std.specs.Map.{values_of}
 use Rattle.match_index.specs.InsideGroups.{GroupOf, in_groups}
 use Rattle.match_index.specs.Items.{IndexOf, IsTop}

@@ -1,4 +1,4 @@
-use Rattle.std.proofs.Common.{◌≡◌, ◌<◌, ◌^◌, ℕ, Bool, true, false, Option, IfSome, subst, sym, List}
+use Rattle.std.proofs.Common.{◌≡◌, ◌<◌, ◌^◌, ℕ, Bool, true, false, Option, IfSome, subst, sym}
 use Rattle.of10_match.specs.Normal.{kept}
 use Rattle.of10_match.specs.Ranges.{IsTos, IsVlan}
 use Rattle.match_index.proofs.shape.Shape.keep.Goals as goal
