@@ -78,6 +78,13 @@ impl Index {
         self.held.get(&id)
     }
 
+    /// Whether there is an item of the id.
+    pub fn has(&self, id: u64) -> bool
+        ensures { result ≡ list_any (has_id id) self.now.items }
+    {
+        self.held.get_index_of(&id).is_some()
+    }
+
     /// Makes room for so many more items.
     pub fn reserve(&mut self, more: usize) -> Result<(), Memory>
         ensures items { self.new.items ≡ self.old.items }

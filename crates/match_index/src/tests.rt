@@ -80,7 +80,7 @@ fn some_items(alloc: Global, count: u64) -> Result<Vec<Item>, Fail> {
 fn indexed(alloc: Global, items: &[Item], count: u64) -> Result<Index, Fail> {
     let mut index = Index::new(alloc);
     for item in items {
-        if index.get(item.id).is_none() {
+        if !index.has(item.id) {
             index.insert_ranked(item.id, item.rank, &item.normal)?;
         }
     }
@@ -183,7 +183,7 @@ fn answers_are_those_of_a_look_at_each_item(rt: HostRuntime) -> Result<(), Fail>
 fn of_everything(alloc: Global) -> Result<Index, Fail> {
     let mut index = Index::new(alloc);
     index.reserve(2)?;
-    if index.get(7).is_none() {
+    if !index.has(7) {
         index.insert(7, &Match::everything())?;
     }
     Ok(index)
