@@ -228,6 +228,7 @@ count_said form line l (a ∷ b ∷ c ∷ []) known is e = by (verb_in form a) r
   where
     last : is_word c ≡ true
     last = (both (is_word c) true (both (is_word b) (is_word c && true) (both (is_word a) (is_word b && (is_word c && true)) known).1).1).0
+
     by : (o : Option Verb) → verb_in form a ≡ o → three_of form o b c ≡ Ok l → Says form l line
     by None v e = absurd cc
     by (Some verb) v e = three_said form verb b c line l (is_verb form a verb v).knows last (sym is ∙ ap (λ (w : List ℕ). spaced (w ∷ b ∷ c ∷ [])) (is_verb form a verb v).text) e

@@ -111,9 +111,9 @@ pub no_number : (most : ℕ) (text : List ℕ) → most < most64 → digits_in t
 unfolding digits_in
 no_number most text bound read =
     none_if most text (λ same small.
-        let tested : all_ascii_digits text ≡ true = ap all_ascii_digits (sym same) ∙ digits_decimal own (value_of text) (omega (arith, small, bound)) in
-        let fits : nat_lt (value_of text) most64 ≡ true = lt-ltb _ _ (omega (arith, small, bound)) in
-        none_some (value_of text) (sym read ∙ (λ i. cond (tested i && fits i) (Some (value_of text)) None)))
+    let tested : all_ascii_digits text ≡ true = ap all_ascii_digits (sym same) ∙ digits_decimal own (value_of text) (omega (arith, small, bound)) in
+    let fits : nat_lt (value_of text) most64 ≡ true = lt-ltb _ _ (omega (arith, small, bound)) in
+    none_some (value_of text) (sym read ∙ (λ i. cond (tested i && fits i) (Some (value_of text)) None)))
   where
     none_some : (n : ℕ) → None ≡ Some n → ⊥
     none_some n e = cc

@@ -44,13 +44,13 @@ name_byte c e =
     elim (either (is_letter c) ((nat_le 48 c && nat_le c 57) || (c == 95)) e) [
       | inl letter ↦ let r = letter_is c letter in record { low = omega (arith, r.0); high = r.1; colon = λ s. omega (arith, s, r.0); at = λ s. omega (arith, s, r.0) }
       | inr other ↦ elim (either (nat_le 48 c && nat_le c 57) (c == 95) other) [
-          | inl digit ↦
+        | inl digit ↦
             let r = both (nat_le 48 c) (nat_le c 57) digit in
             let low = leb-true _ _ r.0 in
             let high = leb-true _ _ r.1 in
             record { low = low; high = omega (arith, high); colon = λ s. omega (arith, s, high); at = λ s. omega (arith, s, high) }
-          | inr line ↦ let s = eqb-true _ _ line in record { low = omega (arith, s); high = omega (arith, s); colon = λ t. omega (arith, s, t); at = λ t. omega (arith, s, t) }
-        ]
+        | inr line ↦ let s = eqb-true _ _ line in record { low = omega (arith, s); high = omega (arith, s); colon = λ t. omega (arith, s, t); at = λ t. omega (arith, s, t) }
+      ]
     ]
 
 name_visible : (c : ℕ) → is_name_byte c ≡ true → is_visible c ≡ true
@@ -126,12 +126,15 @@ hex_visible c e = first (nat_le 65 c && nat_le c 70) refl e
     range low high above below t =
         let r = both (nat_le low c) (nat_le c high) t in
         in_range c (omega (arith, leb-true _ _ r.0, above)) (omega (arith, leb-true _ _ r.1, below))
+
     last : (b : Bool) → (nat_le 48 c && nat_le c 57) ≡ b → is_some (cond b (Some (c - 48)) None) ≡ true → is_visible c ≡ true
     last true t e = range 48 57 (omega arith) (omega arith) t
     last false t e = absurd cc
+
     next : (b : Bool) → (nat_le 97 c && nat_le c 102) ≡ b → is_some (cond b (Some (c - 87)) (cond (nat_le 48 c && nat_le c 57) (Some (c - 48)) None)) ≡ true → is_visible c ≡ true
     next true t e = range 97 102 (omega arith) (omega arith) t
     next false t e = last (nat_le 48 c && nat_le c 57) refl e
+
     first : (b : Bool) → (nat_le 65 c && nat_le c 70) ≡ b → is_some (cond b (Some (c - 55)) (cond (nat_le 97 c && nat_le c 102) (Some (c - 87)) (cond (nat_le 48 c && nat_le c 57) (Some (c - 48)) None))) ≡ true → is_visible c ≡ true
     first true t e = range 65 70 (omega arith) (omega arith) t
     first false t e = next (nat_le 97 c && nat_le c 102) refl e

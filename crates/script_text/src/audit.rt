@@ -20,13 +20,23 @@ pub enum Audit {
         detail: Text,
     },
     /// A switch went down.
-    Down { name: Text, cause: DownCause },
+    Down {
+        name: Text,
+        cause: DownCause,
+    },
     /// A member's session was closed, since it takes its messages too slowly.
-    Slow { name: Text },
+    Slow {
+        name: Text,
+    },
     /// A switch came up that doesn't match ARP addresses.
-    NoArp { name: Text },
+    NoArp {
+        name: Text,
+    },
     /// A virtual switch got another expression, or was refused it for this kind.
-    Policy { vsw: Text, refused: Option<Text> },
+    Policy {
+        vsw: Text,
+        refused: Option<Text>,
+    },
 }
 
 /// Why a switch goes down.

@@ -20,3 +20,5 @@ pub use number::decimal_number;
 pub use reading::read_line;
 pub use report::report_line;
 
+#[cfg(test)]
+mod tests;

@@ -8,15 +8,28 @@ pub enum Line {
     Blank,
     /// `up NAME` or `up NAME noarp`: the session comes up; with `noarp` it is a switch that doesn't match
     /// ARP addresses.
-    Up { name: Text, noarp: bool },
+    Up {
+        name: Text,
+        noarp: bool,
+    },
     /// `from NAME HEX`: the session sends these bytes.
-    From { name: Text, bytes: Bytes },
+    From {
+        name: Text,
+        bytes: Bytes,
+    },
     /// `gone NAME`: the session ends.
-    Gone { name: Text },
+    Gone {
+        name: Text,
+    },
     /// `tick N`: the moment, in seconds.
-    Tick { second: u64 },
+    Tick {
+        second: u64,
+    },
     /// `expr VIRTUAL TEXT`: the virtual switch gets another expression.
-    Expr { name: Text, text: Text },
+    Expr {
+        name: Text,
+        text: Text,
+    },
     /// `ask SWITCH:PORT HEX`: why the packet goes where it goes.
     Ask {
         switch: Text,

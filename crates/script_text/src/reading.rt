@@ -19,6 +19,7 @@ const EXPRESSION: usize = 1024;
 
 /// The shortest and the longest packet that comes in.
 const SHORTEST: usize = 14;
+
 const LONGEST: usize = 65_513;
 
 /// What a line says, which is given without its line feed, or its first fault. A form of the program
@@ -44,12 +45,7 @@ fn is_blank(line: &[u8]) -> bool
 }
 
 /// What a line says of a first word and what stands behind the blank after it.
-fn read_words(
-    alloc: Global,
-    form: Form,
-    first: &[u8],
-    rest: &[u8],
-) -> Result<Line, LineFault>
+fn read_words(alloc: Global, form: Form, first: &[u8], rest: &[u8]) -> Result<Line, LineFault>
     ensures { Gives result (said form (first.now ∷ words rest.now)) }
 {
     let Some(at) = place_of(rest, b' ') else {
@@ -61,12 +57,7 @@ fn read_words(
 }
 
 /// What a line of two words says.
-fn read_two(
-    alloc: Global,
-    form: Form,
-    first: &[u8],
-    second: &[u8],
-) -> Result<Line, LineFault>
+fn read_two(alloc: Global, form: Form, first: &[u8], second: &[u8]) -> Result<Line, LineFault>
     ensures { Gives result (said form (first.now ∷ second.now ∷ [])) }
 {
     if !is_word(first) {
