@@ -1,0 +1,5 @@
+pub mod Places
+pub mod Rows
+pub mod Wires
+pub mod Faults
+pub mod Shown
