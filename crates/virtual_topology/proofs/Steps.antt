@@ -1,6 +1,8 @@
 -- Steps of loops over rows and places.
 use Rattle.std.proofs.Common.{◌≡◌, ℕ, zero, suc, ◌+◌, ◌-◌, ◌<◌, ◌≤◌, Bool, true, false, cond, ◌||◌, ◌&&◌, ◌==◌, nat_eq, not, Option, Some, None, List, [], ◌∷◌, ◌++◌, append-nil, length, get_or, take, drop, map, refl, sym, ap, ◌∙◌, subst, arith, if◌then◌else◌}
-use Rattle.std.specs.Prelude.{flat_map}
+use Rattle.std.specs.Prelude.{flat_map, filter_map, option_to_list}
+use Rattle.std.specs.List.{cons_option}
+use Rattle.std.proofs.lemmas.List.Elements.{filter_map-append}
 use Rattle.std.specs.List.{enumerate_from, list_any}
 use Rattle.std.specs.Map.{lookup}
 use Rattle.std.specs.Cmp.{IsEquivalence}
@@ -101,18 +103,18 @@ among_step us i u q lt item old new before put =
 pub numbered_all : {X : Type 0} (xs : List X) (n : ℕ) → length xs ≤ n → take n (enumerate_from 0 xs) ≡ enumerate_from 0 xs
 numbered_all xs n all = take_all n (enumerate_from 0 xs) (subst (λ k. k ≤ n) (sym (length-enumerate_from 0 xs)) all)
 
--- uses and rows of the code, and what they stand for
-pub as_many_shown : (us : List Use) → length (map shown us) ≡ length us
-as_many_shown [] = refl
-as_many_shown (u ∷ us) = ap suc (as_many_shown us)
+-- items of the code, and what they stand for
+pub as_many_mapped : {X Y : Type 0} (f : X → Y) (xs : List X) → length (map f xs) ≡ length xs
+as_many_mapped f [] = refl
+as_many_mapped f (x ∷ xs) = ap suc (as_many_mapped f xs)
 
-pub shown_at : (us : List Use) (i : ℕ) (u : Use) → i < length us → u ≡ get_or us i u → shown u ≡ get_or (map shown us) i (shown u)
-shown_at us i u lt item = ap shown item ∙ by us i lt
+pub mapped_at : {X Y : Type 0} (f : X → Y) (xs : List X) (i : ℕ) (x : X) → i < length xs → x ≡ get_or xs i x → f x ≡ get_or (map f xs) i (f x)
+mapped_at {X} {Y} f xs i x lt item = ap f item ∙ by xs i lt
   where
-    by : (us : List Use) (i : ℕ) → i < length us → shown (get_or us i u) ≡ get_or (map shown us) i (shown u)
+    by : (xs : List X) (i : ℕ) → i < length xs → f (get_or xs i x) ≡ get_or (map f xs) i (f x)
     by [] i lt = refl
-    by (x ∷ us) zero lt = refl
-    by (x ∷ us) (suc i) lt = by us i (omega arith)
+    by (y ∷ xs) zero lt = refl
+    by (y ∷ xs) (suc i) lt = by xs i (omega arith)
 
 -- the derived equality of uses
 derived_role : (a b : Role) → sameb the_type a b ≡ same_role a b
@@ -132,3 +134,14 @@ derived_is = λ i a b. derived_role a.role b.role i && same_place (shown a).plac
 pub lookup_shown : (u : Use) (rs : List (Use × Spot)) → lookup (derived_use.eq u) rs ≡ lookup (same_use (shown u)) (map shown_row rs)
 lookup_shown u [] = refl
 lookup_shown u (r ∷ rs) = λ i. cond (derived_is i u r.0) (Some r.1) (lookup_shown u rs i)
+
+-- loops that append what a function gives of each item, if it gives something
+listed : {Y : Type 0} (o : Option Y) → cons_option o [] ≡ option_to_list o
+listed None = refl
+listed (Some y) = refl
+
+pub pushed_some : {X Y : Type 0} (f : X → Option Y) (xs : List X) (i : ℕ) (x : X) (out new : List Y) (o : Option Y) → i < length xs → x ≡ get_or xs i x
+    → out ≡ filter_map f (take i xs) → o ≡ f x → new ≡ out ++ option_to_list o → new ≡ filter_map f (take (i + 1) xs)
+pushed_some f xs i x out new o lt item so is added =
+    added ∙ ((λ j. so j ++ option_to_list (is j)) ∙ sym (ap (filter_map f) (take_more xs i x lt ∙ ap (λ y. take i xs ++ y ∷ []) (sym item))
+    ∙ (filter_map-append f (take i xs) (x ∷ []) ∙ ap (λ zs. filter_map f (take i xs) ++ zs) (listed (f x)))))

@@ -44,17 +44,20 @@ asked Link = Virtual
 abbrev pub is_missing : List Row → PlaceUse → Bool
 is_missing rs u = is_none (where_is rs (asked u.role) u.place)
 
+abbrev pub unknown_place : List Row → PlaceUse → Option TopologyFault
+unknown_place rs u = if is_missing rs u then Some (Unknown (place_text u.place)) else None
+
 -- 2: the first place that isn't there
 abbrev pub unknown_among : List Row → List PlaceUse → Option TopologyFault
-unknown_among rs us = option_map (λ u. Unknown (place_text u.place)) (find (is_missing rs) us)
+unknown_among rs us = first_answer (unknown_place rs) us
 
 -- both ends are on one switch
 abbrev pub is_loop : PairItem → Bool
 is_loop pair = same_name pair.a.name pair.b.name
 
--- a cable whose ends are on one switch
-abbrev pub looped_cable : PairItem → Option PortPlace
-looped_cable c = if is_loop c then Some c.a else None
+-- a cable or link whose ends are on one switch
+abbrev pub looped : PairItem → Option TopologyFault
+looped pair = if is_loop pair then Some (LinkShape (place_text pair.a)) else None
 
 -- the row is that of a link port
 abbrev pub is_link_row : Role → Bool
@@ -63,21 +66,20 @@ is_link_row Virtual = false
 is_link_row Link = true
 
 -- a link port without a link
-abbrev pub unlinked : List PlaceUse → Row → Option PortPlace
-unlinked us r = if is_link_row r.0.role && not (list_any (same_use r.0) us) then Some r.0.place else None
+abbrev pub unlinked : List PlaceUse → Row → Option TopologyFault
+unlinked us r = if is_link_row r.0.role && not (list_any (same_use r.0) us) then Some (LinkShape (place_text r.0.place)) else None
+
+-- the end of a link is no link port
+abbrev pub unlike_link : List Row → PortPlace → Option TopologyFault
+unlike_link rs p = if is_none (where_is rs Link p) then Some (LinkShape (place_text p)) else None
 
 -- an end that is no link port, or a link whose ends are on one switch
-abbrev pub misshapen_link : List Row → PairItem → Option PortPlace
-misshapen_link rs l =
-    if is_none (where_is rs Link l.a) then Some l.a
-    else (if is_none (where_is rs Link l.b) then Some l.b else (if is_loop l then Some l.a else None))
+abbrev pub misshapen : List Row → PairItem → Option TopologyFault
+misshapen rs l = option_or (unlike_link rs l.a) (option_or (unlike_link rs l.b) (looped l))
 
 -- 3: the first cable, link port or link of such a shape
-abbrev pub misshapen_among : List Row → List PlaceUse → TopologyPlan → Option PortPlace
-misshapen_among rs us plan = option_or (first_answer looped_cable plan.cables) (option_or (first_answer (unlinked us) rs) (first_answer (misshapen_link rs) plan.links))
-
 abbrev pub shape_among : List Row → List PlaceUse → TopologyPlan → Option TopologyFault
-shape_among rs us plan = option_map (λ p. LinkShape (place_text p)) (misshapen_among rs us plan)
+shape_among rs us plan = option_or (first_answer looped plan.cables) (option_or (first_answer (unlinked us) rs) (first_answer (misshapen rs) plan.links))
 
 -- these links join two virtual switches, directly or through others: without the first of them, or over it, one way or
 -- the other

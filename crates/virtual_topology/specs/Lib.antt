@@ -2,4 +2,5 @@ pub mod Places
 pub mod Rows
 pub mod Wires
 pub mod Faults
+pub mod Within
 pub mod Shown

@@ -2,14 +2,19 @@
 //! ports are physical ports, and the links between virtual switches.
 #![tactic(auto)]
 
+mod check;
 mod fault;
 mod known;
 
+mod limits;
 mod maps;
+mod mixed;
 mod plan;
 mod text;
 mod used;
 mod uses;
+mod wires;
 
 pub use fault::TopologyFault;
+pub use limits::{MOST_PAIRS, MOST_PORTS, MOST_SWITCHES};
 pub use plan::{PairItem, PortPlace, SwitchItem, TopologyPlan, VirtualItem, VirtualPort};
