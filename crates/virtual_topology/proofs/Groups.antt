@@ -1,10 +1,12 @@
 -- Groups of numbers that are merged.
-use Rattle.std.proofs.Common.{◌≡◌, ℕ, ◌+◌, ◌-◌, ◌<◌, ◌≤◌, ◌==◌, ◌||◌, ◌&&◌, Bool, true, false, cond, List, ◌∷◌, ◌++◌, length, get_or, take, drop, refl, sym, ap, ◌∙◌, subst, eqb-true, arith, nat_tests}
+use Rattle.std.proofs.Common.{◌≡◌, ℕ, suc, [], Some, None, filter, if◌then◌else◌, ◌+◌, ◌-◌, ◌<◌, ◌≤◌, ◌==◌, ◌||◌, ◌&&◌, Bool, true, false, cond, List, ◌∷◌, ◌++◌, length, get_or, take, drop, refl, sym, ap, ◌∙◌, subst, eqb-true, arith}
 use Rattle.std.proofs.lemmas.Cmp.{nat_eq_equiv}
 use Rattle.std.proofs.lemmas.List.{append-nil, drop_all, drop_more, get_or_default, take_all}
 use Rattle.virtual_topology.specs.Faults.{are_joined}
 use Rattle.virtual_topology.specs.Wires.{Joint}
-use Rattle.virtual_topology.specs.Within.{merged}
+use Rattle.virtual_topology.specs.Within.{AreGroups, HaveSwitches, kept_of, merged}
+use Rattle.std.specs.Prelude.{filter_map, slice_index}
+use Rattle.std.specs.List.{cons_option}
 
 -- two numbers are one after the merging if they were, or if each is that of one of the groups
 pub merged_same : (p q x y : ℕ) → (merged p q x == merged p q y) ≡ ((x == y) || (((x == p) && (q == y)) || ((x == q) && (p == y))))
@@ -61,3 +63,17 @@ groups_step count left links d old new low high one other before merges a b a-in
     ∙ (merged_same (old l.0.0) (old l.1.0) (old a) (old b)
     ∙ ((λ i. before a b a-in b-in i || ((before a l.0.0 a-in one i && before l.1.0 b other b-in i) || (before a l.1.0 a-in other i && before l.0.0 b one b-in i)))
     ∙ sym (ap (λ ls. are_joined ls a b) (drop_more links (left - 1) d lt ∙ ap (λ n. l ∷ drop n links) on))))
+
+-- the outside ports of a group are those of the virtual switches that links join
+pub kept_are : (links : List Joint) (groups : List ℕ) (number : ℕ) → number < length groups → AreGroups links groups → (outside : List Joint) → HaveSwitches (length groups) outside
+    → filter_map (kept_of groups (slice_index groups number)) outside ≡ filter (λ (o : Joint). are_joined links number o.0.0) outside
+kept_are links groups number in_range are [] within = refl
+kept_are links groups number in_range are (o ∷ os) within =
+    ap (λ b. cons_option (if b then Some o else None) (filter_map (kept_of groups (slice_index groups number)) os)) (are number o.0.0 in_range (within 0 o (omega arith)))
+    ∙ by (are_joined links number o.0.0) (kept_are links groups number in_range are os (λ k d lt. within (suc k) d (omega arith)))
+  where
+    by : (b : Bool) → filter_map (kept_of groups (slice_index groups number)) os ≡ filter (λ (o : Joint). are_joined links number o.0.0) os
+        → cons_option (if b then Some o else None) (filter_map (kept_of groups (slice_index groups number)) os)
+        ≡ cond b (o ∷ filter (λ (o : Joint). are_joined links number o.0.0) os) (filter (λ (o : Joint). are_joined links number o.0.0) os)
+    by true e = ap (λ os. o ∷ os) e
+    by false e = e

@@ -3,4 +3,5 @@ pub mod Rows
 pub mod Wires
 pub mod Faults
 pub mod Within
+pub mod Made
 pub mod Shown

@@ -10,11 +10,14 @@ mod limits;
 mod maps;
 mod mixed;
 mod plan;
+mod standing;
 mod text;
+mod topology;
 mod used;
 mod uses;
 mod wires;
 
 pub use fault::TopologyFault;
 pub use limits::{MOST_PAIRS, MOST_PORTS, MOST_SWITCHES};
+pub use topology::Topology;
 pub use plan::{PairItem, PortPlace, SwitchItem, TopologyPlan, VirtualItem, VirtualPort};

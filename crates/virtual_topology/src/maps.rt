@@ -65,4 +65,10 @@ impl<K: Eq + Hash + Copy, V: Copy> Rows<K, V> {
     {
         &self.rows
     }
+
+    pub(crate) fn copy(&self, alloc: Global) -> Result<Rows<K, V>, Memory>
+        ensures { IfOk result (λ copied. copied ≡ self.now) }
+    {
+        Rows::of(alloc, Vec::from_slice(alloc, &self.rows)?)
+    }
 }

@@ -13,7 +13,7 @@ use std::alloc::Global;
 pub(crate) type Joint = (Spot, Spot);
 
 /// Appends an item, if there is one.
-fn push_some(list: &mut Vec<Joint>, item: Option<Joint>) -> Result<(), Memory>
+pub(crate) fn push_some(list: &mut Vec<Joint>, item: Option<Joint>) -> Result<(), Memory>
     ensures { OnOk result (list.new.items ≡ list.old.items ++ option_to_list item) }
 {
     if let Some(item) = item {
