@@ -17,10 +17,10 @@ use Rattle.virtual_topology.specs.Rows.{Row, Spot, all_switch_rows, all_virtual_
 use Rattle.virtual_topology.specs.Within.{AreWithin, HaveSwitches, LiesWithin}
 use Rattle.virtual_topology.specs.Wires.{Joint, both, item_joints, joints_among, link_joints, outside_joints, outside_among, outside_row, pair_joint}
 
-All-from_recursion : {X : Type 0} {P : X → Type 0} (xs : List X) → AllByRecursion P xs → (k : ℕ) (d : X) → k < length xs → P (get_or xs k d)
-All-from_recursion [] a k d lt = absurd (omega (arith, lt))
-All-from_recursion (x ∷ xs) a zero d lt = a.0
-All-from_recursion (x ∷ xs) a (suc k) d lt = All-from_recursion xs a.1 k d (omega (arith, lt))
+All-from_recursion : {X : Type 0} (P : X → Type 0) (xs : List X) → AllByRecursion P xs → (k : ℕ) (d : X) → k < length xs → P (get_or xs k d)
+All-from_recursion P [] a k d lt = absurd (omega (arith, lt))
+All-from_recursion P (x ∷ xs) a zero d lt = a.0
+All-from_recursion P (x ∷ xs) a (suc k) d lt = All-from_recursion P xs a.1 k d (omega (arith, lt))
 
 -- if the row is that of a link port, its virtual switch is below a number
 abbrev InRange : ℕ → Row → Type 0
@@ -62,12 +62,12 @@ rows_in plan =
 -- a link port that is found
 found_in : (n : ℕ) (p : PortPlace) (rs : List Row) (s : Spot) → AllByRecursion (InRange n) rs → where_is rs Link p ≡ Some s → s.0 < n
 found_in n p [] s a e = absurd (cc)
-found_in n p (r ∷ rs) s a e = by (same_role Link r.0.role) (same_place p r.0.place) refl e
+found_in n p (r ∷ rs) s a e = by (same_role Link r.0.role) (same_place p r.0.place) refl e (found_in n p rs s a.1)
   where
-    by : (b c : Bool) → same_role Link r.0.role ≡ b → cond (b && c) (Some r.1) (where_is rs Link p) ≡ Some s → s.0 < n
-    by true true role e = let there : r.1 ≡ s = cc in subst (λ (t : Spot). t.0 < n) there (a.0 role)
-    by true false role e = found_in n p rs s a.1 e
-    by false c role e = found_in n p rs s a.1 e
+    by : (b c : Bool) → same_role Link r.0.role ≡ b → cond (b && c) (Some r.1) (where_is rs Link p) ≡ Some s → (where_is rs Link p ≡ Some s → s.0 < n) → s.0 < n
+    by true true role e rest = let there : r.1 ≡ s = cc in subst (λ (t : Spot). t.0 < n) there (a.0 role)
+    by true false role e rest = rest e
+    by false c role e rest = rest e
 
 each_filter_map : {X Y : Type 0} (P : Y → Type 0) (f : X → Option Y) → ((x : X) (y : Y) → f x ≡ Some y → P y) → (xs : List X) → AllByRecursion P (filter_map f xs)
 each_filter_map P f h [] = tt
@@ -91,12 +91,12 @@ outside_in n v lt rs q j e = by (option_and_then (where_is rs Physical) q.at) e
 
 pub links_within : (plan : TopologyPlan) → AreWithin (length plan.virtuals) (link_joints plan)
 links_within plan =
-    All-from_recursion (link_joints plan) (each_filter_map (LiesWithin (length plan.virtuals)) (pair_joint (rows plan) Link)
+    All-from_recursion (LiesWithin (length plan.virtuals)) (link_joints plan) (each_filter_map (LiesWithin (length plan.virtuals)) (pair_joint (rows plan) Link)
         (λ pair j e. both_in (length plan.virtuals) (where_is (rows plan) Link pair.a) (where_is (rows plan) Link pair.b)
             (λ s. found_in (length plan.virtuals) pair.a (rows plan) s (rows_in plan)) (λ s. found_in (length plan.virtuals) pair.b (rows plan) s (rows_in plan)) j e) plan.links)
 
 pub outside_within : (plan : TopologyPlan) → HaveSwitches (length plan.virtuals) (outside_joints plan)
 outside_within plan =
-    All-from_recursion (outside_joints plan) (each_numbered (λ (j : Joint). j.0.0 < length plan.virtuals) (item_joints (rows plan)) (length plan.virtuals)
+    All-from_recursion (λ (j : Joint). j.0.0 < length plan.virtuals) (outside_joints plan) (each_numbered (λ (j : Joint). j.0.0 < length plan.virtuals) (item_joints (rows plan)) (length plan.virtuals)
         (λ v x lt. each_filter_map (λ (j : Joint). j.0.0 < length plan.virtuals) (outside_row (rows plan) v) (outside_in (length plan.virtuals) v lt (rows plan)) x.ports)
         0 plan.virtuals (omega arith))

@@ -1,6 +1,6 @@
 -- Steps of loops over rows and places.
 use Rattle.std.proofs.Common.{◌≡◌, ℕ, zero, suc, ◌+◌, ◌-◌, ◌<◌, ◌≤◌, Bool, true, false, cond, ◌||◌, ◌&&◌, ◌==◌, nat_eq, not, Option, Some, None, List, [], ◌∷◌, ◌++◌, append-nil, length, get_or, take, drop, map, refl, sym, ap, ◌∙◌, subst, arith, if◌then◌else◌}
-use Rattle.std.specs.Prelude.{flat_map, filter_map, option_to_list}
+use Rattle.std.specs.Prelude.{flat_map, filter_map, option_map, slice_get, option_to_list}
 use Rattle.std.specs.List.{cons_option}
 use Rattle.std.proofs.lemmas.List.Elements.{filter_map-append}
 use Rattle.std.specs.List.{enumerate_from, list_any}
@@ -145,3 +145,18 @@ pub pushed_some : {X Y : Type 0} (f : X → Option Y) (xs : List X) (i : ℕ) (x
 pushed_some f xs i x out new o lt item so is added =
     added ∙ ((λ j. so j ++ option_to_list (is j)) ∙ sym (ap (filter_map f) (take_more xs i x lt ∙ ap (λ y. take i xs ++ y ∷ []) (sym item))
     ∙ (filter_map-append f (take i xs) (x ∷ []) ∙ ap (λ zs. filter_map f (take i xs) ++ zs) (listed (f x)))))
+
+pub numbered_mapped : {X Y : Type 0} (f : ℕ × X → Y) (xs : List X) (i : ℕ) (x : X) → i < length xs → x ≡ get_or xs i x
+    → map f (take (i + 1) (enumerate_from 0 xs)) ≡ map f (take i (enumerate_from 0 xs)) ++ f (i, x) ∷ []
+numbered_mapped f xs i x lt item =
+    let within : i < length (enumerate_from 0 xs) = omega (arith, length-enumerate_from 0 xs) in
+    let here : get_or (enumerate_from 0 xs) i (i, x) ≡ (0 + i, get_or xs i x) = get_or-enumerate_from 0 xs i (i, x) lt in
+    let number : 0 + i ≡ i = omega arith in
+    map_more f (enumerate_from 0 xs) i (i, x) within ∙ ap (λ p. map f (take i (enumerate_from 0 xs)) ++ f p ∷ []) (here ∙ (λ j. (number j, sym item j)))
+
+-- what a function gives of the item of a number
+pub numbered_get : {X Y : Type 0} (f : ℕ × X → Y) (m : ℕ) (xs : List X) (v : ℕ) → slice_get (map f (enumerate_from m xs)) v ≡ option_map (λ x. f (m + v, x)) (slice_get xs v)
+numbered_get f m [] zero = refl
+numbered_get f m [] (suc v) = refl
+numbered_get f m (x ∷ xs) zero = let same : m ≡ m + 0 = omega arith in ap (λ n. Some (f (n, x))) same
+numbered_get f m (x ∷ xs) (suc v) = let same : (m + 1) + v ≡ m + suc v = omega arith in numbered_get f (m + 1) xs v ∙ ap (λ n. option_map (λ x. f (n, x)) (slice_get xs v)) same
