@@ -4,7 +4,12 @@ use Rattle.std.specs.Option.{option_or}
 use Rattle.std.proofs.lemmas.List.{drop_more, drop_all}
 use Rattle.virtual_topology.specs.declared.fault.TopologyFault.{TopologyFault}
 use Rattle.virtual_topology.specs.declared.fault.TopologyFault.TheVariants.{Memory}
-use Rattle.virtual_topology.specs.Faults.{Answers, first_answer}
+use Rattle.virtual_topology.specs.declared.plan.TopologyPlan.{TopologyPlan}
+use Rattle.virtual_topology.specs.declared.plan.VirtualItem.{VirtualItem}
+use Rattle.virtual_topology.specs.Faults.{Answers, crowded, fault_of, first_answer, mixed_among, shape_among, twice_among, unknown_among}
+use Rattle.virtual_topology.specs.Places.{PlaceUse, uses}
+use Rattle.virtual_topology.specs.Rows.{Row, rows}
+use Rattle.virtual_topology.specs.Wires.{Joint, link_joints, outside_joints}
 
 -- what a failed check answers
 abbrev pub Wanted : TopologyFault → Option TopologyFault → Type 0
@@ -37,3 +42,16 @@ first_wanted fault a b (inr some) = inr (ap (λ o. option_or o b) some)
 
 pub second_wanted : (r : Result (Unit {0}) TopologyFault) (a b : Option TopologyFault) → a ≡ None → Answers r b → Answers r (option_or a b)
 second_wanted r a b none h = subst (λ o. Answers r (option_or o b)) (sym none) h
+
+-- what is left of the first fault of a plan, once the first kinds aren't there
+pub after_shape : (plan : TopologyPlan) (us : List PlaceUse) (rs : List Row) → us ≡ uses plan → rs ≡ rows plan → twice_among us ≡ None → unknown_among rs us ≡ None → shape_among rs us plan ≡ None
+    → fault_of plan ≡ option_or (mixed_among (link_joints plan) (outside_joints plan) plan.virtuals) (crowded plan)
+after_shape plan us rs used row twice unknown shape =
+    let left = option_or (mixed_among (link_joints plan) (outside_joints plan) plan.virtuals) (crowded plan) in
+    λ i. option_or ((ap twice_among (sym used) ∙ twice) i) (option_or (((λ j. unknown_among (sym row j) (sym used j)) ∙ unknown) i)
+        (option_or (((λ j. shape_among (sym row j) (sym used j) plan) ∙ shape) i) left))
+
+pub after_mixed : (plan : TopologyPlan) (links outside : List Joint) (virtuals : List VirtualItem) → links ≡ link_joints plan → outside ≡ outside_joints plan → virtuals ≡ plan.virtuals
+    → fault_of plan ≡ option_or (mixed_among (link_joints plan) (outside_joints plan) plan.virtuals) (crowded plan) → mixed_among links outside virtuals ≡ None → fault_of plan ≡ crowded plan
+after_mixed plan links outside virtuals link out virt left none =
+    left ∙ ap (λ o. option_or o (crowded plan)) ((λ i. mixed_among (sym link i) (sym out i) (sym virt i)) ∙ none)

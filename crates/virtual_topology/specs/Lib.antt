@@ -5,3 +5,4 @@ pub mod Faults
 pub mod Within
 pub mod Made
 pub mod Shown
+pub mod Worked

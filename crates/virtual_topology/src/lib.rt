@@ -16,8 +16,13 @@ mod topology;
 mod used;
 mod uses;
 mod wires;
+mod worked;
 
 pub use fault::TopologyFault;
 pub use limits::{MOST_PAIRS, MOST_PORTS, MOST_SWITCHES};
 pub use topology::Topology;
 pub use plan::{PairItem, PortPlace, SwitchItem, TopologyPlan, VirtualItem, VirtualPort};
+pub use worked::worked_examples;
+
+#[cfg(test)]
+mod tests;

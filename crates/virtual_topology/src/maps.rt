@@ -3,7 +3,7 @@ ghost use Rattle.std.specs.Prelude.{◌≡◌, IfOk, OnOk};
 ghost use Rattle.std.specs.HashMap.{get};
 ghost use Rattle.std.specs.Map.{lookup};
 
-use cv_io::Memory;
+use cv_io::{Duplicate, Memory};
 use std::alloc::Global;
 use std::collections::HashMap;
 use std::hash::Hash;
@@ -65,10 +65,11 @@ impl<K: Eq + Hash + Copy, V: Copy> Rows<K, V> {
     {
         &self.rows
     }
+}
 
-    pub(crate) fn copy(&self, alloc: Global) -> Result<Rows<K, V>, Memory>
-        ensures { IfOk result (λ copied. copied ≡ self.now) }
-    {
+impl<K: Eq + Hash + Copy, V: Copy> Duplicate for Rows<K, V> {
+    fn copy(&self) -> Result<Rows<K, V>, Memory> {
+        let alloc = *self.rows.allocator();
         Rows::of(alloc, Vec::from_slice(alloc, &self.rows)?)
     }
 }

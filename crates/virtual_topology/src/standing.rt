@@ -7,7 +7,7 @@ ghost use Rattle.virtual_topology.specs.Wires.{both_ways as both_ways_of, is_lin
 use crate::known::Known;
 use crate::plan::{VirtualItem, VirtualPort};
 use crate::wires::{Joint, item_joints, lie_apart};
-use cv_io::Memory;
+use cv_io::{Duplicate, Memory};
 use std::alloc::Global;
 
 /// How a virtual switch lies.
@@ -17,6 +17,12 @@ pub struct Standing {
     pub spread: bool,
     /// It is alone on its one physical switch.
     pub lone: bool,
+}
+
+impl Duplicate for Standing {
+    fn copy(&self) -> Result<Standing, Memory> {
+        Ok(*self)
+    }
 }
 
 fn has_link_port(ports: &[VirtualPort]) -> bool

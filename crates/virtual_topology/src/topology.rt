@@ -16,7 +16,7 @@ use crate::standing::{Standing, standings};
 use crate::used::Used;
 use crate::uses::{Role, uses};
 use crate::wires::{Joint, both_ways, outside_joints, pair_joints, turned};
-use cv_io::{Duplicate, Memory};
+use cv_io::{Duplicate, List, Memory};
 use std::alloc::Global;
 use std::marker::Model;
 
@@ -29,7 +29,7 @@ pub struct Topology {
     entering: Rows<Spot, Spot>,
     peers: Rows<Spot, Spot>,
     far_ends: Rows<Spot, Spot>,
-    standings: Vec<Standing>,
+    standings: List<Standing>,
 }
 
 impl Model for Topology {
@@ -41,7 +41,7 @@ impl Model for Topology {
 
     ghost view = { λ a. a.plan };
 
-    ghost invariant = { λ a. IsMade a.plan a.outside a.entering a.peers a.far_ends a.standings.items };
+    ghost invariant = { λ a. IsMade a.plan a.outside a.entering a.peers a.far_ends a.standings };
 }
 
 /// The plan with its ports by number.
@@ -74,7 +74,7 @@ fn numbered<'a>(
         outside: Rows::of(alloc, outside)?,
         peers: Rows::of(alloc, both_ways(alloc, links)?)?,
         far_ends: Rows::of(alloc, cable_ways)?,
-        standings,
+        standings: List::from_vec(standings),
     })
 }
 
@@ -177,14 +177,13 @@ impl Topology {
 
 impl Duplicate for Topology {
     fn copy(&self) -> Result<Topology, Memory> {
-        let alloc = *self.standings.allocator();
         Ok(Topology {
             plan: self.plan.copy()?,
-            outside: self.outside.copy(alloc)?,
-            entering: self.entering.copy(alloc)?,
-            peers: self.peers.copy(alloc)?,
-            far_ends: self.far_ends.copy(alloc)?,
-            standings: Vec::from_slice(alloc, &self.standings)?,
+            outside: self.outside.copy()?,
+            entering: self.entering.copy()?,
+            peers: self.peers.copy()?,
+            far_ends: self.far_ends.copy()?,
+            standings: self.standings.copy()?,
         })
     }
 }

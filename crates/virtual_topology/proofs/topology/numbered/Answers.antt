@@ -15,6 +15,6 @@ invariant_of-result c =
         entering_is = c.in_ok-of.ensures ∙ (c.in_ok-turned.ensures ∙ ap turned (c.deref-4.ensures.value ∙ c.requires.outside));
         peers_is = c.in_ok-of-3.ensures ∙ (c.in_ok-both_ways.ensures ∙ ap both_ways c.requires.links);
         far_ends_is = c.in_ok-of-4.ensures ∙ ways;
-        standings_is = c.in_ok-standings.ensures (cable_joints c.args.plan.now) (c.deref-2.ensures.value ∙ ways)
-            ∙ (λ i. standings_of (c.requires.known i) (cable_joints c.args.plan.now) ((c.deref-3.ensures.value ∙ c.requires.outside) i) (c.as_slice-2.ensures i));
+        standings_is = c.from_vec.ensures ∙ (c.in_ok-standings.ensures (cable_joints c.args.plan.now) (c.deref-2.ensures.value ∙ ways)
+            ∙ (λ i. standings_of (c.requires.known i) (cable_joints c.args.plan.now) ((c.deref-3.ensures.value ∙ c.requires.outside) i) (c.as_slice-2.ensures i)));
     })
