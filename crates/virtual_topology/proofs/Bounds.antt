@@ -15,16 +15,16 @@ use Rattle.virtual_topology.specs.declared.uses.Role.TheVariants.{Physical, Virt
 use Rattle.virtual_topology.specs.Places.{PlaceUse, at_port, in_role, same_place, same_role, same_use}
 use Rattle.virtual_topology.specs.Rows.{Row, Spot, all_switch_rows, all_virtual_rows, link_row, port_rows, rows, switch_rows, virtual_rows, where_is}
 use Rattle.virtual_topology.specs.Within.{AreWithin, HaveSwitches, LiesWithin}
-use Rattle.virtual_topology.specs.Wires.{Joint, both, item_joints, joints_among, link_joints, outside_joints, outside_among, outside_row, pair_joint}
+use Rattle.virtual_topology.specs.Wires.{Joint, both, both_ways, cable_joints, item_joints, joints_among, link_joints, outside_joints, outside_among, outside_row, pair_joint}
 
 All-from_recursion : {X : Type 0} (P : X → Type 0) (xs : List X) → AllByRecursion P xs → (k : ℕ) (d : X) → k < length xs → P (get_or xs k d)
 All-from_recursion P [] a k d lt = absurd (omega (arith, lt))
 All-from_recursion P (x ∷ xs) a zero d lt = a.0
 All-from_recursion P (x ∷ xs) a (suc k) d lt = All-from_recursion P xs a.1 k d (omega (arith, lt))
 
--- if the row is that of a link port, its virtual switch is below a number
-abbrev InRange : ℕ → Row → Type 0
-InRange n r = same_role Link r.0.role ≡ true → r.1.0 < n
+-- if the row is in a role, its switch is below a number
+abbrev InRange : Role → ℕ → Row → Type 0
+InRange role n r = same_role role r.0.role ≡ true → r.1.0 < n
 
 each_append : {X : Type 0} (P : X → Type 0) (xs ys : List X) → AllByRecursion P xs → AllByRecursion P ys → AllByRecursion P (xs ++ ys)
 each_append P [] ys a b = b
@@ -41,33 +41,52 @@ each_numbered P f n h m [] le = tt
 each_numbered P f n h m (x ∷ xs) le =
     each_append P (f (m, x)) (flat_map f (enumerate_from (m + 1) xs)) (h m x (omega arith)) (each_numbered P f n h (m + 1) xs (omega arith))
 
-switch_in : (n i : ℕ) (name ports : List ℕ) → AllByRecursion (InRange n) (map (λ (p : ℕ). (in_role Physical (at_port name p), (i, p))) ports)
-switch_in n i name [] = tt
-switch_in n i name (p ∷ ps) = ((λ e. absurd (true≢false (sym e))), switch_in n i name ps)
+-- the rows of physical switches and of link ports
+physical_in : (n i : ℕ) → i < n → (name ports : List ℕ) → AllByRecursion (InRange Physical n) (map (λ (p : ℕ). (in_role Physical (at_port name p), (i, p))) ports)
+physical_in n i lt name [] = tt
+physical_in n i lt name (p ∷ ps) = ((λ e. lt), physical_in n i lt name ps)
 
-port_in : (n v : ℕ) → v < n → (name : List ℕ) (q : VirtualPort) → AllByRecursion (InRange n) (port_rows v name q)
-port_in n v lt name q = ((λ e. absurd (true≢false (sym e))), by q.at)
+no_links : (n i : ℕ) (name ports : List ℕ) → AllByRecursion (InRange Link n) (map (λ (p : ℕ). (in_role Physical (at_port name p), (i, p))) ports)
+no_links n i name [] = tt
+no_links n i name (p ∷ ps) = ((λ e. absurd (true≢false (sym e))), no_links n i name ps)
+
+link_in : (n v : ℕ) → v < n → (name : List ℕ) (q : VirtualPort) → AllByRecursion (InRange Link n) (port_rows v name q)
+link_in n v lt name q = ((λ e. absurd (true≢false (sym e))), by q.at)
   where
-    by : (at : Option PortPlace) → AllByRecursion (InRange n) (link_row at (at_port name q.port) (v, q.port))
+    by : (at : Option PortPlace) → AllByRecursion (InRange Link n) (link_row at (at_port name q.port) (v, q.port))
     by None = ((λ e. lt), tt)
     by (Some p) = tt
 
-rows_in : (plan : TopologyPlan) → AllByRecursion (InRange (length plan.virtuals)) (rows plan)
-rows_in plan =
-    each_append (InRange (length plan.virtuals)) (all_switch_rows plan.switches) (all_virtual_rows plan.virtuals)
-    (each_flat_map (InRange (length plan.virtuals)) switch_rows (λ x. switch_in (length plan.virtuals) x.0 x.1.name x.1.ports) (enumerate_from 0 plan.switches))
-    (each_numbered (InRange (length plan.virtuals)) virtual_rows (length plan.virtuals)
-        (λ v x lt. each_flat_map (InRange (length plan.virtuals)) (port_rows v x.name) (port_in (length plan.virtuals) v lt x.name) x.ports) 0 plan.virtuals (omega arith))
-
--- a link port that is found
-found_in : (n : ℕ) (p : PortPlace) (rs : List Row) (s : Spot) → AllByRecursion (InRange n) rs → where_is rs Link p ≡ Some s → s.0 < n
-found_in n p [] s a e = absurd (cc)
-found_in n p (r ∷ rs) s a e = by (same_role Link r.0.role) (same_place p r.0.place) refl e (found_in n p rs s a.1)
+no_physical : (n v : ℕ) (name : List ℕ) (q : VirtualPort) → AllByRecursion (InRange Physical n) (port_rows v name q)
+no_physical n v name q = ((λ e. absurd (true≢false (sym e))), by q.at)
   where
-    by : (b c : Bool) → same_role Link r.0.role ≡ b → cond (b && c) (Some r.1) (where_is rs Link p) ≡ Some s → (where_is rs Link p ≡ Some s → s.0 < n) → s.0 < n
-    by true true role e rest = let there : r.1 ≡ s = cc in subst (λ (t : Spot). t.0 < n) there (a.0 role)
-    by true false role e rest = rest e
-    by false c role e rest = rest e
+    by : (at : Option PortPlace) → AllByRecursion (InRange Physical n) (link_row at (at_port name q.port) (v, q.port))
+    by None = ((λ e. absurd (true≢false (sym e))), tt)
+    by (Some p) = tt
+
+link_rows_in : (plan : TopologyPlan) → AllByRecursion (InRange Link (length plan.virtuals)) (rows plan)
+link_rows_in plan =
+    each_append (InRange Link (length plan.virtuals)) (all_switch_rows plan.switches) (all_virtual_rows plan.virtuals)
+    (each_flat_map (InRange Link (length plan.virtuals)) switch_rows (λ x. no_links (length plan.virtuals) x.0 x.1.name x.1.ports) (enumerate_from 0 plan.switches))
+    (each_numbered (InRange Link (length plan.virtuals)) virtual_rows (length plan.virtuals)
+        (λ v x lt. each_flat_map (InRange Link (length plan.virtuals)) (port_rows v x.name) (link_in (length plan.virtuals) v lt x.name) x.ports) 0 plan.virtuals (omega arith))
+
+physical_rows_in : (plan : TopologyPlan) → AllByRecursion (InRange Physical (length plan.switches)) (rows plan)
+physical_rows_in plan =
+    each_append (InRange Physical (length plan.switches)) (all_switch_rows plan.switches) (all_virtual_rows plan.virtuals)
+    (each_numbered (InRange Physical (length plan.switches)) switch_rows (length plan.switches) (λ i s lt. physical_in (length plan.switches) i lt s.name s.ports) 0 plan.switches (omega arith))
+    (each_flat_map (InRange Physical (length plan.switches)) virtual_rows
+        (λ x. each_flat_map (InRange Physical (length plan.switches)) (port_rows x.0 x.1.name) (no_physical (length plan.switches) x.0 x.1.name) x.1.ports) (enumerate_from 0 plan.virtuals))
+
+-- a port that is found
+found_in : (role : Role) (n : ℕ) (p : PortPlace) (rs : List Row) (s : Spot) → AllByRecursion (InRange role n) rs → where_is rs role p ≡ Some s → s.0 < n
+found_in role n p [] s a e = absurd (cc)
+found_in role n p (r ∷ rs) s a e = by (same_role role r.0.role) (same_place p r.0.place) refl e (found_in role n p rs s a.1)
+  where
+    by : (b c : Bool) → same_role role r.0.role ≡ b → cond (b && c) (Some r.1) (where_is rs role p) ≡ Some s → (where_is rs role p ≡ Some s → s.0 < n) → s.0 < n
+    by true true same e rest = let there : r.1 ≡ s = cc in subst (λ (t : Spot). t.0 < n) there (a.0 same)
+    by true false same e rest = rest e
+    by false c same e rest = rest e
 
 each_filter_map : {X Y : Type 0} (P : Y → Type 0) (f : X → Option Y) → ((x : X) (y : Y) → f x ≡ Some y → P y) → (xs : List X) → AllByRecursion P (filter_map f xs)
 each_filter_map P f h [] = tt
@@ -89,11 +108,22 @@ outside_in n v lt rs q j e = by (option_and_then (where_is rs Physical) q.at) e
     by None e = absurd (cc)
     by (Some s) e = let same : ((v, q.port), s) ≡ j = cc in subst (λ (j : Joint). j.0.0 < n) same lt
 
+joints_within : (role : Role) (n : ℕ) (rs : List Row) → AllByRecursion (InRange role n) rs → (pairs : List PairItem) → AllByRecursion (LiesWithin n) (joints_among rs role pairs)
+joints_within role n rs a pairs =
+    each_filter_map (LiesWithin n) (pair_joint rs role)
+        (λ pair j e. both_in n (where_is rs role pair.a) (where_is rs role pair.b) (λ s. found_in role n pair.a rs s a) (λ s. found_in role n pair.b rs s a) j e) pairs
+
 pub links_within : (plan : TopologyPlan) → AreWithin (length plan.virtuals) (link_joints plan)
-links_within plan =
-    All-from_recursion (LiesWithin (length plan.virtuals)) (link_joints plan) (each_filter_map (LiesWithin (length plan.virtuals)) (pair_joint (rows plan) Link)
-        (λ pair j e. both_in (length plan.virtuals) (where_is (rows plan) Link pair.a) (where_is (rows plan) Link pair.b)
-            (λ s. found_in (length plan.virtuals) pair.a (rows plan) s (rows_in plan)) (λ s. found_in (length plan.virtuals) pair.b (rows plan) s (rows_in plan)) j e) plan.links)
+links_within plan = All-from_recursion (LiesWithin (length plan.virtuals)) (link_joints plan) (joints_within Link (length plan.virtuals) (rows plan) (link_rows_in plan) plan.links)
+
+both_ways_within : (n : ℕ) (js : List Joint) → AllByRecursion (LiesWithin n) js → AllByRecursion (LiesWithin n) (both_ways js)
+both_ways_within n [] a = tt
+both_ways_within n (j ∷ js) a = (a.0, ((a.0.1, a.0.0), both_ways_within n js a.1))
+
+pub ways_within : (plan : TopologyPlan) → AreWithin (length plan.switches) (both_ways (cable_joints plan))
+ways_within plan =
+    All-from_recursion (LiesWithin (length plan.switches)) (both_ways (cable_joints plan))
+        (both_ways_within (length plan.switches) (cable_joints plan) (joints_within Physical (length plan.switches) (rows plan) (physical_rows_in plan) plan.cables))
 
 pub outside_within : (plan : TopologyPlan) → HaveSwitches (length plan.virtuals) (outside_joints plan)
 outside_within plan =

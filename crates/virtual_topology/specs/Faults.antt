@@ -4,7 +4,7 @@ use Rattle.std.specs.Fmt.{decimal}
 use Rattle.std.specs.List.{enumerate_from, list_any}
 use Rattle.std.specs.Option.{option_or}
 use Rattle.virtual_topology.specs.declared.fault.TopologyFault.{TopologyFault}
-use Rattle.virtual_topology.specs.declared.fault.TopologyFault.TheVariants.{PortTwice, Unknown, LinkShape, Mixed, TooMany, Memory}
+use Rattle.virtual_topology.specs.declared.fault.TopologyFault.TheVariants.{PortTwice, Unknown, LinkShape, Mixed, TooMany}
 use Rattle.virtual_topology.specs.declared.plan.PairItem.{PairItem}
 use Rattle.virtual_topology.specs.declared.plan.PortPlace.{PortPlace}
 use Rattle.virtual_topology.specs.declared.plan.SwitchItem.{SwitchItem}
@@ -132,6 +132,6 @@ fault_of plan =
     (option_or (mixed_among (link_joints plan) (outside_joints plan) plan.virtuals) (crowded plan))))
 
 -- a check answers the fault, and Ok exactly where there is none; want of memory aside
-abbrev pub Answers : {A : Type 0} → Result A TopologyFault → Option TopologyFault → Type 0
-Answers (Ok x) wanted = wanted ≡ None
-Answers (Err fault) wanted = (fault ≡ Memory) ⊎ (wanted ≡ Some fault)
+abbrev pub Answers : {A E : Type 0} → E → Result A E → Option E → Type 0
+Answers memory (Ok x) wanted = wanted ≡ None
+Answers memory (Err fault) wanted = (fault ≡ memory) ⊎ (wanted ≡ Some fault)

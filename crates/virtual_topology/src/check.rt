@@ -23,7 +23,7 @@ fn asked(role: Role) -> Role
 }
 
 fn check_place(alloc: Global, known: &Known<'_>, place: &Use<'_>) -> Result<(), TopologyFault>
-    ensures { Answers result (unknown_place known.now (shown place.now)) }
+    ensures { Answers TopologyFault.Memory result (unknown_place known.now (shown place.now)) }
 {
     if known.spot_as(asked(place.role), place).is_none() {
         return Err(TopologyFault::Unknown {
@@ -39,7 +39,7 @@ pub(crate) fn check_places(
     known: &Known<'_>,
     used: &Used<'_>,
 ) -> Result<(), TopologyFault>
-    ensures { Answers result (unknown_among known.now used.now) }
+    ensures { Answers TopologyFault.Memory result (unknown_among known.now used.now) }
 {
     for place in used.list() {
         check_place(alloc, known, place)?;
@@ -49,7 +49,7 @@ pub(crate) fn check_places(
 
 /// The ends are on two switches.
 fn check_ends(alloc: Global, pair: &PairItem) -> Result<(), TopologyFault>
-    ensures { Answers result (looped pair.now) }
+    ensures { Answers TopologyFault.Memory result (looped pair.now) }
 {
     if pair.a.name == pair.b.name {
         return Err(TopologyFault::LinkShape {
@@ -65,7 +65,7 @@ fn check_port(
     used: &Used<'_>,
     row: &(Use<'_>, Spot),
 ) -> Result<(), TopologyFault>
-    ensures { Answers result (unlinked used.now (shown_row row.now)) }
+    ensures { Answers TopologyFault.Memory result (unlinked used.now (shown_row row.now)) }
 {
     if row.0.role == Role::Link && !used.contains(&row.0) {
         return Err(TopologyFault::LinkShape {
@@ -81,7 +81,7 @@ fn check_end<'a>(
     known: &Known<'a>,
     place: &'a PortPlace,
 ) -> Result<(), TopologyFault>
-    ensures { Answers result (unlike_link known.now place.now) }
+    ensures { Answers TopologyFault.Memory result (unlike_link known.now place.now) }
 {
     if known.spot(Role::Link, place).is_none() {
         return Err(TopologyFault::LinkShape {
@@ -96,7 +96,7 @@ fn check_link<'a>(
     known: &Known<'a>,
     link: &'a PairItem,
 ) -> Result<(), TopologyFault>
-    ensures { Answers result (misshapen known.now link.now) }
+    ensures { Answers TopologyFault.Memory result (misshapen known.now link.now) }
 {
     check_end(alloc, known, &link.a)?;
     check_end(alloc, known, &link.b)?;
@@ -104,7 +104,7 @@ fn check_link<'a>(
 }
 
 fn check_cables(alloc: Global, cables: &[PairItem]) -> Result<(), TopologyFault>
-    ensures { Answers result (first_answer looped cables.now) }
+    ensures { Answers TopologyFault.Memory result (first_answer looped cables.now) }
 {
     for cable in cables {
         check_ends(alloc, cable)?;
@@ -113,7 +113,7 @@ fn check_cables(alloc: Global, cables: &[PairItem]) -> Result<(), TopologyFault>
 }
 
 fn check_ports(alloc: Global, known: &Known<'_>, used: &Used<'_>) -> Result<(), TopologyFault>
-    ensures { Answers result (first_answer (unlinked used.now) known.now) }
+    ensures { Answers TopologyFault.Memory result (first_answer (unlinked used.now) known.now) }
 {
     for row in known.rows() {
         check_port(alloc, used, row)?;
@@ -126,7 +126,7 @@ fn check_links<'a>(
     known: &Known<'a>,
     links: &'a [PairItem],
 ) -> Result<(), TopologyFault>
-    ensures { Answers result (first_answer (misshapen known.now) links.now) }
+    ensures { Answers TopologyFault.Memory result (first_answer (misshapen known.now) links.now) }
 {
     for link in links {
         check_link(alloc, known, link)?;
@@ -141,7 +141,7 @@ pub(crate) fn check_shapes<'a>(
     used: &Used<'_>,
     plan: &'a TopologyPlan,
 ) -> Result<(), TopologyFault>
-    ensures { Answers result (shape_among known.now used.now plan.now) }
+    ensures { Answers TopologyFault.Memory result (shape_among known.now used.now plan.now) }
 {
     check_cables(alloc, plan.cables.as_slice())?;
     check_ports(alloc, known, used)?;

@@ -7,7 +7,7 @@ mod fault;
 mod known;
 
 mod limits;
-mod maps;
+pub mod maps;
 mod mixed;
 mod plan;
 mod standing;
@@ -19,6 +19,7 @@ mod wires;
 mod worked;
 
 pub use fault::TopologyFault;
+pub use maps::Rows;
 pub use limits::{MOST_PAIRS, MOST_PORTS, MOST_SWITCHES};
 pub use topology::Topology;
 pub use plan::{PairItem, PortPlace, SwitchItem, TopologyPlan, VirtualItem, VirtualPort};

@@ -20,7 +20,7 @@ pub const MOST_PAIRS: u32 = 64;
 
 /// The switch is one of those that there may be, and has as many ports as it may have.
 fn check_switch(number: usize, name: &Text, ports: usize) -> Result<(), TopologyFault>
-    ensures { Answers result (too_many number name.now ports) }
+    ensures { Answers TopologyFault.Memory result (too_many number name.now ports) }
 {
     let limit = if number >= MOST_SWITCHES as usize {
         MOST_SWITCHES
@@ -36,7 +36,7 @@ fn check_switch(number: usize, name: &Text, ports: usize) -> Result<(), Topology
 }
 
 fn check_pairs(alloc: Global, pairs: &[PairItem]) -> Result<(), TopologyFault>
-    ensures { Answers result (too_many_pairs pairs.now) }
+    ensures { Answers TopologyFault.Memory result (too_many_pairs pairs.now) }
 {
     match pairs.get(MOST_PAIRS as usize) {
         None => Ok(()),
@@ -48,7 +48,7 @@ fn check_pairs(alloc: Global, pairs: &[PairItem]) -> Result<(), TopologyFault>
 }
 
 fn check_switches(switches: &[SwitchItem]) -> Result<(), TopologyFault>
-    ensures { Answers result (first_answer too_many_at (enumerate_from 0 switches.now)) }
+    ensures { Answers TopologyFault.Memory result (first_answer too_many_at (enumerate_from 0 switches.now)) }
 {
     for (number, item) in switches.iter().enumerate() {
         check_switch(number, &item.name, item.ports.len())?;
@@ -57,7 +57,7 @@ fn check_switches(switches: &[SwitchItem]) -> Result<(), TopologyFault>
 }
 
 fn check_virtuals(virtuals: &[VirtualItem]) -> Result<(), TopologyFault>
-    ensures { Answers result (first_answer too_many_of (enumerate_from 0 virtuals.now)) }
+    ensures { Answers TopologyFault.Memory result (first_answer too_many_of (enumerate_from 0 virtuals.now)) }
 {
     for (number, item) in virtuals.iter().enumerate() {
         check_switch(number, &item.name, item.ports.len())?;
@@ -67,7 +67,7 @@ fn check_virtuals(virtuals: &[VirtualItem]) -> Result<(), TopologyFault>
 
 /// The plan keeps the limits.
 pub(crate) fn check_limits(alloc: Global, plan: &TopologyPlan) -> Result<(), TopologyFault>
-    ensures { Answers result (crowded plan.now) }
+    ensures { Answers TopologyFault.Memory result (crowded plan.now) }
 {
     check_switches(plan.switches.as_slice())?;
     check_pairs(alloc, plan.cables.as_slice())?;

@@ -11,7 +11,7 @@ use std::marker::Model;
 
 /// Rows in their order, of which the first is found where several have one key.
 #[derive(Drop)]
-pub(crate) struct Rows<K: Eq + Hash, V> {
+pub struct Rows<K: Eq + Hash, V> {
     rows: Vec<(K, V)>,
     map: HashMap<K, V>,
 }
@@ -46,7 +46,7 @@ fn map_of<K: Eq + Hash + Copy, V: Copy>(
 }
 
 impl<K: Eq + Hash + Copy, V: Copy> Rows<K, V> {
-    pub(crate) fn of(alloc: Global, rows: Vec<(K, V)>) -> Result<Rows<K, V>, Memory>
+    pub fn of(alloc: Global, rows: Vec<(K, V)>) -> Result<Rows<K, V>, Memory>
         ensures { IfOk result (λ r. r ≡ rows.items) }
     {
         let map = map_of(alloc, &rows)?;
@@ -54,13 +54,13 @@ impl<K: Eq + Hash + Copy, V: Copy> Rows<K, V> {
     }
 
     /// The value of a key.
-    pub(crate) fn get(&self, key: K) -> Option<V>
+    pub fn get(&self, key: K) -> Option<V>
         ensures { result ≡ lookup (K.eq key) self.now }
     {
         self.map.get(&key).copied()
     }
 
-    pub(crate) fn rows(&self) -> &[(K, V)]
+    pub fn rows(&self) -> &[(K, V)]
         ensures { result.now ≡ self.now }
     {
         &self.rows

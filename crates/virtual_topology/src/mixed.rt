@@ -122,7 +122,7 @@ fn check_item(
     requires number { number < length groups.now }
     requires outside { HaveSwitches (length groups.now) outside.now }
     requires groups { AreGroups links.now groups.now }
-    ensures { Answers result (mixed_item links.now outside.now (number, item.now)) }
+    ensures { Answers TopologyFault.Memory result (mixed_item links.now outside.now (number, item.now)) }
 {
     if is_mixed(alloc, links, outside, groups, number)? {
         return Err(TopologyFault::Mixed {
@@ -142,7 +142,7 @@ pub(crate) fn check_mixed(
     requires count { length virtuals.now < 2 ^ 32 }
     requires links { AreWithin (length virtuals.now) links.now }
     requires outside { HaveSwitches (length virtuals.now) outside.now }
-    ensures { Answers result (mixed_among links.now outside.now virtuals.now) }
+    ensures { Answers TopologyFault.Memory result (mixed_among links.now outside.now virtuals.now) }
 {
     let groups = groups(alloc, virtuals.len(), links)?;
     for (number, item) in virtuals.iter().enumerate() {

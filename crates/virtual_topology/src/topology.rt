@@ -1,8 +1,9 @@
 //! Topologies: plans without fault, whose ports are found by number.
-ghost use Rattle.std.specs.Prelude.{◌≡◌, ◌<◌, ◌^◌, None, IfOk, length};
+ghost use Rattle.std.specs.Prelude.{◌≡◌, ◌<◌, ◌≤◌, ◌^◌, None, IfOk, length};
 ghost use Rattle.std.specs.List.{slice_get};
 ghost use Rattle.virtual_topology.specs.Faults.{Answers, fault_of};
 ghost use Rattle.virtual_topology.specs.Rows.{rows as rows_of};
+ghost use Rattle.virtual_topology.specs.Within.{AreWithin};
 ghost use Rattle.virtual_topology.specs.Wires.{both_ways as both_ways_of, cable_joints, entering_of, far_end_of, is_lone_of, is_spread_of, link_joints, outside_joints as outside_joints_of, outside_of, peer_of};
 
 use crate::check::{check_places, check_shapes};
@@ -83,7 +84,7 @@ impl Topology {
     /// the first place or switch in the order of the plan; of a place that is used twice the second
     /// use. A plan of more than 2^32 - 1 switches is answered as want of memory.
     pub fn make(alloc: Global, plan: &TopologyPlan) -> Result<Topology, TopologyFault>
-        ensures fault { Answers result (fault_of plan.now) }
+        ensures fault { Answers TopologyFault.Memory result (fault_of plan.now) }
         ensures plan { IfOk result (λ t. t ≡ plan.now) }
     {
         let most = u32::MAX as usize;
@@ -105,6 +106,8 @@ impl Topology {
     pub fn plan(&self) -> &TopologyPlan
         ensures plan { result.now ≡ self.now }
         ensures sound { fault_of self.now ≡ None }
+        ensures switches { length self.now.switches ≤ 16 }
+        ensures virtuals { length self.now.virtuals ≤ 16 }
     {
         &self.plan
     }
@@ -140,14 +143,16 @@ impl Topology {
     /// The outside ports of all virtual switches, in the order of the plan, each with the physical port
     /// that it is.
     pub fn outside_ports(&self) -> &[((u32, u16), (u32, u16))]
-        ensures { result.now ≡ outside_joints_of self.now }
+        ensures ports { result.now ≡ outside_joints_of self.now }
+        ensures few { length result.now ≤ 1024 }
     {
         self.outside.rows()
     }
 
     /// From each end of a cable to the other, in the order of the plan.
     pub fn cable_ways(&self) -> &[((u32, u16), (u32, u16))]
-        ensures { result.now ≡ both_ways_of (cable_joints self.now) }
+        ensures ways { result.now ≡ both_ways_of (cable_joints self.now) }
+        ensures within { AreWithin (length self.now.switches) result.now }
     {
         self.far_ends.rows()
     }

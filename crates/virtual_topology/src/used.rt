@@ -39,7 +39,7 @@ impl<'a> Model for Used<'a> {
 
 /// The set of places that are each used once, or the fault of the first that is used again.
 fn set_of<'a>(alloc: Global, list: &[Use<'a>]) -> Result<HashSet<Use<'a>>, TopologyFault>
-    ensures fault { Answers result (twice_among (map shown list.now)) }
+    ensures fault { Answers TopologyFault.Memory result (twice_among (map shown list.now)) }
     ensures contains { IfOk result (λ set. (u : _) → contains same_shown set u ≡ list_any (same_use (shown u)) (map shown list.now)) }
 {
     let mut set = HashSet::with_capacity(alloc, list.len())?;
@@ -56,7 +56,7 @@ fn set_of<'a>(alloc: Global, list: &[Use<'a>]) -> Result<HashSet<Use<'a>>, Topol
 impl<'a> Used<'a> {
     /// Places that are each used once; the fault names the first that is used again.
     pub(crate) fn of(alloc: Global, list: Vec<Use<'a>>) -> Result<Used<'a>, TopologyFault>
-        ensures fault { Answers result (twice_among (map shown list.entry.items)) }
+        ensures fault { Answers TopologyFault.Memory result (twice_among (map shown list.entry.items)) }
         ensures list { IfOk result (λ used. used ≡ map shown list.entry.items) }
     {
         let set = set_of(alloc, &list)?;

@@ -2,6 +2,7 @@ use Rattle.std.proofs.Common.{◌≡◌, ◌<◌, ◌∙◌, ap, map, length, Li
 use Rattle.std.proofs.lemmas.Result.{err_from_is_err_and}
 use Rattle.std.specs.List.{enumerate_from}
 use Rattle.std.specs.Option.{option_map}
+use Rattle.virtual_topology.specs.declared.fault.TopologyFault.TheVariants.{Memory}
 use Rattle.virtual_topology.specs.Faults.{first_answer, too_many_at, too_many_of, unknown_place, unlinked}
 use Rattle.virtual_topology.specs.Places.{PlaceUse}
 use Rattle.virtual_topology.specs.Rows.{Row}
@@ -16,8 +17,8 @@ returns-in_err-check_place c =
     let xs = map shown c.list-place-items.result.now in
     let i = c.loop-place.place-index in
     let lt : i < length xs = omega (arith, as_many_mapped shown c.list-place-items.result.now, c.loop-place-test.true) in
-    rw (p.1, p.2) (subst (λ (ys : List PlaceUse). Wanted c.in_err-check_place.field-0.0 (first_answer (unknown_place c.args.known.now) ys)) c.list-place-items.ensures
-        (stopped_at (unknown_place c.args.known.now) xs i (shown c.place-item.result) _ (next_item xs i _ lt (mapped_at shown c.list-place-items.result.now i c.place-item.result c.loop-place-test.true c.place-item.is)) c.in_err-check_place.ensures c.loop-place.invariant))
+    rw (p.1, p.2) (subst (λ (ys : List PlaceUse). Wanted Memory c.in_err-check_place.field-0.0 (first_answer (unknown_place c.args.known.now) ys)) c.list-place-items.ensures
+        (stopped_at Memory (unknown_place c.args.known.now) xs i (shown c.place-item.result) _ (next_item xs i _ lt (mapped_at shown c.list-place-items.result.now i c.place-item.result c.loop-place-test.true c.place-item.is)) c.in_err-check_place.ensures c.loop-place.invariant))
 
 pub loop-place-preserved : goal.loop-place-preserved
 loop-place-preserved c =

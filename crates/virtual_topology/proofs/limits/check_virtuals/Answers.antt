@@ -2,6 +2,7 @@ use Rattle.std.proofs.Common.{◌≡◌, ◌<◌, ◌∙◌, ap, map, length, Li
 use Rattle.std.proofs.lemmas.Result.{err_from_is_err_and}
 use Rattle.std.specs.List.{enumerate_from}
 use Rattle.std.specs.Option.{option_map}
+use Rattle.virtual_topology.specs.declared.fault.TopologyFault.TheVariants.{Memory}
 use Rattle.virtual_topology.specs.Faults.{first_answer, too_many_at, too_many_of, unknown_place, unlinked}
 use Rattle.virtual_topology.specs.Places.{PlaceUse}
 use Rattle.virtual_topology.specs.Rows.{Row}
@@ -14,7 +15,7 @@ use Rattle.virtual_topology.proofs.limits.check_virtuals.Goals as goal
 pub returns-in_err-check_switch : goal.returns-in_err-check_switch
 returns-in_err-check_switch c =
     let p = err_from_is_err_and c.from_residual.result c.from_residual.ensures.1 in
-    rw (p.1, p.2) (stopped_at too_many_of (enumerate_from 0 c.args.virtuals.now) c.loop-number.number (c.loop-number.number, c.index-virtuals-number.result) _
+    rw (p.1, p.2) (stopped_at Memory too_many_of (enumerate_from 0 c.args.virtuals.now) c.loop-number.number (c.loop-number.number, c.index-virtuals-number.result) _
         (numbered_at c.args.virtuals.now c.loop-number.number c.index-virtuals-number.result c.loop-number-test.true c.index-virtuals-number.is)
         (rw (← c.len.ensures) c.in_err-check_switch.ensures) c.loop-number.invariant)
 

@@ -1,5 +1,6 @@
 use Rattle.std.proofs.Common.{◌≡◌, ◌∙◌, ℕ, None, Option, List, length, ap, subst, sym}
 use Rattle.std.proofs.lemmas.Result.{err_from_is_err_and}
+use Rattle.virtual_topology.specs.declared.fault.TopologyFault.TheVariants.{Memory}
 use Rattle.virtual_topology.specs.declared.fault.TopologyFault.{TopologyFault}
 use Rattle.virtual_topology.specs.declared.uses.Role.TheVariants.{Link}
 use Rattle.virtual_topology.specs.Faults.{crowded, mixed_among, twice_among}
@@ -33,9 +34,9 @@ returns-in_err-check_mixed-clause-fault c =
     let left = after_shape plan c.in_ok-used.used c.in_ok-known.known us c.in_ok-known.ensures (ap twice_among c.in_ok-used.ensures.list ∙ c.in_ok-used.ensures.fault) c.in_ok-check_places.ensures c.in_ok-check_shapes.ensures in
     let p = err_from_is_err_and c.from_residual-in_err-check_mixed.result c.from_residual-in_err-check_mixed.ensures.1 in
     let e = c.in_err-check_mixed.field-0.0 in
-    let mixed : Wanted e (mixed_among (link_joints plan) (outside_joints plan) plan.virtuals) =
-        subst (λ (o : Option TopologyFault). Wanted e o) (λ i. mixed_among (links i) (outside i) (c.as_slice-3.ensures i)) c.in_err-check_mixed.ensures in
-    rw (p.1, p.2) (subst (λ (o : Option TopologyFault). Wanted e o) (sym left) (first_wanted e _ (crowded plan) mixed))
+    let mixed : Wanted Memory e (mixed_among (link_joints plan) (outside_joints plan) plan.virtuals) =
+        subst (λ (o : Option TopologyFault). Wanted Memory e o) (λ i. mixed_among (links i) (outside i) (c.as_slice-3.ensures i)) c.in_err-check_mixed.ensures in
+    rw (p.1, p.2) (subst (λ (o : Option TopologyFault). Wanted Memory e o) (sym left) (first_wanted Memory e _ (crowded plan) mixed))
 
 pub returns-in_err-check_limits-clause-fault : goal.returns-in_err-check_limits-clause-fault
 returns-in_err-check_limits-clause-fault c =
@@ -47,7 +48,7 @@ returns-in_err-check_limits-clause-fault c =
     let rest = after_mixed plan c.deref.result.now c.deref-2.result.now c.as_slice-3.result.now links outside c.as_slice-3.ensures left c.in_ok-check_mixed.ensures in
     let p = err_from_is_err_and c.from_residual-in_err-check_limits.result c.from_residual-in_err-check_limits.ensures.1 in
     let e = c.in_err-check_limits.field-0.0 in
-    rw (p.1, p.2) (subst (λ (o : Option TopologyFault). Wanted e o) (sym rest) c.in_err-check_limits.ensures)
+    rw (p.1, p.2) (subst (λ (o : Option TopologyFault). Wanted Memory e o) (sym rest) c.in_err-check_limits.ensures)
 
 pub numbered-requires-clause-sound : goal.numbered-requires-clause-sound
 numbered-requires-clause-sound c =
