@@ -80,7 +80,8 @@ pub fn entries_of(alloc: Global, setting: &Setting, switch: u32) -> Result<List<
     requires { IsFittingSetting setting.now }
     ensures from_scratch { IfOk result (λ entries. entries ≡ spec.entries_of setting.now switch) }
     // Within the limits of policies each entry's ADD fits a message.
-    ensures short { IsSoundSetting setting.now → HasLimits setting.now → IfOk result (λ entries. AllByRecursion AddFits entries) }
+    ensures short { IsSoundSetting setting.now → HasLimits setting.now →
+        IfOk result (λ entries. AllByRecursion AddFits entries) }
 {
     let mut entries = List::new(alloc);
     for (v, x) in setting.network.switches.as_slice().iter().enumerate() {
