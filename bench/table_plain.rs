@@ -1,6 +1,6 @@
 //! The same job as `crates/bench_table`, in plain Rust: entries are added to a table, given other
 //! actions and taken out, each by a message.
-use std::collections::{BTreeMap, HashMap};
+use std::collections::{BTreeMap, HashMap, HashSet};
 
 #[derive(Clone, Copy, PartialEq, Eq, Hash)]
 struct Prefix {
@@ -80,6 +80,18 @@ fn agree_prefix(a: Option<Prefix>, b: Option<Prefix>) -> bool {
     }
 }
 
+fn covers<T: PartialEq>(a: Option<T>, b: Option<T>) -> bool {
+    a.is_none() || a == b
+}
+
+fn covers_prefix(a: Option<Prefix>, b: Option<Prefix>) -> bool {
+    match (a, b) {
+        (None, _) => true,
+        (Some(p), Some(q)) => p.len <= q.len && (p.addr ^ q.addr) >> (32 - p.len) == 0,
+        _ => false,
+    }
+}
+
 fn prefix(left_out: u32, addr: u32) -> Option<Prefix> {
     (left_out < 32).then(|| Prefix { addr: addr >> left_out << left_out, len: 32 - left_out as u8 })
 }
@@ -98,6 +110,21 @@ impl Match {
             && agree_prefix(self.nw_dst, other.nw_dst)
             && agree(self.tp_src, other.tp_src)
             && agree(self.tp_dst, other.tp_dst)
+    }
+
+    fn covers(&self, other: &Match) -> bool {
+        covers(self.in_port, other.in_port)
+            && covers(self.dl_src, other.dl_src)
+            && covers(self.dl_dst, other.dl_dst)
+            && covers(self.dl_vlan, other.dl_vlan)
+            && covers(self.dl_vlan_pcp, other.dl_vlan_pcp)
+            && covers(self.dl_type, other.dl_type)
+            && covers(self.nw_tos, other.nw_tos)
+            && covers(self.nw_proto, other.nw_proto)
+            && covers_prefix(self.nw_src, other.nw_src)
+            && covers_prefix(self.nw_dst, other.nw_dst)
+            && covers(self.tp_src, other.tp_src)
+            && covers(self.tp_dst, other.tp_dst)
     }
 
     fn wildcards(&self) -> u32 {
@@ -232,6 +259,10 @@ impl Table {
                 }
                 None => self.add(identity, m, now, counts),
             },
+            3 => {
+                self.delete_covered(&identity.1, m.out_port, counts);
+                Ok(())
+            }
             4 => {
                 self.delete(&identity, m.out_port, counts);
                 Ok(())
@@ -286,6 +317,24 @@ impl Table {
         Ok(())
     }
 
+    fn delete_covered(&mut self, filter: &Match, out_port: u16, counts: &mut Counts) {
+        let mut gone = HashSet::new();
+        self.entries.retain(|_, entry| {
+            let goes = filter.covers(&entry.normal) && outputs_to(entry, out_port);
+            if goes {
+                gone.insert(entry.serial);
+                counts.deleted += 1;
+                counts.serials += entry.serial;
+            }
+            !goes
+        });
+        let entries = &self.entries;
+        self.places.retain(|_, place| entries.contains_key(place));
+        for near in self.ranks.values_mut() {
+            near.retain(|(serial, _)| !gone.contains(serial));
+        }
+    }
+
     fn delete(&mut self, identity: &Identity, out_port: u16, counts: &mut Counts) {
         let Some(&place) = self.places.get(identity) else { return };
         if !outputs_to(&self.entries[&place], out_port) {
@@ -300,19 +349,22 @@ impl Table {
     }
 }
 
-fn message(command: u16, number: u16) -> FlowMod {
-    let m = Match {
+fn to_net(number: u16) -> Match {
+    Match {
         dl_type: Some(0x0800),
         nw_dst: Some(Prefix { addr: (0x000a_0000 + u32::from(number)) * 256, len: 24 }),
         ..Match::default()
-    };
+    }
+}
+
+fn message(command: u16, priority: u16, m: Match) -> FlowMod {
     FlowMod {
         m: m.write(),
-        cookie: u64::from(number),
+        cookie: u64::from(priority),
         command,
         idle_timeout: 0,
         hard_timeout: 0,
-        priority: 100 + number % 64,
+        priority,
         buffer_id: 0xffff_ffff,
         out_port: NONE,
         flags: 0,
@@ -321,23 +373,26 @@ fn message(command: u16, number: u16) -> FlowMod {
 }
 
 fn main() {
-    let mut words = std::env::args().skip(1).map(|word| word.parse::<u16>().expect("a number"));
-    let entries = words.next().expect("ENTRIES");
-    let phases = words.next().expect("PHASES");
+    let words: Vec<String> = std::env::args().skip(1).collect();
+    let entries: u16 = words[0].parse().expect("ENTRIES");
+    let done = words[1].as_str();
+    let priorities: u16 = words[2].parse().expect("PRIORITIES");
     let mut table = Table::new(4096);
     let mut counts = Counts::default();
-    let mut send = |command: u16, first: u16, step: usize| {
-        for number in (first..entries).step_by(step) {
-            table.apply(std::hint::black_box(message(command, number)), 0, &mut counts).expect("it fits");
-        }
+    let mut send = |m: FlowMod| {
+        table.apply(std::hint::black_box(m), 0, &mut counts).expect("it fits");
     };
-    send(0, 0, 1);
-    if phases > 1 {
-        send(2, 0, 1);
+    let to_one = |command: u16, number: u16| message(command, 100 + number % priorities, to_net(number));
+    (0..entries).for_each(|number| send(to_one(0, number)));
+    if matches!(done, "modify" | "delete") {
+        (0..entries).for_each(|number| send(to_one(2, number)));
     }
-    if phases > 2 {
-        send(4, 1, 2);
-        send(4, 0, 2);
+    if done == "delete" {
+        (1..entries).step_by(2).for_each(|number| send(to_one(4, number)));
+        (0..entries).step_by(2).for_each(|number| send(to_one(4, number)));
+    }
+    if done == "all" {
+        send(message(3, 0, Match::default()));
     }
     let left = table.entries.len();
     println!(

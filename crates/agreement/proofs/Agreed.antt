@@ -60,7 +60,9 @@ use Rattle.agreement.specs.Law.{Agreement}
 use Rattle.agreement.specs.Reach.{LeadsTo, at_once, lies, AreUp, IsSwitchOf, over}
 use Rattle.agreement.specs.Seeing.{Alike, comes_by, expected}
 use Rattle.agreement.proofs.Levels.{all-name, enters-outside, has-outside}
-use Rattle.agreement.proofs.NodeRules.{AreNumbered, Names, node-numbered}
+use Rattle.agreement.specs.Followed.{AreNumbered}
+use Rattle.agreement.proofs.NodeRules.{Names, node-numbered}
+use Rattle.agreement.proofs.Used.{all-speak, untagged-is, used}
 use Rattle.agreement.proofs.SameTables.{may-carried}
 use Rattle.agreement.proofs.Showing.{said-shows, fired-shows}
 use Rattle.agreement.proofs.ShowingWhole.{whole-shows}
@@ -76,24 +78,12 @@ has-by : (s : Setting) (v p : ℕ) (o : Option VirtualSwitch) → slice_get s.ne
 has-by s v p None e t = cc
 has-by s v p (Some x) e t = record { x = x; at = e; port = sym t }
 
--- where rules are for one port, all outs speak of its packets
-all-speak : (site : Site) (port : ℕ) (outs : List Out) → site.whole ≡ false → speaking site port outs ≡ outs
-all-speak site port outs e = rw e refl
-
 -- where they are for all ports, those that are not silent
 some-speak : (site : Site) (port : ℕ) (outs : List Out) → site.whole ≡ true → speaking site port outs ≡ filter (λ (o : Out). not (is_silent site.v (Some port) o.dest)) outs
 some-speak site port outs e = rw e refl
 
 all-written : (site : Site) (r : FlatRule) → site.whole ≡ false → outs_written site r ≡ r.outs
 all-written site r e = rw e refl
-
--- a packet that a spread virtual switch takes has no tag
-untagged-is : (h : HeaderOf) → takes true h ≡ true → h.dl_vlan ≡ 65535
-untagged-is h e = by_tag (h.dl_vlan == 65535) refl e
-  where
-    by_tag : (b : Bool) → (h.dl_vlan == 65535) ≡ b → not (true && not b) ≡ true → h.dl_vlan ≡ 65535
-    by_tag true t u = eqb-true h.dl_vlan 65535 t
-    by_tag false t u = cc
 
 -- what is so of each item that gives one
 kept-from : {B : Type 0} (P : B → Type 0) (o : Option B) (xs : List B) → AllByRecursion P (cons_option o xs) → IfSome o P × AllByRecursion P xs
@@ -178,9 +168,7 @@ module _ (s : Setting) (good : IsSoundSetting s) (v : ℕ) (x : VirtualSwitch) (
   module _ (tables : ℕ → List FlowEntry) (installed : AreInstalled s tables) (up : AreUp s v) (choice : Choice) (allowed : IsAllowed tables choice) where
     -- what the switches of the virtual switch use
     uses : (switch : ℕ) → IsSwitchOf s v switch → (way : List ℕ) (hd : HeaderOf) (best : PhysEntry) → IsBestEntry hd (entries_of s switch) best → choice way switch hd ≡ Some (flow_of best)
-    uses switch is way hd best top =
-        best-is-installed (entries_of s switch) hd best top (all-fit s good switch) (choice way switch hd)
-        (may-carried (tables switch) (table_of s switch) hd (choice way switch hd) (installed switch (up switch is)) (allowed way switch hd))
+    uses = used s good v tables installed up choice allowed
 
     abbrev on : List ℕ → ℕ → HeaderOf → Seen
     on = follow s.wiring choice (length s.switches)

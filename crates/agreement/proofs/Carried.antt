@@ -4,7 +4,7 @@ use Rattle.std.proofs.lemmas.List.{append-nil}
 use Rattle.std.specs.Prelude.{◌==◌, IfSome, map}
 use Rattle.std.specs.List.{list_any}
 use Rattle.of10_match.specs.Fields.{HeaderOf}
-use Rattle.of10_actions.specs.declared.port.TheConstants.{IN_PORT, CONTROLLER, MAX}
+use Rattle.of10_actions.specs.Numbers.{IN_PORT, CONTROLLER, MAX}
 use Rattle.policy_meaning.proofs.Booleans.{or_right}
 use Rattle.switch_meaning.specs.BestLaw.{IsBestEntry}
 use Rattle.switch_meaning.specs.Firing.{both_fired, fire, fire_entry, output, sent, unsent}

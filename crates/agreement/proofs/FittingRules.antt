@@ -4,7 +4,6 @@ use Rattle.std.specs.Prelude.{All, if◌then◌else◌, map, slice_get}
 use Rattle.std.specs.List.{AllByRecursion}
 use Rattle.std.proofs.Math.Nat.{mul-le-mul_left}
 use Rattle.std.proofs.lemmas.List.Elements.{All-from_recursion, All-get_or}
-use Rattle.policy_expr.specs.Policy.{policy_of}
 use Rattle.policy_meaning.specs.Best.{Below}
 use Rattle.policy_meaning.specs.Fitting.{levels_of}
 use Rattle.policy_meaning.specs.Hops.{hop_size, node, peers_size}
@@ -20,10 +19,10 @@ use Rattle.agreement.specs.Fitting.{IsFittingSetting}
 use Rattle.agreement.specs.declared.state.Setting.{Setting}
 
 -- over a hop or more there are no fewer levels than those of the expression
-own-within : (net : Network) (hops v : ℕ) (x : VirtualSwitch) → 0 < hops → slice_get net.switches v ≡ Some x → levels_of net.tables (policy_of x.expr) ≤ hop_size (fabric_of net) hops v
+own-within : (net : Network) (hops v : ℕ) (x : VirtualSwitch) → 0 < hops → slice_get net.switches v ≡ Some x → levels_of net.tables x.expr ≤ hop_size (fabric_of net) hops v
 own-within net zero v x lt at = omega arith
 own-within net (suc n) v x lt at =
-    let own = levels_of net.tables (policy_of x.expr) in
+    let own = levels_of net.tables x.expr in
     let over = peers_size (hop_size (fabric_of net) n) x.links in
     let is : hop_size (fabric_of net) (suc n) v ≡ own * over = rw at refl in
     let p : 1 ≤ over = positive _ in
@@ -49,7 +48,7 @@ module _ (s : Setting) (fits : IsFittingSetting s) (v : ℕ) (x : VirtualSwitch)
   at-all =
       let size = fits.sizes v in
       let own = own-within s.network s.hops v x fits.hops at in
-      all-map (Below (levels_of s.network.tables (policy_of x.expr))) HasRoom (switch_rules s.network.tables (Some x)) (λ r lt. omega arith) (rules-below s.network.tables fits.tables (ports_of x) (policy_of x.expr))
+      all-map (Below (levels_of s.network.tables x.expr)) HasRoom (switch_rules s.network.tables (Some x)) (λ r lt. omega arith) (rules-below s.network.tables fits.tables (ports_of x) x.expr)
 
   entering-fit : (whole : Bool) → AllByRecursion EachHasRoom (if whole then record { port = None; rules = switch_rules s.network.tables (Some x) } ∷ [] else map at_port x.outside)
   entering-fit true = (at-all, tt)

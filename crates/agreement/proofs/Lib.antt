@@ -12,6 +12,7 @@ pub mod Levels
 pub mod RuleEntries
 pub mod SwitchEntries
 pub mod ShowingWhole
+pub mod Used
 pub mod Agreed
 pub mod Finding
 pub mod WorkedRouter
@@ -21,3 +22,9 @@ pub mod Guarded
 pub mod Carried
 pub mod ShowingSpread
 pub mod FittingRules
+pub mod Lengths
+pub mod Ranges
+pub mod Twins
+pub mod FreeOrder
+pub mod Ways
+pub mod Followed

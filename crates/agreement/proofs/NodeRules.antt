@@ -2,14 +2,14 @@
 use Rattle.std.proofs.Common.{◌≡◌, ℕ, zero, suc, Bool, true, false, List, Option, Some, None, refl, ap, subst, eqb-true}
 use Rattle.std.specs.Prelude.{filter_map, if◌then◌else◌, map, ◌==◌, ◌&&◌}
 use Rattle.std.specs.List.{AllByRecursion}
-use Rattle.of10_match.specs.Matching.{agree, either}
+use Rattle.of10_match.specs.Matching.{agree, at_port, either}
 use Rattle.of10_actions.specs.Fields.{RewriteOf}
-use Rattle.of10_actions.specs.Rewriting.{pulled}
+use Rattle.pull_back.specs.Pulling.{pulled}
 use Rattle.of10_actions.specs.declared.effects.Dest.{Dest}
 use Rattle.of10_actions.specs.declared.effects.Dest.TheVariants.{Port, Flood, Ingress, Tell}
 use Rattle.of10_actions.specs.declared.effects.Out.{Out}
 use Rattle.policy_meaning.specs.Hops.{Fabric, at_node, hop_rule, hop_size, hopped, hops_on, leads, node, out_at, outs_at, peers_size, without_port}
-use Rattle.policy_meaning.specs.LeafRules.{at_port, rule_met}
+use Rattle.policy_meaning.specs.LeafRules.{rule_met}
 use Rattle.policy_meaning.specs.Meaning.{out_after}
 use Rattle.policy_meaning.specs.declared.network.Onward.{Onward}
 use Rattle.policy_meaning.specs.declared.rule.Rule.{Rule}
@@ -17,20 +17,11 @@ use Rattle.policy_meaning.proofs.Booleans.{some_injective, split_and}
 use Rattle.policy_meaning.proofs.Cells.{narrowed}
 use Rattle.policy_meaning.proofs.Lists.{all-append, all-each, all-filter_map, all-flat_map, all-mapped}
 use Rattle.policy_meaning.proofs.Meeting.{some_met, some_pulled}
+use Rattle.agreement.specs.Followed.{AreNumbered, IsNumbered}
 
 -- the rule names the port
 abbrev pub Names : ℕ → Rule → Type 0
 Names port r = r.m.in_port ≡ Some port
-
--- the out goes to the ingress under its number, if it goes there
-abbrev pub IsNumbered : Dest → Type 0
-IsNumbered (Port v p) = Unit {0}
-IsNumbered (Flood v p) = Unit {0}
-IsNumbered Ingress = ⊥
-IsNumbered (Tell member reason) = Unit {0}
-
-abbrev pub AreNumbered : List Out → Type 0
-AreNumbered outs = AllByRecursion (λ (o : Out). IsNumbered o.dest) outs
 
 -- anything
 abbrev Any : {A : Type 0} → A → Type 0

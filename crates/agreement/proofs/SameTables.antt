@@ -1,22 +1,15 @@
 -- What a switch may use hangs on its entries alone, and not on their order.
-use Rattle.std.proofs.Common.{◌≡◌, ◌≤◌, ◌⊎◌, inl, inr, true, false, Option, Some, None, List, [], ◌∷◌}
+use Rattle.std.proofs.Common.{◌≡◌, ◌≤◌, ◌⊎◌, inl, inr, true, false, Option, Some, None, List}
 use Rattle.std.specs.List.{AllByRecursion}
 use Rattle.of10_match.specs.Fields.{HeaderOf}
 use Rattle.of10_match.specs.Matching.{holds}
-use Rattle.switch_meaning.specs.MayUse.{IsIn, IsTop, MayUse, here, there, priority_of, rank_of}
+use Rattle.switch_meaning.specs.MayUse.{IsTop, MayUse, priority_of, rank_of}
 use Rattle.switch_meaning.specs.declared.entry.FlowEntry.{FlowEntry}
+use Rattle.switch_meaning.proofs.Members.{all-in, from-place, in-all, place}
 use Rattle.agreement.specs.Agree.{SameEntries}
 
-at-each : (P : FlowEntry → Type 0) {e : FlowEntry} {table : List FlowEntry} → IsIn e table → AllByRecursion P table → P e
-at-each P here all = all.0
-at-each P (there i) all = at-each P i all.1
-
-from-each : (P : FlowEntry → Type 0) (table : List FlowEntry) → ((e : FlowEntry) → IsIn e table → P e) → AllByRecursion P table
-from-each P [] f = tt
-from-each P (e ∷ es) f = (f e here, from-each P es (λ d i. f d (there i)))
-
 carried : (P : FlowEntry → Type 0) (a b : List FlowEntry) → SameEntries a b → AllByRecursion P a → AllByRecursion P b
-carried P a b same all = from-each P b (λ e i. at-each P (same.back e i) all)
+carried P a b same all = all-in P b (λ e i. in-all P (from-place e a (same.back e (place e b i))) all)
 
 highest-carried : (a b : List FlowEntry) (h : HeaderOf) (e : FlowEntry) → SameEntries a b → (IsTop rank_of a h e ⊎ IsTop priority_of a h e) → (IsTop rank_of b h e ⊎ IsTop priority_of b h e)
 highest-carried a b h e same (inl top) = inl (carried (λ (d : FlowEntry). holds d.m h ≡ true → rank_of d ≤ rank_of e) a b same top)

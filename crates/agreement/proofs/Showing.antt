@@ -23,7 +23,7 @@ use Rattle.switch_meaning.specs.declared.wiring.Outside.{Outside}
 use Rattle.switch_meaning.specs.declared.wiring.Spot.{Spot}
 use Rattle.switch_meaning.specs.declared.wiring.Wiring.{Wiring}
 use Rattle.agreement.specs.Seeing.{Alike, but_in_port, comes_by, copy_at, expected, left_at}
-use Rattle.agreement.proofs.NodeRules.{AreNumbered, IsNumbered}
+use Rattle.agreement.specs.Followed.{AreNumbered, IsNumbered}
 
 module _ (w : Wiring) (open_ends : (v p : ℕ) → IfSome (outside_at w v p) (λ o. far_end w o.at ≡ None)) (at : Spot) (h : HeaderOf) (on : List ℕ → ℕ → HeaderOf → Seen) where
   -- what the packet gives that some outs send

@@ -9,7 +9,7 @@ use Rattle.of10_actions.specs.Rewriting.{apply}
 use Rattle.of10_actions.specs.declared.effects.Dest.{Dest}
 use Rattle.of10_actions.specs.declared.effects.Dest.TheVariants.{Port, Flood, Ingress, Tell}
 use Rattle.of10_actions.specs.declared.effects.Out.{Out}
-use Rattle.of10_actions.specs.declared.port.TheConstants.{IN_PORT, CONTROLLER, MAX}
+use Rattle.of10_actions.specs.Numbers.{IN_PORT, CONTROLLER, MAX}
 use Rattle.policy_meaning.specs.HopFact.{leaving}
 use Rattle.policy_meaning.specs.Networks.{switch_spread}
 use Rattle.policy_meaning.specs.declared.walking.PortOut.{PortOut}
@@ -36,7 +36,7 @@ use Rattle.agreement.specs.Seeing.{but_in_port, comes_by, left_at}
 use Rattle.agreement.proofs.Cables.{peer-end}
 use Rattle.agreement.proofs.Carried.{Arrives, carried, final, visits-peer}
 use Rattle.agreement.proofs.Guarded.{has-tag}
-use Rattle.agreement.proofs.NodeRules.{AreNumbered, IsNumbered}
+use Rattle.agreement.specs.Followed.{AreNumbered, IsNumbered}
 use Rattle.agreement.proofs.Showing.{Shows, port-shows}
 
 -- a port, written as IN_PORT where the packet came by it

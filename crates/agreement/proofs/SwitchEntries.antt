@@ -49,17 +49,17 @@ module _ (s : Setting) (good : IsSoundSetting s) where
   at_all x = record { port = None; rules = switch_rules s.network.tables (Some x) }
 
   -- the entries of these
-  abbrev entries : ℕ → ℕ → VirtualSwitch → Entering → List PhysEntry
+  abbrev pub entries : ℕ → ℕ → VirtualSwitch → Entering → List PhysEntry
   entries switch v x en = filter_map (λ r. entry_of s.wiring (site_at switch v x) (flat r)) en.rules
 
-  entering-part : (v : ℕ) (x : VirtualSwitch) → x.whole ≡ false → entering s.network s.hops v (Some x) ≡ map (at_node v) x.outside
+  pub entering-part : (v : ℕ) (x : VirtualSwitch) → x.whole ≡ false → entering s.network s.hops v (Some x) ≡ map (at_node v) x.outside
   entering-part v x e = rw e refl
 
-  entering-whole : (v : ℕ) (x : VirtualSwitch) → x.whole ≡ true → entering s.network s.hops v (Some x) ≡ at_all x ∷ []
+  pub entering-whole : (v : ℕ) (x : VirtualSwitch) → x.whole ≡ true → entering s.network s.hops v (Some x) ≡ at_all x ∷ []
   entering-whole v x e = rw e refl
 
   -- what is placed where its port lies, and what is not
-  placed-by : (P : PhysEntry → Type 0) (b : Bool) (es : List PhysEntry) → (b ≡ true → AllByRecursion P es) → AllByRecursion P (if b then es else [])
+  pub placed-by : (P : PhysEntry → Type 0) (b : Bool) (es : List PhysEntry) → (b ≡ true → AllByRecursion P es) → AllByRecursion P (if b then es else [])
   placed-by P true es f = f refl
   placed-by P false es f = tt
 
@@ -80,7 +80,7 @@ module _ (s : Setting) (good : IsSoundSetting s) where
       (all-append P (placed s.wiring (site_at switch v x) x.outside (at_all x)) []
       (placed-by P (stands_on s.wiring switch v x.outside) (entries switch v x (at_all x)) (λ t. f (stands-where s.wiring switch v x.outside t))) tt)
 
-  for-any : (P : PhysEntry → Type 0) (switch v : ℕ) (x : VirtualSwitch) (b : Bool) → x.whole ≡ b
+  pub for-any : (P : PhysEntry → Type 0) (switch v : ℕ) (x : VirtualSwitch) (b : Bool) → x.whole ≡ b
       → ((q : ℕ) → has_port x.outside q ≡ true → Lies s.wiring switch v q → AllByRecursion P (entries switch v x (at_node v q)))
       → (x.whole ≡ true → Stands s.wiring switch v x.outside → AllByRecursion P (entries switch v x (at_all x))) → AllByRecursion P (entries_for s switch (v, x))
   for-any P switch v x true e part all = for-whole P switch v x e (all e)
@@ -90,7 +90,7 @@ module _ (s : Setting) (good : IsSoundSetting s) where
   abbrev pub ruled : ℕ → List PhysEntry
   ruled switch = flat_map (entries_for s switch) (enumerate_from 0 s.network.switches)
 
-  all-ruled : (P : PhysEntry → Type 0) (switch : ℕ) → ((v : ℕ) (x : VirtualSwitch) → is_at v x → AllByRecursion P (entries_for s switch (v, x))) → AllByRecursion P (ruled switch)
+  pub all-ruled : (P : PhysEntry → Type 0) (switch : ℕ) → ((v : ℕ) (x : VirtualSwitch) → is_at v x → AllByRecursion P (entries_for s switch (v, x))) → AllByRecursion P (ruled switch)
   all-ruled P switch f = all-flat_map (λ (i : ℕ × VirtualSwitch). is_at i.0 i.1) P (entries_for s switch) (enumerate_from 0 s.network.switches) (λ i e. f i.0 i.1 e) (all-numbered s.network.switches)
 
   -- the rules of a whole virtual switch name its ports alone

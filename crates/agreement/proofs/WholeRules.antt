@@ -3,16 +3,16 @@ use Rattle.std.proofs.Common.{◌≡◌, ℕ, Bool, true, false, List, [], ◌�
 use Rattle.std.specs.Prelude.{IfSome, flat_map, if◌then◌else◌, map, slice_get}
 use Rattle.std.specs.List.{AllByRecursion}
 use Rattle.of10_match.specs.Fields.{MatchOf}
-use Rattle.of10_match.specs.Matching.{either, meet}
+use Rattle.of10_match.specs.Matching.{at_port, either, meet}
 use Rattle.of10_actions.specs.Fields.{RewriteOf}
 use Rattle.of10_actions.specs.declared.effects.Tail.{Tail}
 use Rattle.of10_actions.specs.declared.effects.Tail.TheVariants.{Nothing, Pass, Link}
 use Rattle.alg_priority.specs.Levels.{shift_level}
-use Rattle.policy_expr.specs.Policy.{Policy, member, parallel, sequential, override, policy_of}
+use Rattle.policy_expr.specs.Policy.{Policy, member, parallel, sequential, override}
 use Rattle.policy_expr.specs.Sizes.{size_of}
 use Rattle.policy_meaning.specs.CentralFact.{EachMember}
 use Rattle.policy_meaning.specs.Leaf.{has_port}
-use Rattle.policy_meaning.specs.LeafRules.{at_port, cells, cut, entry_rule, has_outside, hides, in_cells, miss_rule, outside_rule, rule_met}
+use Rattle.policy_meaning.specs.LeafRules.{cells, cut, entry_rule, has_outside, hides, in_cells, miss_rule, outside_rule, rule_met}
 use Rattle.policy_meaning.specs.Networks.{ports_of, switch_rules, table_rules, table_size}
 use Rattle.policy_meaning.specs.Rules.{chain_rule, chained, chains_by, chains_with, lifted, rules_of, shifts_with, sum_rule, summed, sums_with}
 use Rattle.policy_meaning.specs.declared.leaf.LeafEntry.{LeafEntry}
@@ -100,7 +100,7 @@ each P Q f (sequential a b) p = (each P Q f a p.0, each P Q f b p.1)
 each P Q f (override a b) p = (each P Q f a p.0, each P Q f b p.1)
 
 -- the rules of a virtual switch whose members keep to some ports
-pub switch-keeps : (ports : List ℕ) (tables : List LeafTable) (x : VirtualSwitch) → EachMember (λ i. TableKeepsTo ports (slice_get tables i)) (policy_of x.expr) → AllByRecursion (RuleKeeps ports) (switch_rules tables (Some x))
+pub switch-keeps : (ports : List ℕ) (tables : List LeafTable) (x : VirtualSwitch) → EachMember (λ i. TableKeepsTo ports (slice_get tables i)) x.expr → AllByRecursion (RuleKeeps ports) (switch_rules tables (Some x))
 switch-keeps ports tables x k =
-    rules-keep ports (λ i. table_size (slice_get tables i)) (λ i. table_rules (ports_of x) (slice_get tables i)) (policy_of x.expr)
-    (each (λ i. TableKeepsTo ports (slice_get tables i)) (λ i. AllByRecursion (RuleKeeps ports) (table_rules (ports_of x) (slice_get tables i))) (λ i t. table-keeps ports (ports_of x) (slice_get tables i) t) (policy_of x.expr) k)
+    rules-keep ports (λ i. table_size (slice_get tables i)) (λ i. table_rules (ports_of x) (slice_get tables i)) x.expr
+    (each (λ i. TableKeepsTo ports (slice_get tables i)) (λ i. AllByRecursion (RuleKeeps ports) (table_rules (ports_of x) (slice_get tables i))) (λ i t. table-keeps ports (ports_of x) (slice_get tables i) t) x.expr k)

@@ -11,7 +11,7 @@ use Rattle.of10_actions.specs.declared.effects.Dest.TheVariants.{Port, Flood, In
 use Rattle.of10_actions.specs.declared.effects.Out.{Out}
 use Rattle.of10_actions.specs.declared.effects.Tail.{Tail}
 use Rattle.of10_actions.specs.declared.effects.Tail.TheVariants.{Nothing, Pass, Link}
-use Rattle.policy_expr.specs.Policy.{Policy, member, parallel, sequential, override, policy_of}
+use Rattle.policy_expr.specs.Policy.{Policy, member, parallel, sequential, override}
 use Rattle.policy_meaning.specs.CentralFact.{EachMember}
 use Rattle.policy_meaning.specs.Hops.{leads}
 use Rattle.policy_meaning.specs.Leaf.{best_entry, by_entry, higher, is_inside, miss_outs, outside}
@@ -93,12 +93,12 @@ module _ (v : ℕ) where
 
   -- the members of a virtual switch send packets to its ports alone
   abbrev pub IsWithin : List LeafTable → VirtualSwitch → Type 0
-  IsWithin tables x = EachMember (λ i. TableGoesWithin v (slice_get tables i)) (policy_of x.expr)
+  IsWithin tables x = EachMember (λ i. TableGoesWithin v (slice_get tables i)) x.expr
 
   pub switch-within : (tables : List LeafTable) (o : Option VirtualSwitch) → ((x : VirtualSwitch) → o ≡ Some x → IsWithin tables x) → (h : HeaderOf) → OutsWithin v (switch_meaning tables o h).outs
   switch-within tables None g h = tt
   switch-within tables (Some x) g h =
-      evaluate-within (λ i. table_meaning (slice_get tables i)) (λ i. TableGoesWithin v (slice_get tables i)) (λ i p k. table-within (slice_get tables i) p k) (policy_of x.expr) (g x refl) h
+      evaluate-within (λ i. table_meaning (slice_get tables i)) (λ i. TableGoesWithin v (slice_get tables i)) (λ i p k. table-within (slice_get tables i) p k) x.expr (g x refl) h
 
 module _ (net : Network) (good : (v : ℕ) (x : VirtualSwitch) → slice_get net.switches v ≡ Some x → IsWithin v net.tables x) where
   -- the packet leaves where links lead

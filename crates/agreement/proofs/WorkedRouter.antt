@@ -4,8 +4,8 @@ use Rattle.std.specs.Prelude.{is_some, slice_get}
 use Rattle.std.specs.List.{AllByRecursion}
 use Rattle.of10_match.specs.Normal.{IsNormal}
 use Rattle.of10_actions.specs.Rewriting.{Extends, no_rewrite}
-use Rattle.of10_actions.specs.declared.port.TheConstants.{MAX}
-use Rattle.policy_expr.specs.declared.expr.Expr.TheVariants.{Member}
+use Rattle.of10_actions.specs.Numbers.{MAX}
+use Rattle.policy_expr.specs.Policy.{member}
 use Rattle.policy_meaning.specs.EveryNode.{IsSoundSwitch}
 use Rattle.policy_meaning.specs.Hops.{peer_of}
 use Rattle.policy_meaning.specs.Leaf.{has_port}
@@ -22,7 +22,7 @@ use Rattle.switch_meaning.specs.Wirings.{far_end, outside_at}
 use Rattle.switch_meaning.specs.declared.wiring.Outside.{Outside}
 use Rattle.agreement.specs.Fitting.{SizesFit}
 use Rattle.agreement.specs.Premises.{IsAlone, IsSoundPlacing, IsSoundSetting, IsSoundVirtual, outside_ports}
-use Rattle.agreement.specs.Worked.{RouterAgrees, four_ports, routed}
+use Rattle.agreement.specs.Worked.{RouterAgrees, RouterIsSound, four_ports, routed}
 use Rattle.agreement.proofs.Agreed.{agreed}
 use Rattle.agreement.proofs.Finding.{find-gives, if-found, is_some-find, only}
 
@@ -79,7 +79,7 @@ module _ (whole : Bool) where
   no-peer zero p q e = cc
   no-peer (suc v) p q e = cc
 
-  alone : IsAlone (routed whole) 0 (record { expr = Member 0; outside = four_ports; links = []; spread = false; whole = whole })
+  alone : IsAlone (routed whole) 0 (record { expr = member 0; outside = four_ports; links = []; spread = false; whole = whole })
   alone = record {
     links = refl;
     lone = refl;
@@ -120,6 +120,9 @@ module _ (whole : Bool) where
     hops = omega arith;
     sizes = sound-sizes;
   }
+
+pub router-is-sound : RouterIsSound
+router-is-sound whole = sound-routed whole
 
 pub router-agrees : RouterAgrees
 router-agrees whole tables installed = agreed (routed whole) (sound-routed whole) tables installed

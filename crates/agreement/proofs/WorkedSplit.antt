@@ -2,7 +2,7 @@
 use Rattle.std.proofs.Common.{◌≡◌, ℕ, zero, suc, ◌+◌, ◌*◌, ◌<◌, Bool, true, false, ◌&&◌, ◌==◌, [], ◌∷◌, Some, None, refl, ◌∙◌, sym, subst, arith, eqb-true, lit≤}
 use Rattle.std.specs.Prelude.{if◌then◌else◌, is_some, slice_get}
 use Rattle.std.specs.List.{AllByRecursion}
-use Rattle.of10_actions.specs.declared.port.TheConstants.{MAX}
+use Rattle.of10_actions.specs.Numbers.{MAX}
 use Rattle.policy_meaning.specs.EveryNode.{IsSoundSwitch}
 use Rattle.policy_meaning.specs.Hops.{peer_of}
 use Rattle.policy_meaning.specs.Leaf.{has_port}
@@ -137,7 +137,7 @@ sound-sizes zero = lit≤ tt
 sound-sizes (suc zero) = lit≤ tt
 sound-sizes (suc (suc v)) = lit≤ tt
 
-sound-split : IsSoundSetting split
+pub sound-split : IsSoundSetting split
 sound-split = record {
   network = record { switches = sound-switch; peers = sound-peers };
   virtuals = sound-virtual;

@@ -2,7 +2,7 @@
 use Rattle.std.proofs.Common.{◌≡◌, ℕ, zero, suc, ◌+◌, ◌<◌, ◌⊎◌, inl, inr, true, false, ◌&&◌, ◌==◌, [], ◌∷◌, Some, None, refl, ap, ◌∙◌, sym, subst, arith, eqb-true, lit≤}
 use Rattle.std.specs.Prelude.{is_some, slice_get}
 use Rattle.std.specs.List.{AllByRecursion}
-use Rattle.of10_actions.specs.declared.port.TheConstants.{MAX}
+use Rattle.of10_actions.specs.Numbers.{MAX}
 use Rattle.policy_meaning.specs.EveryNode.{IsSoundSwitch}
 use Rattle.policy_meaning.specs.Hops.{peer_of}
 use Rattle.policy_meaning.specs.Leaf.{has_port}
@@ -113,7 +113,7 @@ sound-sizes : SizesFit spread_out
 sound-sizes zero = lit≤ tt
 sound-sizes (suc v) = lit≤ tt
 
-sound-spread : IsSoundSetting spread_out
+pub sound-spread : IsSoundSetting spread_out
 sound-spread = record {
   network = record { switches = sound-switch; peers = λ v p q e. absurd (no-peer v p q e) };
   virtuals = sound-virtual;

@@ -1,9 +1,8 @@
 -- Tables of switches that agree with a setting.
-use Rattle.std.specs.Prelude.{◌≡◌, ℕ, suc, true, Some, List, length}
+use Rattle.std.specs.Prelude.{◌≡◌, ℕ, suc, true, Some, List, length, Contains}
 use Rattle.of10_match.specs.Fields.{HeaderOf}
 use Rattle.policy_meaning.specs.Networks.{ground_of}
 use Rattle.policy_meaning.specs.Walk.{walk}
-use Rattle.switch_meaning.specs.MayUse.{IsIn}
 use Rattle.switch_meaning.specs.Wirings.{outside_at}
 use Rattle.switch_meaning.specs.declared.entry.FlowEntry.{FlowEntry}
 use Rattle.switch_meaning.specs.declared.wiring.Outside.{Outside}
@@ -21,8 +20,8 @@ Agree s tables =
 
 -- two tables have the same entries, in whatever order
 pub record SameEntries (a b : List FlowEntry) : Type 0 where
-  pub there : (e : FlowEntry) → IsIn e a → IsIn e b
-  pub back : (e : FlowEntry) → IsIn e b → IsIn e a
+  pub there : (e : FlowEntry) → Contains a e → Contains b e
+  pub back : (e : FlowEntry) → Contains b e → Contains a e
 
 -- each switch that is up has the entries of the setting
 abbrev pub AreInstalled : Setting → (ℕ → List FlowEntry) → Type 0

@@ -5,11 +5,11 @@ use Rattle.policy_meaning.specs.Hops.{hop_size}
 use Rattle.policy_meaning.specs.Networks.{fabric_of}
 use Rattle.switch_meaning.specs.Fixed.{AreTagsInRange}
 use Rattle.agreement.specs.declared.state.Setting.{Setting}
-use Rattle.agreement.specs.declared.state.TheConstants.{GREATEST_SIZE}
+use Rattle.alg_priority.specs.Sizes.{WIDEST}
 
 -- the sizes over hops leave room for priorities
 abbrev pub SizesFit : Setting → Type 0
-SizesFit s = (v : ℕ) → hop_size (fabric_of s.network) s.hops v ≤ GREATEST_SIZE
+SizesFit s = (v : ℕ) → hop_size (fabric_of s.network) s.hops v ≤ WIDEST
 
 -- levels, kinds of leaves, numbers of virtual switches and tags fit their types, and packets have a hop
 pub record IsFittingSetting (s : Setting) : Type 0 where

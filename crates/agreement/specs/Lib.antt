@@ -4,5 +4,11 @@ pub mod Entries
 pub mod Seeing
 pub mod Agree
 pub mod Premises
+pub mod Lengths
+pub mod Ranges
+pub mod OneEntry
+pub mod FreeOrder
+pub mod Ways
+pub mod Followed
 pub mod Law
 pub mod Worked

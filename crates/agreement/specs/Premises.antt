@@ -5,8 +5,7 @@ use Rattle.of10_match.specs.Fields.{MatchOf}
 use Rattle.of10_actions.specs.declared.effects.Dest.{Dest}
 use Rattle.of10_actions.specs.declared.effects.Dest.TheVariants.{Port, Flood, Ingress, Tell}
 use Rattle.of10_actions.specs.declared.effects.Out.{Out}
-use Rattle.of10_actions.specs.declared.port.TheConstants.{MAX}
-use Rattle.policy_expr.specs.Policy.{policy_of}
+use Rattle.of10_actions.specs.Numbers.{MAX}
 use Rattle.policy_meaning.specs.CentralFact.{EachMember}
 use Rattle.policy_meaning.specs.EveryNode.{IsSoundNetwork}
 use Rattle.policy_meaning.specs.Leaf.{has_port}
@@ -61,7 +60,7 @@ pub record IsAlone (s : Setting) (v : ℕ) (x : VirtualSwitch) : Type 0 where
   -- no other virtual switch has a port there
   pub alone :
       (u p q : ℕ) (a b : Outside) → outside_at s.wiring v p ≡ Some a → outside_at s.wiring u q ≡ Some b → a.at.switch ≡ b.at.switch → u ≡ v
-  pub names : EachMember (λ i. TableKeepsTo x.outside (slice_get s.network.tables i)) (policy_of x.expr)
+  pub names : EachMember (λ i. TableKeepsTo x.outside (slice_get s.network.tables i)) x.expr
 
 -- the outside ports of a virtual switch
 abbrev pub outside_ports : Option VirtualSwitch → List ℕ
@@ -73,7 +72,7 @@ pub record IsSoundVirtual (s : Setting) (v : ℕ) (x : VirtualSwitch) : Type 0 w
   -- no outside port is named twice
   pub distinct : EachPair (λ p q. (q == p) ≡ false) x.outside
   -- members send packets to ports of their own virtual switch alone
-  pub within : EachMember (λ i. TableGoesWithin v (slice_get s.network.tables i)) (policy_of x.expr)
+  pub within : EachMember (λ i. TableGoesWithin v (slice_get s.network.tables i)) x.expr
   pub unlinked : x.spread ≡ true → x.links ≡ []
   pub whole : x.whole ≡ true → IsAlone s v x
 

@@ -1,11 +1,10 @@
 -- Small policies: the tables that switches are to have, computed, and what is to be seen of packets.
 use Rattle.std.specs.Prelude.{◌≡◌, ℕ, Bool, ◌+◌, ◌*◌, true, false, Some, None, List, [], ◌∷◌}
 use Rattle.of10_match.specs.Fields.{HeaderOf, MatchOf}
-use Rattle.of10_match.specs.Matching.{everything}
+use Rattle.of10_match.specs.Matching.{at_port, everything}
 use Rattle.of10_actions.specs.declared.action.Action.{Action}
 use Rattle.of10_actions.specs.declared.action.Action.TheVariants.{Output, SetVlanVid, StripVlan}
-use Rattle.policy_expr.specs.declared.expr.Expr.TheVariants.{Member}
-use Rattle.policy_meaning.specs.LeafRules.{at_port}
+use Rattle.policy_expr.specs.Policy.{member}
 use Rattle.policy_meaning.specs.Networks.{ground_of}
 use Rattle.policy_meaning.specs.Walk.{walk}
 use Rattle.policy_meaning.specs.WorkedHops.{split_switch}
@@ -19,6 +18,7 @@ use Rattle.switch_meaning.specs.declared.wiring.Wiring.{Wiring}
 use Rattle.agreement.specs.declared.state.Setting.{Setting}
 use Rattle.agreement.specs.Agree.{Agree, AreInstalled}
 use Rattle.agreement.specs.Entries.{table_of}
+use Rattle.agreement.specs.Premises.{IsSoundSetting}
 use Rattle.agreement.specs.Seeing.{expected}
 
 abbrev pub four_ports : List ℕ
@@ -30,7 +30,7 @@ abbrev pub routed : Bool → Setting
 routed whole = record {
   network = record {
     tables = record server_router { member = 0 } ∷ [];
-    switches = record { expr = Member 0; outside = four_ports; links = []; spread = false; whole = whole } ∷ [];
+    switches = record { expr = member 0; outside = four_ports; links = []; spread = false; whole = whole } ∷ [];
   };
   hops = 4;
   wiring = one_switch;
@@ -74,6 +74,10 @@ RouterIsSeen =
     × (to_see 1 0x02000001 ≡ record { outs = []; copies = [] })
     × (to_see 3 0x01020304 ≡ record { outs = []; copies = record { switch = 0; header = comes_to 3 0x01020304 } ∷ [] })
 
+-- all that the law asks is so
+abbrev pub RouterIsSound : Type 0
+RouterIsSound = (whole : Bool) → IsSoundSetting (routed whole)
+
 -- whatever tables have these entries agree with the policy
 abbrev pub RouterAgrees : Type 0
 RouterAgrees = (whole : Bool) (tables : ℕ → List FlowEntry) → AreInstalled (routed whole) tables → Agree (routed whole) tables
@@ -97,6 +101,10 @@ SplitIsSeen =
     expected split.wiring (spot 0 1) (packet_to 0x0a000001) (walk (ground_of split.network) split.hops 0 (packet_to 0x0a000001))
     ≡ record { outs = record { at = spot 0 1; header = packet_to 0x0a000001 } ∷ []; copies = [] }
 
+-- all that the law asks is so
+abbrev pub SplitIsSound : Type 0
+SplitIsSound = IsSoundSetting split
+
 -- the law speaks of it too
 abbrev pub SplitAgrees : Type 0
 SplitAgrees = (tables : ℕ → List FlowEntry) → AreInstalled split tables → Agree split tables
@@ -113,7 +121,7 @@ abbrev pub spread_out : Setting
 spread_out = record {
   network = record {
     tables = record server_router { member = 0; visible = 1 ∷ 2 ∷ [] } ∷ [];
-    switches = record { expr = Member 0; outside = 1 ∷ 2 ∷ []; links = []; spread = true; whole = false } ∷ [];
+    switches = record { expr = member 0; outside = 1 ∷ 2 ∷ []; links = []; spread = true; whole = false } ∷ [];
   };
   hops = 4;
   wiring = two_switches;
@@ -127,6 +135,10 @@ SecondIsInstalled =
     table_of spread_out 1
     ≡ missing (by_tag 1 65535) ∷ routing (by_tag 1 65535) (SetVlanVid 1 ∷ Output 3 0 ∷ []) ∷ record { m = at_port 1; priority = 0; actions = [] }
     ∷ record { m = by_tag 3 2; priority = 65535; actions = StripVlan ∷ Output 1 0 ∷ [] } ∷ []
+
+-- all that the law asks is so
+abbrev pub SpreadIsSound : Type 0
+SpreadIsSound = IsSoundSetting spread_out
 
 -- the law speaks of it
 abbrev pub SpreadAgrees : Type 0

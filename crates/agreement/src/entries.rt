@@ -69,10 +69,7 @@ fn add_entry(
     requires { rule.now.level < 65535 }
     ensures { OnOk result (entries.new ≡ entries.old ++ option_to_list (entry_of wiring.now site (flat_of rule.now))) }
 {
-    match place(alloc, wiring, site, &flat(rule)?)? {
-        Some(entry) => entries.push(entry),
-        None => Ok(()),
-    }
+    entries.push_some(place(alloc, wiring, site, &flat(rule)?)?)
 }
 
 /// The entries on a switch of the rules that enter at a virtual switch with these outside ports: none

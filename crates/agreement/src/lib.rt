@@ -11,7 +11,7 @@ pub mod worked;
 
 pub use entries::{flat, levels_fit, placed};
 pub use seeing::expected;
-pub use state::{GREATEST_SIZE, PhysicalSwitch, Setting};
+pub use state::{PhysicalSwitch, Setting};
 pub use tables::{entries_of, table_of};
 
 #[cfg(test)]

@@ -38,10 +38,7 @@ fn add_left(
 ) -> Result<(), Memory>
     ensures { OnOk result (left.new ≡ left.old ++ option_to_list (left_at_of wiring.now header.now out.now)) }
 {
-    match left_at(wiring, header, out) {
-        Some(packet) => left.push(packet),
-        None => Ok(()),
-    }
+    left.push_some(left_at(wiring, header, out))
 }
 
 /// The packets that a walk sends out, where their ports lie.

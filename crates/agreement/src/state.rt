@@ -3,12 +3,10 @@ ghost use Rattle.std.specs.Prelude.{◌<◌, ◌^◌, ◌↔◌, All, IsTrue, le
 ghost use Rattle.agreement.specs.Fitting.{IsFittingSetting, SizesFit};
 ghost use Rattle.policy_meaning.specs.Fitting.{IsFittingTable};
 
-use cv_io::List;
+use alg_priority::WIDEST;
+use cv_io::{Duplicate, List, Memory};
 use policy_meaning::{Network, hop_size, tables_fit};
 use switch_meaning::{Wiring, are_tags_in_range};
-
-/// The greatest size over hops: priorities, one above levels, leave 65,535 to fixed entries.
-pub const GREATEST_SIZE: u64 = 65534;
 
 /// A physical switch.
 #[derive(Debug, Drop)]
@@ -31,6 +29,26 @@ pub struct Setting {
     pub switches: List<PhysicalSwitch>,
 }
 
+impl Duplicate for PhysicalSwitch {
+    fn copy(&self) -> Result<PhysicalSwitch, Memory> {
+        Ok(PhysicalSwitch {
+            ports: self.ports.copy()?,
+            up: self.up,
+        })
+    }
+}
+
+impl Duplicate for Setting {
+    fn copy(&self) -> Result<Setting, Memory> {
+        Ok(Setting {
+            network: self.network.copy()?,
+            hops: self.hops,
+            wiring: self.wiring.copy()?,
+            switches: self.switches.copy()?,
+        })
+    }
+}
+
 impl Setting {
     /// Whether the entries of its switches can be made: levels, kinds of leaves, numbers of virtual
     /// switches and tags fit their types, and packets have a hop.
@@ -44,14 +62,15 @@ impl Setting {
             && are_tags_in_range(&self.wiring)
     }
 
-    /// Whether the sizes over hops leave room for priorities.
+    /// Whether the sizes over hops leave room for priorities, which are one above levels: 65,535 is for
+    /// fixed entries.
     fn sizes_fit(&self) -> bool
         requires tables { All IsFittingTable self.now.network.tables }
         requires switches { length self.now.network.switches < 2 ^ 32 }
         ensures { IsTrue result ↔ SizesFit self.now }
     {
         for v in 0..self.network.switches.len() {
-            if hop_size(&self.network, self.hops, v as u32) > GREATEST_SIZE {
+            if hop_size(&self.network, self.hops, v as u32) > WIDEST {
                 return false;
             }
         }

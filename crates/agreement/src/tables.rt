@@ -1,7 +1,10 @@
 //! The table that a switch is to have, from scratch.
+ghost use Rattle.std.specs.List.{AllByRecursion};
 ghost use Rattle.std.specs.Prelude.{◌≡◌, ◌<◌, ◌^◌, ◌++◌, IfOk, OnOk, Some, length, slice_get};
-ghost use Rattle.agreement.specs.Entries.{dropping as dropping_of, entries_for, entries_of as entries_of_of, is_all_of as is_all_of_of, is_whole as is_whole_of, table_of as table_of_of};
+ghost use Rattle.agreement.specs.Entries as spec;
 ghost use Rattle.agreement.specs.Fitting.{IsFittingSetting};
+ghost use Rattle.agreement.specs.Lengths.{AddFits, HasLimits};
+ghost use Rattle.agreement.specs.Premises.{IsSoundSetting};
 
 use crate::entries::{placed, stands_on};
 use crate::state::Setting;
@@ -9,16 +12,6 @@ use cv_io::{List, Memory};
 use policy_meaning::{VirtualSwitch, entering_rules};
 use std::alloc::Global;
 use switch_meaning::{FlowEntry, PhysEntry, Site, drops, fixed_entries, installed};
-
-/// Appends items.
-fn append<T: Drop>(list: &mut List<T>, more: List<T>) -> Result<(), Memory>
-    ensures { OnOk result (list.new ≡ list.old ++ more) }
-{
-    for item in more.into_vec() {
-        list.push(item)?;
-    }
-    Ok(())
-}
 
 /// Appends the entries of a virtual switch.
 fn add_entries_for(
@@ -31,7 +24,7 @@ fn add_entries_for(
 ) -> Result<(), Memory>
     requires fits { IsFittingSetting setting.now }
     requires there { slice_get setting.now.network.switches v ≡ Some x.now }
-    ensures { OnOk result (entries.new ≡ entries.old ++ entries_for setting.now switch (v, x.now)) }
+    ensures { OnOk result (entries.new ≡ entries.old ++ spec.entries_for setting.now switch (v, x.now)) }
 {
     let site = Site {
         v,
@@ -41,17 +34,14 @@ fn add_entries_for(
     };
     let entering = entering_rules(alloc, &setting.network, setting.hops, v)?;
     for part in entering.as_slice() {
-        append(
-            entries,
-            placed(alloc, &setting.wiring, site, &x.outside, part)?,
-        )?;
+        entries.append(placed(alloc, &setting.wiring, site, &x.outside, part)?)?;
     }
     Ok(())
 }
 
 /// Whether the switch is all of this virtual switch.
 fn is_all_of(setting: &Setting, switch: u32, v: u32, x: &VirtualSwitch) -> bool
-    ensures { result ≡ is_all_of_of setting.now switch (v, x.now) }
+    ensures { result ≡ spec.is_all_of setting.now switch (v, x.now) }
 {
     x.whole && stands_on(&setting.wiring, switch, v, &x.outside)
 }
@@ -59,7 +49,7 @@ fn is_all_of(setting: &Setting, switch: u32, v: u32, x: &VirtualSwitch) -> bool
 /// Whether the switch is all of a virtual switch.
 fn is_whole(setting: &Setting, switch: u32) -> bool
     requires { length setting.now.network.switches < 2 ^ 32 }
-    ensures { result ≡ is_whole_of setting.now switch }
+    ensures { result ≡ spec.is_whole setting.now switch }
 {
     for (v, x) in setting.network.switches.as_slice().iter().enumerate() {
         if is_all_of(setting, switch, v as u32, x) {
@@ -73,7 +63,7 @@ fn is_whole(setting: &Setting, switch: u32) -> bool
 /// the switch.
 fn dropping(alloc: Global, setting: &Setting, switch: u32) -> Result<List<PhysEntry>, Memory>
     requires { length setting.now.network.switches < 2 ^ 32 }
-    ensures { IfOk result (λ entries. entries ≡ dropping_of setting.now switch) }
+    ensures { IfOk result (λ entries. entries ≡ spec.dropping setting.now switch) }
 {
     if !is_whole(setting, switch) {
         return Ok(List::new(alloc));
@@ -88,14 +78,16 @@ fn dropping(alloc: Global, setting: &Setting, switch: u32) -> Result<List<PhysEn
 /// tables. [`Setting::fits`] tests what is asked of the setting.
 pub fn entries_of(alloc: Global, setting: &Setting, switch: u32) -> Result<List<PhysEntry>, Memory>
     requires { IsFittingSetting setting.now }
-    ensures { IfOk result (λ entries. entries ≡ entries_of_of setting.now switch) }
+    ensures from_scratch { IfOk result (λ entries. entries ≡ spec.entries_of setting.now switch) }
+    // Within the limits of policies each entry's ADD fits a message.
+    ensures short { IsSoundSetting setting.now → HasLimits setting.now → IfOk result (λ entries. AllByRecursion AddFits entries) }
 {
     let mut entries = List::new(alloc);
     for (v, x) in setting.network.switches.as_slice().iter().enumerate() {
         add_entries_for(alloc, &mut entries, setting, switch, v as u32, x)?;
     }
-    append(&mut entries, fixed_entries(alloc, &setting.wiring, switch)?)?;
-    append(&mut entries, dropping(alloc, setting, switch)?)?;
+    entries.append(fixed_entries(alloc, &setting.wiring, switch)?)?;
+    entries.append(dropping(alloc, setting, switch)?)?;
     Ok(entries)
 }
 
@@ -103,7 +95,7 @@ pub fn entries_of(alloc: Global, setting: &Setting, switch: u32) -> Result<List<
 /// those that another passes over. [`Setting::fits`] tests what is asked of the setting.
 pub fn table_of(alloc: Global, setting: &Setting, switch: u32) -> Result<List<FlowEntry>, Memory>
     requires { IsFittingSetting setting.now }
-    ensures { IfOk result (λ table. table ≡ table_of_of setting.now switch) }
+    ensures { IfOk result (λ table. table ≡ spec.table_of setting.now switch) }
 {
     let entries = entries_of(alloc, setting, switch)?;
     let mut table = List::new(alloc);

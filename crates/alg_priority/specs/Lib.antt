@@ -1,3 +1,4 @@
 pub mod Levels
 pub mod Sizes
 pub mod Laws
+pub mod Worked

@@ -1,5 +1,10 @@
-// Laws of the levels: each function does nothing, and its contract is a law over all numbers.
+//! Laws of the levels: each function does nothing, and its contract is a law over all numbers.
+ghost use Rattle.std.specs.Prelude.{◌≡◌};
+ghost use Rattle.alg_priority.specs.Sizes.{WIDEST as widest};
+ghost use Rattle.alg_priority.specs.Worked.{Capped, EightLevels};
 ghost use Rattle.alg_priority.specs.Laws.{SumIsBelow, SumRises, ConcatIsBelow, ConcatCompares, ShiftIsBelow, ShiftIsAbove, ShiftRises, SumSizeGroups, ConcatSizeGroups, ShiftSizeGroups, SizesArePositive, SaturatesOnce};
+
+use crate::width::WIDEST;
 
 /// Sums of levels stay below the sum's size and rise strictly in each part.
 pub fn sum_keeps_order()
@@ -28,7 +33,18 @@ pub fn sizes_group()
     ensures positive { SizesArePositive }
 {}
 
+/// The greatest size is the literal.
+pub fn widest_meets()
+    ensures { WIDEST ≡ widest }
+{}
+
 /// A size that is computed by saturating steps is the size itself, saturated once.
 pub fn saturation_is_late()
     ensures { SaturatesOnce }
+{}
+
+/// What the definitions give in examples.
+pub fn worked_examples()
+    ensures levels { EightLevels }
+    ensures capped { Capped }
 {}

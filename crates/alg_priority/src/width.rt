@@ -1,4 +1,6 @@
+//! Whether a size fits a switch.
 ghost use Rattle.std.specs.Prelude.{◌≡◌, ◌≤◌, ◌<◌, ◌↔◌, IsOk, IfErr};
+ghost use Rattle.alg_priority.specs.Sizes.{WIDEST as widest};
 
 use thiserror::Error;
 
@@ -18,8 +20,8 @@ pub struct TooWide {
 
 /// Tests that this many levels fit a switch.
 pub fn fits(needed: u64) -> Result<(), TooWide>
-    ensures ok { IsOk result ↔ (needed ≤ WIDEST) }
-    ensures err { IfErr result (λ e. (e.needed ≡ needed) × (e.limit ≡ WIDEST)) }
+    ensures ok { IsOk result ↔ (needed ≤ widest) }
+    ensures err { IfErr result (λ e. (e.needed ≡ needed) × (e.limit ≡ widest)) }
 {
     if needed > WIDEST {
         return Err(TooWide {

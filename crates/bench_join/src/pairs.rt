@@ -27,7 +27,6 @@ impl Made {
 
 /// Joins a pair under both operators.
 fn join_both<G: Ledger>(
-    alloc: Global,
     a: &Rule,
     b: &Rule,
     steps: &mut Steps<G>,
@@ -36,9 +35,9 @@ fn join_both<G: Ledger>(
     if a.level >= SIZE || b.level >= SIZE {
         return Ok(());
     }
-    made.add(&join(alloc, Op::Par, a, b, SIZE, steps)?);
+    made.add(&join(Op::Par, a, b, SIZE, steps)?);
     if let Tail::Pass(_) = &a.tail {
-        made.add(&join(alloc, Op::Seq, a, b, SIZE, steps)?);
+        made.add(&join(Op::Seq, a, b, SIZE, steps)?);
     }
     Ok(())
 }
@@ -56,7 +55,7 @@ pub fn join_all<G: Ledger>(
     };
     for a in lefts(alloc, rules)?.as_slice() {
         for b in bs.as_slice() {
-            join_both(alloc, a, b, steps, &mut made)?;
+            join_both(a, b, steps, &mut made)?;
         }
     }
     Ok(made)

@@ -1,19 +1,13 @@
 //! The messages that are sent.
-ghost use Rattle.std.specs.Prelude.{◌≡◌, IfOk};
+ghost use Rattle.std.specs.Prelude.{◌<◌, IfOk};
+ghost use Rattle.of10_actions.specs.Actions.{AreInRange};
 ghost use Rattle.of10_match.specs.Ranges.{IsPrefix};
 
 use cv_io::{List, Memory};
 use of10_actions::{Action, port};
 use of10_match::{Match, Prefix};
-use of10_msgs::FlowMod;
+use of10_msgs::{Command, FlowMod};
 use std::alloc::Global;
-
-/// The commands (`ofp_flow_mod_command`, section 5.3.3).
-pub const ADD: u16 = 0;
-
-pub const MODIFY_STRICT: u16 = 2;
-
-pub const DELETE_STRICT: u16 = 4;
 
 /// The net 10.x.y.0/24 of this number.
 fn net(number: u16) -> Prefix
@@ -34,25 +28,51 @@ fn to_net(number: u16) -> Match {
     }
 }
 
-/// A command for the entry of this number, which sends its packets to the port of the command's number
+/// A command for packets of a match at a priority, which sends them to the port of the command's number
 /// and one.
-pub fn message(alloc: Global, command: u16, number: u16) -> Result<FlowMod, Memory>
-    ensures { IfOk result (λ m. m.command ≡ command) }
+fn message(
+    alloc: Global,
+    command: Command,
+    priority: u16,
+    packets: Match,
+) -> Result<FlowMod, Memory>
+    ensures { IfOk result (λ m. AreInRange m.actions) }
 {
     let to = Action::Output {
-        port: command.wrapping_add(1),
+        port: command.number().wrapping_add(1),
         max_len: 0,
     };
     Ok(FlowMod {
-        m: to_net(number).write(),
-        cookie: u64::from(number),
-        command,
+        m: packets.write(),
+        cookie: u64::from(priority),
+        command: command.number(),
         idle_timeout: 0,
         hard_timeout: 0,
-        priority: 100 + number % 64,
+        priority,
         buffer_id: 0xffff_ffff,
         out_port: port::NONE,
         flags: 0,
         actions: List::from_slice(alloc, &[to])?,
     })
+}
+
+/// A command for the entry of this number, whose priority is one of so many.
+pub fn to_one(
+    alloc: Global,
+    command: Command,
+    number: u16,
+    priorities: u16,
+) -> Result<FlowMod, Memory>
+    requires { 0 < priorities }
+    ensures { IfOk result (λ m. AreInRange m.actions) }
+{
+    let priority = (number % priorities).wrapping_add(100);
+    message(alloc, command, priority, to_net(number))
+}
+
+/// A command for every entry.
+pub fn to_all(alloc: Global, command: Command) -> Result<FlowMod, Memory>
+    ensures { IfOk result (λ m. AreInRange m.actions) }
+{
+    message(alloc, command, 0, Match::everything())
 }

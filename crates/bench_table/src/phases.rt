@@ -1,10 +1,12 @@
 //! Entries are added, changed and taken out.
-ghost use Rattle.std.specs.Prelude.{◌≤◌, ◌<◌};
+ghost use Rattle.std.specs.Prelude.{◌<◌};
+ghost use Rattle.of10_actions.specs.Actions.{AreInRange};
 
+use crate::asked::{Asked, Phases};
 use crate::counts::{Counts, NOTHING};
-use crate::messages::{ADD, DELETE_STRICT, MODIFY_STRICT, message};
+use crate::messages::{to_all, to_one};
 use member_table::{Table, TableFault};
-use of10_msgs::FlowMod;
+use of10_msgs::{Command, FlowMod};
 use std::alloc::Global;
 
 /// How many entries the table may have.
@@ -20,7 +22,7 @@ struct Bench {
 impl Bench {
     /// Plans what a message changes, and makes the change.
     fn apply(&mut self, m: &FlowMod) -> Result<(), TableFault>
-        requires { m.now.command ≤ 4 }
+        requires { AreInRange m.now.actions }
     {
         let change = self.table.plan(m, 0)?;
         self.counts.add(&change);
@@ -28,40 +30,42 @@ impl Bench {
         Ok(())
     }
 
-    /// Sends a command for each entry of a number below this, from the first by steps.
+    /// Sends a command for each entry, from the first by steps.
     fn send(
         &mut self,
         alloc: Global,
-        command: u16,
-        entries: u16,
+        asked: &Asked,
+        command: Command,
         first: u16,
         step: usize,
     ) -> Result<(), TableFault>
-        requires command { command ≤ 4 }
-        requires step { 0 < step }
+        requires { 0 < step }
     {
-        for number in (first..entries).step_by(step) {
-            let m = message(alloc, command, number)?;
+        for number in (first..asked.entries).step_by(step) {
+            let m = to_one(alloc, command, number, asked.priorities)?;
             self.apply(&m)?;
         }
         Ok(())
     }
 }
 
-/// Adds so many entries; in the second phase it gives each other actions, and in the third it takes each
-/// out, the odd ones first. It gives the counts, and how many entries are left.
-pub fn run(alloc: Global, entries: u16, phases: u16) -> Result<(Counts, usize), TableFault> {
+/// Adds the entries; then, by the phases that are asked for, gives each other actions, takes each out, the
+/// odd ones first, or takes all out by one message. It gives the counts, and how many entries are left.
+pub fn run(alloc: Global, asked: &Asked) -> Result<(Counts, usize), TableFault> {
     let mut bench = Bench {
         table: Table::new(alloc, LIMIT),
         counts: NOTHING,
     };
-    bench.send(alloc, ADD, entries, 0, 1)?;
-    if phases > 1 {
-        bench.send(alloc, MODIFY_STRICT, entries, 0, 1)?;
-    }
-    if phases > 2 {
-        bench.send(alloc, DELETE_STRICT, entries, 1, 2)?;
-        bench.send(alloc, DELETE_STRICT, entries, 0, 2)?;
+    bench.send(alloc, asked, Command::Add, 0, 1)?;
+    match asked.phases {
+        Phases::Adds => {}
+        Phases::AddsAndModifies => bench.send(alloc, asked, Command::ModifyStrict, 0, 1)?,
+        Phases::Each => {
+            bench.send(alloc, asked, Command::ModifyStrict, 0, 1)?;
+            bench.send(alloc, asked, Command::DeleteStrict, 1, 2)?;
+            bench.send(alloc, asked, Command::DeleteStrict, 0, 2)?;
+        }
+        Phases::All => bench.apply(&to_all(alloc, Command::Delete)?)?,
     }
     Ok((bench.counts, bench.table.len()))
 }

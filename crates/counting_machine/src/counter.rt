@@ -54,5 +54,9 @@ impl Machine for Counter {
         Ok(Counter { sum: self.sum })
     }
 
+    fn copy_event(event: &u64) -> Result<u64, Memory> {
+        Ok(*event)
+    }
+
     ghost idle_stays = { zero_stays };
 }

@@ -1,41 +1,53 @@
-//! Posts to the machine.
-ghost use Rattle.std.specs.Prelude.{◌≡◌, ◌<◌};
-ghost use Rattle.policy_lock.specs.Seat.{IsSeatOf, IsSameSeat};
+//! Posts to a machine.
+ghost use Rattle.std.specs.Prelude.{◌≡◌, ◌<◌, ℕ, IfOk, OnOk, OnErr};
+ghost use Rattle.policy_lock.specs.History.{IsLegal};
+ghost use Rattle.policy_lock.specs.Post.{IsPosted};
+ghost use Rattle.policy_lock.specs.Seat.{IsSeatOf, IsSameSeat, IsLater};
+ghost use Rattle.counting_machine.specs.Ones.{HasPostedOnes};
 
 use crate::counter::Counter;
 use cv_io::{Memory, Steps};
-use policy_lock::{PolicyLock, Receipt, Seat};
+use policy_lock::{Machine, PolicyLock, Receipt, Seat};
 use std::marker::Brand;
 use std::sync::Wait;
 use std::sync::ledger::{Blank, Ledger};
 use std::thread::Threads;
 
-/// Posts a number, and counts no steps.
-pub fn post<R: Wait + Threads + Sync>(
+/// Posts an event, with a count of steps of its own.
+pub fn post<M: Machine, R: Wait + Threads + Sync>(
     rt: &R,
-    lock: &PolicyLock<Counter>,
-    seat: &mut Seat<Counter>,
-    number: u64,
-) -> Result<Receipt<u64>, Memory>
+    lock: &PolicyLock<M>,
+    seat: &mut Seat<M>,
+    event: M::Event,
+) -> Result<Receipt<M::Reply>, Memory>
     requires { IsSeatOf lock.now seat.old }
-    ensures { IsSameSeat seat.old seat.new }
+    ensures seat { IsSameSeat seat.old seat.new }
+    ensures legal { IsLegal ⟦<M as Machine>⟧ lock.now.start seat.new.pass.seen }
+    ensures posted { IfOk result (λ receipt. (steps : ℕ) × IsPosted ⟦<M as Machine>⟧
+        lock.now.start seat.old.pass seat.new.pass event receipt.place receipt.reply 0 steps) }
+    ensures memory { OnErr result (IsLater seat.old.pass seat.new.pass) }
 {
-    post_on::<R, Brand>(rt, lock, seat, number, Blank::new(1))
+    post_on::<M, R, Brand>(rt, lock, seat, event, Blank::new(1))
 }
 
-fn post_on<R: Wait + Threads + Sync, G: Ledger>(
+fn post_on<M: Machine, R: Wait + Threads + Sync, G: Ledger>(
     rt: &R,
-    lock: &PolicyLock<Counter>,
-    seat: &mut Seat<Counter>,
-    number: u64,
+    lock: &PolicyLock<M>,
+    seat: &mut Seat<M>,
+    event: M::Event,
     blank: Blank,
-) -> Result<Receipt<u64>, Memory>
+) -> Result<Receipt<M::Reply>, Memory>
     requires seat { IsSeatOf lock.now seat.old }
     requires ledger { (blank.name ≡ G.name) × (blank.parts ≡ G.parts) × (0 < blank.parts) }
-    ensures { IsSameSeat seat.old seat.new }
+    ensures seat { IsSameSeat seat.old seat.new }
+    ensures legal { IsLegal ⟦<M as Machine>⟧ lock.now.start seat.new.pass.seen }
+    ensures posted { IfOk result (λ receipt. (steps : ℕ) × IsPosted ⟦<M as Machine>⟧
+        lock.now.start seat.old.pass seat.new.pass event receipt.place receipt.reply 0 steps) }
+    ensures memory { OnErr result (IsLater seat.old.pass seat.new.pass) }
 {
     let mut steps = Steps::<G>::new(blank);
-    lock.post(rt, seat, number, &mut steps)
+    let receipt = lock.post(rt, seat, event, &mut steps)?;
+    Ok(receipt)
 }
 
 /// Posts a 1 so many times, or up to the first post that wants memory.
@@ -46,7 +58,9 @@ pub fn post_ones<R: Wait + Threads + Sync>(
     count: u64,
 ) -> Result<(), Memory>
     requires { IsSeatOf lock.now seat.old }
-    ensures { IsSameSeat seat.old seat.new }
+    ensures seat { IsSameSeat seat.old seat.new }
+    ensures posted { OnOk result (HasPostedOnes seat.old.pass seat.new.pass count) }
+    ensures memory { OnErr result ((k : ℕ) × (k < count) × HasPostedOnes seat.old.pass seat.new.pass k) }
 {
     for _ in 0..count {
         post(rt, lock, seat, 1)?;

@@ -2,9 +2,10 @@ ghost use Rattle.std.specs.Prelude.{◌≡◌, ◌∷◌, [], IfOk};
 ghost use Rattle.policy_lock.specs.Seat.{IsSeatOf, IsSameSeat};
 
 use crate::counter::Counter;
+use crate::notebook::{Note, Notebook};
 use crate::posts::{post, post_ones};
-use cv_io::{List, Memory};
-use policy_lock::{Open, PolicyLock, Seat, open};
+use cv_io::{Bytes, List, Memory};
+use policy_lock::{After, Open, PolicyLock, Seat, open};
 use std::alloc::Global;
 use std::collections::VecDeque;
 use std::sync::Wait;
@@ -36,6 +37,45 @@ fn told<R: Wait + Threads + Sync>(
 {
     let receipt = post(rt, lock, seat, number).ok()?;
     Some((receipt.place, receipt.reply))
+}
+
+// How many events there are from the beginning, and the first; or 0, and after how many entries there
+// are some.
+fn from_the_beginning<R: Wait>(
+    rt: &R,
+    lock: &PolicyLock<Counter>,
+    seat: &mut Seat<Counter>,
+) -> Option<(usize, u64)>
+    requires { IsSeatOf lock.now seat.old }
+    ensures { IsSameSeat seat.old seat.new }
+{
+    match lock.after(rt, seat, 0).ok()? {
+        After::Events { list } => Some((list.len(), list.as_slice().first().copied()?)),
+        After::Waiting { at } => Some((0, at)),
+        After::Past { first } => Some((0, first)),
+    }
+}
+
+// The number that a first note is answered with.
+fn first_note<R: Wait + Threads + Sync>(rt: &R, alloc: Global) -> Option<u64> {
+    let book = Notebook {
+        notes: List::new(alloc),
+        last: 0,
+    };
+    let (lock, seats) = open(alloc, book, 1).ok()?;
+    let mut seats = VecDeque::from(seats.into_vec());
+    let mut seat = seats.pop_front()?;
+    let note = Note {
+        author: 7,
+        bytes: Bytes::from_slice(alloc, b"abc").ok()?,
+    };
+    Some(post(rt, &lock, &mut seat, note).ok()?.reply)
+}
+
+#[test]
+fn notes(rt: HostRuntime) -> Result<(), Fail> {
+    assert!(rt; first_note(&rt, rt.alloc()) == Some(1));
+    Ok(())
 }
 
 fn seats_of(
@@ -92,6 +132,7 @@ fn past_the_checkpoint(rt: HostRuntime) -> Result<(), Fail> {
     };
     let all = post_ones(&rt, &lock, &mut one, 16_384).is_ok();
     assert!(rt; all && told(&rt, &lock, &mut one, 2) == Some((16_385, 16_386)));
+    assert!(rt; from_the_beginning(&rt, &lock, &mut one) == Some((0, 16_384)));
     let Ok(seats) = seats_of(alloc, one, two) else {
         panic!(rt; "memory")
     };
@@ -113,6 +154,7 @@ fn one_history(rt: HostRuntime) -> Result<(), Fail> {
     assert!(rt; told(&rt, &lock, &mut one, 7) == Some((3, 18)));
     assert!(rt; told(&rt, &lock, &mut two, 0) == Some((3, 18)));
     assert!(rt; lock.look(&mut one) == 3);
+    assert!(rt; from_the_beginning(&rt, &lock, &mut one) == Some((3, 5)));
     let Ok(three) = lock.split(alloc, &mut two) else {
         panic!(rt; "memory")
     };

@@ -33,6 +33,11 @@ abbrev pub AppendsFirst : Option (List ℕ) → Option (List ℕ) → ℕ → Li
 AppendsFirst None after n piece = after ≡ None
 AppendsFirst (Some held) after n piece = after ≡ Some (held ++ take n piece)
 
+-- bytes that are known now, if they were as it began
+abbrev pub if_told : Option (List ℕ) → Option (List ℕ) → Option (List ℕ)
+if_told None now = None
+if_told (Some bytes) now = now
+
 -- what is known of a source in memory: the bytes that are left, the calls that are to fail, how many were made and failed
 pub record SourceOf : Type 0 where
   pub left : List ℕ
@@ -40,9 +45,10 @@ pub record SourceOf : Type 0 where
   pub made : ℕ
   pub faults : ℕ
 
--- what is known of a sink in memory: the bytes that it holds, the calls that are to fail, how many were made and failed
+-- what is known of a sink in memory: the bytes that it holds, the calls that are to fail, how many were made, failed, and found no memory
 pub record SinkOf : Type 0 where
   pub held : List ℕ
   pub fails : List ℕ
   pub made : ℕ
   pub faults : ℕ
+  pub wants : ℕ

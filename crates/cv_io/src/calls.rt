@@ -31,6 +31,15 @@ impl Calls {
     }
 
     /// Counts a call, and tells whether it is to fail.
+    pub(crate) fn make(&mut self) -> bool
+        ensures told { result ≡ is_listed self.old.fails (next_count self.old.made) }
+        ensures made { self.new ≡ record self.old { made = next_count self.old.made } }
+    {
+        self.made = self.made.saturating_add(1);
+        self.fails.as_slice().contains(&self.made)
+    }
+
+    /// Counts a call, and tells whether it fails, which is a fault.
     pub(crate) fn count(&mut self) -> bool
         ensures told { result ≡ is_listed self.old.fails (next_count self.old.made) }
         ensures made { self.new.made ≡ next_count self.old.made }
@@ -38,8 +47,7 @@ impl Calls {
         ensures fails { self.new.fails ≡ self.old.fails }
         ensures never_falls { self.old.faults ≤ self.new.faults }
     {
-        self.made = self.made.saturating_add(1);
-        let fails = self.fails.as_slice().contains(&self.made);
+        let fails = self.make();
         if fails {
             self.fault();
         }

@@ -4,6 +4,7 @@ ghost use Rattle.cv_io.specs.declared.leaf.Leaf.{Leaf};
 
 use crate::list::{Duplicate, List};
 use crate::memory::Memory;
+use std::alloc::Global;
 
 /// Whose outbox or session: a member or a switch by its number in the policy, or the audit.
 #[derive(Clone, Copy, PartialEq, Eq, Debug)]
@@ -31,6 +32,20 @@ pub struct Leaf {
 impl Duplicate for Leaf {
     fn copy(&self) -> Result<Leaf, Memory> {
         Ok(*self)
+    }
+
+    fn copies(alloc: Global, items: &[Leaf]) -> Result<List<Leaf>, Memory> {
+        List::from_slice(alloc, items)
+    }
+}
+
+impl Duplicate for Session {
+    fn copy(&self) -> Result<Session, Memory> {
+        Ok(*self)
+    }
+
+    fn copies(alloc: Global, items: &[Session]) -> Result<List<Session>, Memory> {
+        List::from_slice(alloc, items)
     }
 }
 

@@ -1,6 +1,8 @@
 //! Lists over a vector, which contracts see as lists.
-ghost use Rattle.std.specs.Prelude.{◌≡◌, ◌==◌, ◌<◌, ◌≤◌, ◌+◌, ◌^◌, ◌↔◌, [], ◌∷◌, ◌++◌, IfOk, OnErr, OnOk, IsSome, IsTrue, length, take, option_to_list};
-ghost use Rattle.std.specs.List.{slice_get};
+ghost use Rattle.std.specs.Prelude.{◌≡◌, ◌==◌, ◌<◌, ◌≤◌, ◌+◌, ◌^◌, ◌↔◌, [], ◌∷◌, ◌++◌, IfOk, OnErr, OnOk, IsSome, IsTrue, Some, length, take, option_to_list, slice_set};
+ghost use Rattle.std.specs.List.{slice_get, insert as list_insert, remove as list_remove};
+ghost use Rattle.std.specs.Borrow.{sem};
+ghost use Rattle.cv_io.specs.Lends.{lends_slice};
 ghost use Rattle.std.specs.Option.{option_copied};
 ghost use Rattle.std.specs.Slice.{IsItemAt};
 ghost use Rattle.std.specs.Cmp.Lexicographic.{pointwise, lists_per, lists_equiv};
@@ -13,6 +15,19 @@ use std::marker::Model;
 pub trait Duplicate: Sized {
     fn copy(&self) -> Result<Self, Memory>
         ensures { IfOk result (λ copied. copied ≡ self.now) };
+
+    /// Copies of a slice's items. Plain items are copied at once.
+    fn copies(alloc: Global, items: &[Self]) -> Result<List<Self>, Memory>
+    where
+        Self: Drop,
+        ensures { IfOk result (λ list. list ≡ items.now) }
+    {
+        let mut copied = List::with_capacity(alloc, items.len())?;
+        for item in items {
+            copied.push(item.copy()?)?;
+        }
+        Ok(copied)
+    }
 }
 
 /// A list over a vector.
@@ -91,6 +106,31 @@ impl<T> List<T> {
         self.items.as_slice().get(place)
     }
 
+    /// The items, for writing.
+    pub fn as_mut_slice(&mut self) -> &mut [T]
+        ensures* writes_back { sem 𝓛 (lends_slice T.row self.entry result) }
+        ensures value { result.now ≡ self.old }
+    {
+        self.items.as_mut_slice()
+    }
+
+    /// Makes room for so many more items.
+    pub fn reserve(&mut self, more: usize) -> Result<(), Memory>
+        ensures { self.new ≡ self.old }
+    {
+        self.items.reserve(more)?;
+        Ok(())
+    }
+
+    /// Takes out the item at a place; the later ones move down.
+    pub fn remove(&mut self, place: usize) -> T
+        requires { place < length self.old }
+        ensures item { slice_get self.old place ≡ Some result }
+        ensures items { self.new ≡ list_remove self.old place }
+    {
+        self.items.remove(place)
+    }
+
     /// Takes the last item.
     pub fn pop(&mut self) -> Option<T>
         ensures items { self.old ≡ self.new ++ option_to_list result }
@@ -108,6 +148,45 @@ impl<T: Drop> List<T> {
     {
         self.items.push(item)?;
         Ok(())
+    }
+
+    /// Appends an item, if there is one.
+    pub fn push_some(&mut self, item: Option<T>) -> Result<(), Memory>
+        ensures pushed { OnOk result (self.new ≡ self.old ++ option_to_list item) }
+        ensures memory { OnErr result (self.new ≡ self.old) }
+    {
+        match item {
+            Some(item) => self.push(item),
+            None => Ok(()),
+        }
+    }
+
+    /// Appends another list's items.
+    pub fn append(&mut self, more: List<T>) -> Result<(), Memory>
+        ensures appended { OnOk result (self.new ≡ self.old ++ more) }
+        ensures memory { OnErr result (self.new ≡ self.old) }
+    {
+        let List { mut items } = more;
+        self.items.append(&mut items)?;
+        Ok(())
+    }
+
+    /// Puts an item at a place, from 0 to the length; the item there and those after it move up.
+    pub fn insert(&mut self, place: usize, item: T) -> Result<(), Memory>
+        requires { place ≤ length self.old }
+        ensures inserted { OnOk result (self.new ≡ list_insert self.old place item) }
+        ensures memory { OnErr result (self.new ≡ self.old) }
+    {
+        self.items.insert(place, item)?;
+        Ok(())
+    }
+
+    /// Puts an item in the place of another.
+    pub fn set(&mut self, place: usize, item: T)
+        requires { place < length self.old }
+        ensures { self.new ≡ slice_set self.old place item }
+    {
+        self.items[place] = item;
     }
 
     /// Keeps the first so many items.
@@ -134,6 +213,13 @@ impl<T: Copy> List<T> {
         })
     }
 
+    /// A copy.
+    pub fn copied(&self) -> Result<List<T>, Memory>
+        ensures { IfOk result (λ list. list ≡ self.now) }
+    {
+        List::from_slice(*self.items.allocator(), self.items.as_slice())
+    }
+
     /// Appends a slice's items.
     pub fn extend_from_slice(&mut self, items: &[T]) -> Result<(), Memory>
         ensures extended { OnOk result (self.new ≡ self.old ++ items.now) }
@@ -146,11 +232,7 @@ impl<T: Copy> List<T> {
 
 impl<T: Duplicate + Drop> Duplicate for List<T> {
     fn copy(&self) -> Result<List<T>, Memory> {
-        let mut copied = List::with_capacity(*self.items.allocator(), self.items.len())?;
-        for item in self.items.as_slice() {
-            copied.push(item.copy()?)?;
-        }
-        Ok(copied)
+        T::copies(*self.items.allocator(), self.items.as_slice())
     }
 }
 
@@ -172,11 +254,19 @@ impl Duplicate for u8 {
     fn copy(&self) -> Result<u8, Memory> {
         Ok(*self)
     }
+
+    fn copies(alloc: Global, items: &[u8]) -> Result<List<u8>, Memory> {
+        List::from_slice(alloc, items)
+    }
 }
 
 impl Duplicate for u16 {
     fn copy(&self) -> Result<u16, Memory> {
         Ok(*self)
+    }
+
+    fn copies(alloc: Global, items: &[u16]) -> Result<List<u16>, Memory> {
+        List::from_slice(alloc, items)
     }
 }
 
@@ -184,10 +274,53 @@ impl Duplicate for u32 {
     fn copy(&self) -> Result<u32, Memory> {
         Ok(*self)
     }
+
+    fn copies(alloc: Global, items: &[u32]) -> Result<List<u32>, Memory> {
+        List::from_slice(alloc, items)
+    }
 }
 
 impl Duplicate for u64 {
     fn copy(&self) -> Result<u64, Memory> {
         Ok(*self)
+    }
+
+    fn copies(alloc: Global, items: &[u64]) -> Result<List<u64>, Memory> {
+        List::from_slice(alloc, items)
+    }
+}
+
+impl Duplicate for usize {
+    fn copy(&self) -> Result<usize, Memory> {
+        Ok(*self)
+    }
+
+    fn copies(alloc: Global, items: &[usize]) -> Result<List<usize>, Memory> {
+        List::from_slice(alloc, items)
+    }
+}
+
+impl Duplicate for bool {
+    fn copy(&self) -> Result<bool, Memory> {
+        Ok(*self)
+    }
+
+    fn copies(alloc: Global, items: &[bool]) -> Result<List<bool>, Memory> {
+        List::from_slice(alloc, items)
+    }
+}
+
+impl<T: Duplicate> Duplicate for Option<T> {
+    fn copy(&self) -> Result<Option<T>, Memory> {
+        match self {
+            Some(value) => Ok(Some(value.copy()?)),
+            None => Ok(None),
+        }
+    }
+}
+
+impl<A: Duplicate + Drop, B: Duplicate> Duplicate for (A, B) {
+    fn copy(&self) -> Result<(A, B), Memory> {
+        Ok((self.0.copy()?, self.1.copy()?))
     }
 }

@@ -1,6 +1,6 @@
 //! Where bytes come from.
-ghost use Rattle.std.specs.Prelude.{◌≡◌, ◌<◌, ◌≤◌, ℕ, Bool, true, false, List, [], IfOk, IsOk, OnOk, OnErr, IsErr, IsTrue, ◌↔◌, Option, Some, None, length};
-ghost use Rattle.cv_io.specs.Outside.{Rose, TakesNext, is_listed, next_count};
+ghost use Rattle.std.specs.Prelude.{◌≡◌, ◌<◌, ◌≤◌, ℕ, Bool, true, false, List, [], IfOk, IsOk, OnOk, OnErr, IsErr, IsTrue, ◌↔◌, Option, Some, None, length, take, drop};
+ghost use Rattle.cv_io.specs.Outside.{Rose, TakesNext, is_listed, lists_none, next_count};
 
 use crate::calls::{Calls, Failed};
 use crate::list::{Bytes, List};
@@ -63,15 +63,27 @@ impl MemSource {
 }
 
 impl Source for MemSource {
-    ghost use Rattle.cv_io.specs.Outside.{lists_none};
-
     ghost remaining = { λ s. Some s.left };
 
     ghost faults = { λ s. s.faults };
 
     ghost is_reliable = { λ s. lists_none s.fails };
 
-    fn read(&mut self, into: &mut [u8]) -> Result<usize, Failed> {
+    fn read(&mut self, into: &mut [u8]) -> Result<usize, Failed>
+        requires { 0 < length into.old }
+        ensures within { IfOk result (λ n. n ≤ length into.new) }
+        ensures bytes { IfOk result (λ n. take n into.new ≡ take n self.old.left) }
+        ensures left { IfOk result (λ n. self.new.left ≡ drop n self.old.left) }
+        ensures end { IfOk result (λ n. n ≡ 0 → self.old.left ≡ []) }
+        ensures kept { OnErr result (self.new.left ≡ self.old.left) }
+        ensures quiet { OnOk result (self.new.faults ≡ self.old.faults) }
+        ensures fault { OnErr result (Rose self.old.faults self.new.faults) }
+        ensures never_falls { self.old.faults ≤ self.new.faults }
+        ensures reliable { self.new.fails ≡ self.old.fails }
+        ensures reads { lists_none self.old.fails ≡ true → IsOk result }
+        ensures listed { IsErr result ↔ IsTrue (is_listed self.old.fails (next_count self.old.made)) }
+        ensures made { self.new.made ≡ next_count self.old.made }
+    {
         if self.calls.count() {
             return Err(Failed);
         }

@@ -114,6 +114,15 @@ impl Text {
     }
 }
 
+impl fmt::Display for Text {
+    fn fmt<W: fmt::Write>(&self, f: &mut fmt::Formatter<W>) -> fmt::Result {
+        for byte in self.as_bytes() {
+            f.write_char(char::from(*byte))?;
+        }
+        Ok(())
+    }
+}
+
 impl Duplicate for Text {
     fn copy(&self) -> Result<Text, Memory> {
         Ok(Text {

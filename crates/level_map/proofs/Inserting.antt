@@ -4,7 +4,7 @@ use Rattle.std.proofs.lemmas.Bool.{cases_lt, lt-ltb, le-ltb}
 use Rattle.level_map.specs.declared.ranked.Ranked.{Ranked}
 use Rattle.level_map.specs.Levels.{IsRising, lower, higher}
 use Rattle.level_map.specs.Placing.{greatest_level, least_level}
-use Rattle.level_map.specs.Places.{RanksRise}
+use Rattle.level_map.specs.InsidePlaces.{RanksRise}
 
 -- all ranks are lower
 abbrev pub AllLower : ℕ → List Ranked → Type 0

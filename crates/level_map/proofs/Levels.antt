@@ -3,7 +3,7 @@ use Rattle.std.proofs.Common.{◌≡◌, ℕ, zero, suc, ◌+◌, ◌<◌, ◌�
 use Rattle.level_map.specs.declared.ranked.Ranked.{Ranked}
 use Rattle.level_map.specs.Levels.{IsRising}
 use Rattle.level_map.specs.Placing.{greatest_level, least_level, even_level}
-use Rattle.level_map.specs.Places.{numbered}
+use Rattle.level_map.specs.InsidePlaces.{numbered}
 
 -- the first level that may come is at most the greatest one
 level_at_least : (rank level size : ℕ) (rs : List Ranked) (d : Ranked) → IsRising rank level size rs → (i : ℕ) → i < length rs → level ≤ (get_or rs i d).level

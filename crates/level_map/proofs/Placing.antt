@@ -6,7 +6,7 @@ use Rattle.level_map.specs.declared.ranked.Ranked.{Ranked}
 use Rattle.level_map.specs.Levels.{IsRising, lower, higher}
 use Rattle.level_map.specs.Placing.{greatest_level, least_level, with_rank, spread, even_level, placing_new}
 use Rattle.level_map.specs.declared.placed.Placed.TheVariants.{Renumbered}
-use Rattle.level_map.specs.Places.{RanksRise, IsGapFor, numbered}
+use Rattle.level_map.specs.InsidePlaces.{RanksRise, IsGapFor, numbered}
 use Rattle.level_map.proofs.Rising.{ranks_of_rising}
 use Rattle.level_map.proofs.Levels.{least_at_least}
 use Rattle.level_map.proofs.Inserting.{AllLower, AllHigher, lower_AllLower, higher_AllHigher, rising_between, ranks_between, greatest_some}

@@ -3,7 +3,7 @@ use Rattle.std.proofs.Common.{◌≡◌, ℕ, suc, zero, ◌+◌, ◌<◌, ◌�
 use Rattle.std.specs.List.{remove}
 use Rattle.level_map.specs.declared.ranked.Ranked.{Ranked}
 use Rattle.level_map.specs.Levels.{IsRising, lower, higher}
-use Rattle.level_map.specs.Places.{IsPlaceOf}
+use Rattle.level_map.specs.InsidePlaces.{IsPlaceOf}
 
 -- the pairs without that at the rank's place are the lower and the higher ones
 pub removed : (rank at : ℕ) (rs : List Ranked) → IsPlaceOf rs rank at → remove rs at ≡ lower rank rs ++ higher rank rs

@@ -7,7 +7,7 @@ use Rattle.std.proofs.lemmas.List.Sorted.{IsNonDecreasingBy-from_default}
 use Rattle.std.proofs.lemmas.Bool.Decides.{nat_tests}
 use Rattle.level_map.specs.declared.ranked.Ranked.{Ranked}
 use Rattle.level_map.specs.Levels.{IsRising, level_among, lower, higher}
-use Rattle.level_map.specs.Places.{RanksRise, IsPlaceOf, IsGapFor}
+use Rattle.level_map.specs.InsidePlaces.{RanksRise, IsPlaceOf, IsGapFor}
 
 -- a pair to name where there is none
 abbrev pub no_pair : Ranked

@@ -6,7 +6,7 @@ use Rattle.std.proofs.lemmas.Bool.Decides.{nat_tests}
 use Rattle.level_map.specs.declared.ranked.Ranked.{Ranked}
 use Rattle.level_map.specs.Levels.{IsRising, lower}
 use Rattle.level_map.specs.Placing.{even_level, spread}
-use Rattle.level_map.specs.Places.{RanksRise, numbered}
+use Rattle.level_map.specs.InsidePlaces.{RanksRise, numbered}
 
 -- quotients of numbers that differ by the divisor differ by 1
 quotients_rise : (a b d : ℕ) → 0 < d → a + d ≤ b → a / d + 1 ≤ b / d

@@ -2,6 +2,7 @@
 //! on one for each distinct rank of its entries, in their order.
 #![tactic(auto)]
 
+pub mod laws;
 mod map;
 mod placed;
 mod ranked;

@@ -40,6 +40,15 @@ impl LevelMap {
         }
     }
 
+    /// How many levels there are.
+    pub fn size(&self) -> u32
+        ensures value { result ≡ self.now.size }
+        ensures from { 4 ≤ result }
+        ensures to { result ≤ 32768 }
+    {
+        self.size
+    }
+
     /// Gives a rank its level, if it has none yet: the middle between its neighbours' levels. Where
     /// there is none between them, all ranks are renumbered.
     pub fn place(&mut self, rank: u32) -> Result<Placed, PlaceFault>

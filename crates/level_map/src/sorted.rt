@@ -1,8 +1,8 @@
-// The work on pairs that stand in the order of their ranks.
+//! The work on pairs that stand in the order of their ranks.
 ghost use Rattle.std.specs.Prelude.{◌≡◌, ◌<◌, ◌≤◌, ◌+◌, ◌-◌, ◌*◌, ◌/◌, ◌^◌, IfOk, IfErr, OnOk, OnErr, length, take, drop};
 ghost use Rattle.level_map.specs.Levels.{IsRising, level_among};
 ghost use Rattle.level_map.specs.Placing.{greatest_level, least_level, even_level, placing_new};
-ghost use Rattle.level_map.specs.Places.{RanksRise, IsPlaceOf, IsGapFor, numbered};
+ghost use Rattle.level_map.specs.InsidePlaces.{RanksRise, IsPlaceOf, IsGapFor, numbered};
 
 use crate::placed::{PlaceFault, Placed};
 use crate::ranked::Ranked;

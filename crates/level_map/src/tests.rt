@@ -22,6 +22,7 @@ fn three_bits_hold_six_ranks(rt: HostRuntime) -> Result<(), Fail> {
     assert_eq!(rt; levels.place(60)?, Placed::Kept { level: 7 });
 
     let copied = levels.copy()?;
+    assert_eq!(rt; copied.size(), 8);
     levels.drop_rank(30);
     assert_eq!(rt; levels.place(70)?, Placed::Renumbered { level: 7 });
     for (rank, want) in [(10, 2), (20, 3), (40, 4), (50, 5), (60, 6), (70, 7)] {

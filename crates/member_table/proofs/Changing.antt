@@ -1,5 +1,6 @@
 -- Entries go and change one after the other.
 use Rattle.std.proofs.Common.{◌≡◌, ℕ, Bool, true, false, not, cond, ◌||◌, ◌==◌, List, [], ◌∷◌, ◌++◌, map, filter, refl, sym, ap, ap₂, ◌∙◌, if◌then◌else◌, true≢false, Option, Some, None, eqb-true, eq-eqb}
+use Rattle.std.specs.List.{AllByRecursion}
 use Rattle.std.specs.Option.{option_eq}
 use Rattle.member_table.specs.Changes.{is_among, is_number, stays, changed_by}
 use Rattle.member_table.specs.Entries.{has_serial}
@@ -75,6 +76,11 @@ stays_kept rest s (Some k) (e ∷ es) a = ap₂ (λ b xs. cond b (e ∷ xs) xs) 
 
     alike : (x : Bool) → (not x || (k == e.serial)) ≡ (not (x || (k == e.serial)) || (k == e.serial))
     alike x = both x (k == e.serial)
+
+-- what is true of each, without the last
+pub all_front : {X : Type 0} (P : X → Type 0) (rest : List X) (x : X) → AllByRecursion P (rest ++ x ∷ []) → AllByRecursion P rest × P x
+all_front P [] x a = (tt, a.0)
+all_front P (y ∷ rest) x a = let r = all_front P rest x a.1 in ((a.0, r.0), r.1)
 
 -- one that changes, and then the others, which come first
 changed_pushed : (rest : List Modified) (m : Modified) (e : Entry) → changed_by rest (if has_serial m.serial e then with_actions m.actions e else e) ≡ changed_by (rest ++ m ∷ []) e

@@ -3,7 +3,7 @@ use Rattle.std.proofs.Common.{◌≡◌, ℕ, zero, suc, ◌<◌, ◌≤◌, ◌
 use Rattle.std.specs.List.{list_any, AllByRecursion, IsDistinct}
 use Rattle.std.proofs.lemmas.Option.{slice_get_within, get_or_from_slice_get}
 use Rattle.member_table.specs.Entries.{identity_of, has_serial, is_at, put}
-use Rattle.member_table.specs.Orders.{OrderOf}
+use Rattle.member_table.specs.InsideOrders.{OrderOf}
 use Rattle.member_table.specs.Sound.{AreApart, EachPair}
 use Rattle.member_table.specs.declared.entry.Entry.{Entry}
 use Rattle.std.proofs.lemmas.Bool.Decides.{Decides-eqb}

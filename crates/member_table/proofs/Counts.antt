@@ -3,7 +3,7 @@ use Rattle.std.proofs.Common.{◌≡◌, ℕ, ◌+◌, Bool, true, false, not, c
 use Rattle.std.specs.List.{list_any}
 use Rattle.std.proofs.lemmas.List.Sums.{sum_by-cons}
 use Rattle.member_table.specs.Entries.{identity_of, has_serial, is_at, put}
-use Rattle.member_table.specs.Ranking.{ranked_of, same_ranked, Exchanges}
+use Rattle.member_table.specs.InsideRanking.{ranked_of, same_ranked, Exchanges}
 use Rattle.member_table.specs.declared.entry.Entry.{Entry}
 use Rattle.member_table.specs.declared.ranked.Ranked.{Ranked}
 use Rattle.member_table.proofs.Lists.{IsOnce, filter-none}

@@ -1,10 +1,10 @@
 -- Matches in the order of their ranks.
-use Rattle.std.proofs.Common.{◌≡◌, ℕ, zero, suc, ◌<◌, ◌≤◌, ◌-◌, Bool, true, false, ◌||◌, ◌&&◌, List, [], ◌∷◌, length, get_or, find, insert, remove, take, drop, Option, Some, None, MatchOption, refl, sym, ap, ◌∙◌, arith, nat_lt, nat_le, eq-eqb, le-leb, leb-true, le-ltb, le_refl, le_trans}
+use Rattle.std.proofs.Common.{◌≡◌, ℕ, zero, suc, ◌<◌, ◌≤◌, ◌-◌, ◌+◌, ◌==◌, cond, filter, ne_eqb, lt-ltb, ltb-true, ltb-false, Bool, true, false, ◌||◌, ◌&&◌, List, [], ◌∷◌, length, get_or, find, insert, remove, take, drop, Option, Some, None, MatchOption, refl, sym, ap, ◌∙◌, arith, nat_lt, nat_le, eq-eqb, le-leb, leb-true, le-ltb, le_refl, le_trans}
 use Rattle.std.specs.List.{list_any, AllByRecursion, AllWithin}
 use Rattle.std.specs.List.Sorted.{IsPartitionedBy}
 use Rattle.std.proofs.lemmas.List.{take-append-drop}
 use Rattle.std.proofs.lemmas.List.Folds.{list_any-append, drop_split}
-use Rattle.member_table.specs.Ranking.{RanksFall, IsTop}
+use Rattle.member_table.specs.InsideRanking.{RanksFall, IsTop}
 use Rattle.member_table.specs.declared.ranked.Ranked.{Ranked}
 
 pub each_at : {X : Type 0} (P : X → Type 0) (xs : List X) → AllByRecursion P xs → (j : ℕ) (d : X) → j < length xs → P (get_or xs j d)
@@ -68,6 +68,46 @@ fall_remove [] zero f = tt
 fall_remove [] (suc i) f = tt
 fall_remove (x ∷ xs) zero f = f.1
 fall_remove (x ∷ xs) (suc i) f = (each_remove (λ r. r.identity.rank ≤ x.identity.rank) xs i f.0, fall_remove xs i f.1)
+
+pub fall_filter : (p : Ranked → Bool) (xs : List Ranked) → RanksFall xs → RanksFall (filter p xs)
+fall_filter p [] f = tt
+fall_filter p (x ∷ xs) f = by (p x) (each_filter (λ y. y.identity.rank ≤ x.identity.rank) xs f.0) (fall_filter p xs f.1)
+  where
+    each_filter : (P : Ranked → Type 0) (ys : List Ranked) → AllByRecursion P ys → AllByRecursion P (filter p ys)
+    each_filter P [] a = tt
+    each_filter P (y ∷ ys) a = with_first (p y) (each_filter P ys a.1)
+      where
+        with_first : (b : Bool) → AllByRecursion P (filter p ys) → AllByRecursion P (cond b (y ∷ filter p ys) (filter p ys))
+        with_first true r = (a.0, r)
+        with_first false r = r
+
+    by : (b : Bool) → AllByRecursion (λ y. y.identity.rank ≤ x.identity.rank) (filter p xs) → RanksFall (filter p xs) → RanksFall (cond b (x ∷ filter p xs) (filter p xs))
+    by true h r = (h, r)
+    by false h r = r
+
+-- whether a rank stands between those above it and those below it
+lt_suc : (a b : ℕ) → nat_lt (suc a) (suc b) ≡ nat_lt a b
+lt_suc a b = by (nat_lt a b) refl
+  where
+    by : (c : Bool) → nat_lt a b ≡ c → nat_lt (suc a) (suc b) ≡ c
+    by true t = let l = ltb-true a b t in lt-ltb (suc a) (suc b) (omega arith)
+    by false t = let l = ltb-false a b t in le-ltb (suc a) (suc b) (omega arith)
+
+pub rank_between : (xs : List Ranked) (rank above here : ℕ) → above ≤ length xs → here ≤ length xs
+    → AllByRecursion (λ r. rank + 1 ≤ r.identity.rank) (take above xs) → AllByRecursion (λ r. r.identity.rank < rank + 1) (drop above xs)
+    → AllByRecursion (λ r. rank ≤ r.identity.rank) (take here xs) → AllByRecursion (λ r. r.identity.rank < rank) (drop here xs)
+    → nat_lt above here ≡ list_any (λ r. rank == r.identity.rank) xs
+rank_between [] rank above here l m a b c d = le-ltb above here (omega arith)
+rank_between (x ∷ xs) rank zero zero l m a b c d =
+    sym (none_each (λ r. rank == r.identity.rank) (x ∷ xs) (each_weaker (λ r. r.identity.rank < rank) (λ r. (rank == r.identity.rank) ≡ false) (λ r h. ne_eqb rank r.identity.rank (λ e. absurd (omega arith))) (x ∷ xs) d))
+rank_between (x ∷ xs) rank zero (suc here) l m a b c d =
+    let low = c.0 in let high = b.0 in let same : rank ≡ x.identity.rank = omega arith in
+    rw (eq-eqb rank x.identity.rank same) (lt-ltb 0 (suc here) (omega arith))
+rank_between (x ∷ xs) rank (suc above) zero l m a b c d = let high = a.0 in let low = d.0 in absurd (omega arith)
+rank_between (x ∷ xs) rank (suc above) (suc here) l m a b c d =
+    let high = a.0 in
+    let other : (rank == x.identity.rank) ≡ false = ne_eqb rank x.identity.rank (λ e. absurd (omega arith)) in
+    rw other (lt_suc above here ∙ rank_between xs rank above here (omega arith) (omega arith) a.1 b c.1 d)
 
 -- the first that passes is of the highest rank
 pub top_find : (p : Ranked → Bool) (xs : List Ranked) → RanksFall xs → MatchOption (find p xs) (list_any p xs ≡ false) (λ top. IsTop p xs top)

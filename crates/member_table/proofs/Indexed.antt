@@ -8,7 +8,7 @@ use Rattle.member_table.specs.Changes.{is_number}
 use Rattle.std.proofs.lemmas.Bool.Decides.{Decides-eqb}
 use Rattle.std.proofs.lemmas.List.{length-map, map-append, map-set}
 use Rattle.member_table.specs.Entries.{identity_of, has_serial, is_at, put, same_identity}
-use Rattle.member_table.specs.Orders.{IsIndexed, IsInStep, listed, numbered, numbered_at, unnumbered, unnumbered_at}
+use Rattle.member_table.specs.InsideOrders.{IsIndexed, IsInStep, listed, numbered, numbered_at, unnumbered, unnumbered_at}
 use Rattle.member_table.specs.Timeouts.{serials_of}
 use Rattle.member_table.specs.declared.entry.Entry.{Entry}
 use Rattle.member_table.specs.declared.entry.Identity.{Identity}

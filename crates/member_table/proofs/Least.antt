@@ -1,7 +1,7 @@
 -- The least serial number of those that pass a test.
 use Rattle.std.proofs.Common.{◌≡◌, ℕ, zero, suc, ◌<◌, ◌≤◌, Bool, true, false, ◌||◌, ◌&&◌, List, [], ◌∷◌, ◌++◌, Option, Some, None, refl, sym, ap, ◌∙◌, arith, true≢false, nat_lt, ◌==◌, eq-eqb, le-ltb, ltb-true, le_refl, min, lt-ltb, ◌⊎◌, inl, inr}
 use Rattle.std.specs.List.{list_any}
-use Rattle.member_table.specs.Ranking.{IsLeastOf, lesser}
+use Rattle.member_table.specs.InsideRanking.{IsLeastOf, lesser}
 use Rattle.member_table.specs.declared.ranked.Ranked.{Ranked}
 use Rattle.member_table.proofs.Lists.{or_false}
 

@@ -7,9 +7,11 @@ pub mod Least
 pub mod SameRanked
 pub mod Sounds
 pub mod Counts
+pub mod Staying
 pub mod Kept
 pub mod Bests
 pub mod Means
 pub mod Changing
 pub mod Plans
+pub mod Exact
 pub mod Copies

@@ -1,22 +1,31 @@
 -- What plans make of a table.
-use Rattle.std.proofs.Common.{◌≡◌, ℕ, suc, ◌<◌, ◌≤◌, ◌+◌, ◌^◌, Bool, true, false, not, cond, ◌||◌, ◌&&◌, ◌==◌, List, [], ◌∷◌, length, map, filter, find, refl, sym, ap, ap₂, ◌∙◌, arith, if◌then◌else◌, true≢false, Option, Some, None, IfSome, eqb-true, ne_eqb, option_to_list, option_map, min, nat_lt, ltb-false}
-use Rattle.std.specs.List.{list_any}
+use Rattle.std.proofs.Common.{◌≡◌, ℕ, suc, ◌<◌, ◌≤◌, ◌+◌, ◌^◌, Bool, true, false, not, cond, ◌||◌, ◌&&◌, ◌==◌, List, [], ◌∷◌, length, map, filter, find, refl, sym, ap, ap₂, subst, ◌∙◌, arith, if◌then◌else◌, true≢false, Option, Some, None, IfSome, eqb-true, ne_eqb, option_to_list, option_map, min, nat_lt, ltb-false}
+use Rattle.std.specs.List.{list_any, AllByRecursion}
+use Rattle.std.specs.Prelude.{Result, Ok, Err, IfOk}
+use Rattle.of10_match.specs.Normal.{IsNormal}
+use Rattle.of10_match.specs.Wildcards.{normal_of}
+use Rattle.of10_actions.specs.Actions.{AreInRange}
+use Rattle.of10_msgs.specs.Commands.{command_at}
 use Rattle.of10_msgs.specs.declared.message.FlowMod.{FlowMod}
 use Rattle.of10_actions.specs.declared.action.Action.{Action}
-use Rattle.member_table.specs.Changes.{CanAdd, committed, is_among, stays, changed_by, replaced}
+use Rattle.member_table.specs.Changes.{CanAdd, CanCommit, IsInRange, committed, is_among, is_number, stays, changed_by, replaced}
 use Rattle.member_table.specs.Entries.{identity_of, is_at, is_near, put}
-use Rattle.member_table.specs.Planning.{adding, addition, changing, change_by_command, change_of, modification, removal, removing}
-use Rattle.member_table.specs.Ranking.{IsLeastOf, is_in_way, ranked_of}
+use Rattle.member_table.specs.Planning.{adding, addition, changing, change_asked, change_by_command, change_of, modification, removal, removing}
+use Rattle.member_table.specs.InsideRanking.{IsLeastOf, is_in_way, ranked_of}
 use Rattle.member_table.specs.Refusals.{least, lesser_of, is_overlapped, overlapped, refusal_by, refusal_of}
 use Rattle.member_table.specs.Sound.{IsSound}
-use Rattle.member_table.specs.Tables.{Held, TableOf, after, after_command, command_of, deleted, entry_of, identity_in, is_meant, modified, with_actions, with_entry, outputs_to}
-use Rattle.member_table.specs.Timeouts.{serials_of}
-use Rattle.member_table.specs.declared.command.Command.{Command}
-use Rattle.member_table.specs.declared.command.Command.TheVariants.{Add, Modify, ModifyStrict, Delete, DeleteStrict}
+use Rattle.member_table.specs.Tables.{Held, TableOf, after, after_asked, after_command, deleted, entry_of, identity_in, is_meant, modified, with_actions, with_entry, outputs_to}
+use Rattle.member_table.specs.Timeouts.{ListsRising, is_hard_due, serials_of, without_expired}
+use Rattle.member_table.specs.declared.change.Change.{Change}
+use Rattle.member_table.specs.declared.fault.TableFault.{TableFault}
+use Rattle.of10_msgs.specs.declared.command.Command.{Command}
+use Rattle.of10_msgs.specs.declared.command.Command.TheVariants.{Add, Modify, ModifyStrict, Delete, DeleteStrict}
 use Rattle.member_table.specs.declared.entry.Entry.{Entry}
 use Rattle.member_table.specs.declared.entry.Identity.{Identity}
 use Rattle.member_table.specs.declared.ranked.Ranked.{Ranked}
+use Rattle.std.proofs.lemmas.List.Sorted.{sum_by-IsPermutation}
 use Rattle.member_table.proofs.Changing.{all_stay, unaltered}
+use Rattle.member_table.proofs.Counts.{same_any}
 use Rattle.member_table.proofs.Falling.{each_weaker}
 use Rattle.member_table.proofs.Least.{any_stronger, and_true}
 use Rattle.member_table.proofs.Lists.{list_any-map, or_false}
@@ -67,6 +76,14 @@ removing_is t p s =
     ap (λ es. record t { entries = es }) (unaltered (filter (stays (serials_of p t.entries) None) t.entries)
     ∙ filter_alike (stays (serials_of p t.entries) None) (λ e. not (p e)) t.entries
     (each_weaker (λ e. is_among (serials_of p t.entries) e.serial ≡ p e) (λ e. stays (serials_of p t.entries) None e ≡ not (p e)) (λ e h. or_never (not (is_among (serials_of p t.entries) e.serial)) ∙ ap not h) t.entries (among_passing p t.entries s.once)))
+
+-- entries that are due go
+pub expired_is : (t : TableOf) (now : ℕ) (due : List ℕ) → IsSound t → ListsRising (serials_of (is_hard_due now) t.entries) due → committed t (removing due) ≡ without_expired now t
+expired_is t now due s l =
+    ap (λ (among : ℕ → Bool). record t { entries = map (changed_by []) (filter (λ e. not (among e.serial) || is_number None e.serial) t.entries) }) (λ i n. same n i) ∙ removing_is t (is_hard_due now) s
+  where
+    same : (n : ℕ) → is_among due n ≡ is_among (serials_of (is_hard_due now) t.entries) n
+    same n = same_any due (serials_of (is_hard_due now) t.entries) (λ p. sum_by-IsPermutation (λ k. cond (p k) 1 0) (serials_of (is_hard_due now) t.entries) due l.same) (λ k. k == n)
 
 -- the least of the numbers that pass
 nothing_passes : (p : Entry → Bool) (es : List Entry) → list_any p es ≡ false → serials_of p es ≡ []
@@ -144,16 +161,31 @@ not_in_way k t e = by (list_any (is_overlapped k) t.entries) refl
     by true h = absurd (true≢false (ap (λ ns. length ns == 0) (sym none) ∙ (something_passes (is_overlapped k) t.entries ∙ ap not h)))
     by false h = h
 
-pub ready_is : (old new : Held) (m : FlowMod) (now : ℕ) (r : Option ℕ) → new.table ≡ old.table → refusal_of (identity_in m) old.table ≡ None → 0 < new.room → new.table.next + 1 < 2 ^ 64
-    → CanAdd new (option_to_list r) (entry_of old.table.next m now)
-ready_is old new m now r same none room more = record {
+pub ready_is : (old new : Held) (m : FlowMod) (now : ℕ) (r : Option ℕ) → new.table ≡ old.table → refusal_of (identity_in m) old.table ≡ None → 0 < new.room → new.table.next + 2 < 2 ^ 64
+    → IsNormal (normal_of m.m) → AreInRange m.actions → CanAdd new (option_to_list r) (entry_of old.table.next m now)
+ready_is old new m now r same none room more normal in_range = record {
   serial = ap (λ t. t.next) (sym same);
   more = more;
+  written = record { read = refl; ranked = refl; normal = normal; actions = in_range };
   apart = any_stronger (is_overlapped (identity_in m)) (λ e. stays (option_to_list r) (replaced (Some (entry_of old.table.next m now)) new.table.entries) e && (is_near (identity_in m) (identity_of e) && not (is_at (identity_in m) e)))
       (λ e h. (and_true (stays (option_to_list r) (replaced (Some (entry_of old.table.next m now)) new.table.entries) e) (is_overlapped (identity_in m) e) h).1) new.table.entries
       (ap (λ t. list_any (is_overlapped (identity_in m)) t.entries) same ∙ not_in_way (identity_in m) old.table none);
   room = room;
 }
+
+-- other actions in their ranges, for each of some numbers
+pub each_in_range : (actions : List Action) (serials : List ℕ) → AreInRange actions → AllByRecursion IsInRange (map (λ s. record { serial = s; actions = actions }) serials)
+each_in_range actions [] h = tt
+each_in_range actions (s ∷ ss) h = (h, each_in_range actions ss h)
+
+-- an entry that can be added
+pub ready_added : (held : Held) (new : Entry) (r : Option ℕ) → CanAdd held (option_to_list r) new → CanCommit held (adding new r)
+ready_added held new r can = record { added = can; modified = tt }
+
+-- a removal can be made
+pub removal_ready : (held : Held) (serials : List ℕ) (planned : Result Change TableFault) → IfOk planned (λ change. change ≡ removing serials) → IfOk planned (CanCommit held)
+removal_ready held serials (Ok change) e = let C : Change → Type 0 = CanCommit held in subst C (sym e) (record { added = tt; modified = tt })
+removal_ready held serials (Err fault) e = tt
 
 -- what a message asks for makes the table after it
 modification_makes : (strict : Bool) (t : TableOf) (m : FlowMod) (now : ℕ) → IsSound t → committed t (modification strict t m now) ≡ modified strict t m now
@@ -167,12 +199,16 @@ modification_makes strict t m now s = by (list_any (is_meant strict (identity_in
 removal_makes : (strict : Bool) (t : TableOf) (m : FlowMod) → IsSound t → committed t (removal strict t m) ≡ deleted strict t m
 removal_makes strict t m s = removing_is t (λ e. is_meant strict (identity_in m) e && outputs_to m.out_port e) s
 
-change_makes_by : (command : Command) (t : TableOf) (m : FlowMod) (now : ℕ) → IsSound t → committed t (change_by_command command t m now) ≡ after_command command t m now
+pub change_makes_by : (command : Command) (t : TableOf) (m : FlowMod) (now : ℕ) → IsSound t → committed t (change_by_command command t m now) ≡ after_command command t m now
 change_makes_by Add t m now s = adding_is t m now _ refl
 change_makes_by Modify t m now s = modification_makes false t m now s
 change_makes_by ModifyStrict t m now s = modification_makes true t m now s
 change_makes_by Delete t m now s = removal_makes false t m s
 change_makes_by DeleteStrict t m now s = removal_makes true t m s
 
+pub change_asked_makes : (command : Option Command) (t : TableOf) (m : FlowMod) (now : ℕ) → IsSound t → committed t (change_asked command t m now) ≡ after_asked command t m now
+change_asked_makes None t m now s = ap (λ es. record t { entries = es }) (unaltered (filter (stays [] None) t.entries) ∙ all_stay None t.entries)
+change_asked_makes (Some command) t m now s = change_makes_by command t m now s
+
 pub change_makes : (t : TableOf) (m : FlowMod) (now : ℕ) → IsSound t → committed t (change_of t m now) ≡ after t m now
-change_makes t m now s = change_makes_by (command_of m.command) t m now s
+change_makes t m now s = change_asked_makes (command_at m.command) t m now s

@@ -2,7 +2,7 @@
 use Rattle.std.proofs.Common.{◌≡◌, ap, Decides, ◌==◌}
 use Rattle.std.proofs.lemmas.Bool.Decides.{Decides-eqb, Decides-and, Decides-like}
 use Rattle.member_table.specs.Entries.{same_identity}
-use Rattle.member_table.specs.Ranking.{same_ranked}
+use Rattle.member_table.specs.InsideRanking.{same_ranked}
 use Rattle.member_table.specs.declared.ranked.Ranked.{Ranked}
 use Rattle.member_table.proofs.Steps.{identity_decides}
 

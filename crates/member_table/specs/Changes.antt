@@ -1,7 +1,9 @@
 -- What a change makes of a table, and when it can be made.
 use Rattle.std.specs.Prelude.{◌≡◌, ℕ, ◌+◌, ◌<◌, ◌^◌, ◌==◌, ◌||◌, ◌&&◌, not, Bool, false, List, [], ◌∷◌, map, filter, find, Option, Some, None, is_some, IfSome, option_map, if◌then◌else◌}
-use Rattle.std.specs.List.{list_any}
+use Rattle.std.specs.List.{list_any, AllByRecursion}
+use Rattle.of10_actions.specs.Actions.{AreInRange}
 use Rattle.member_table.specs.Entries.{identity_of, is_at, is_near, put}
+use Rattle.member_table.specs.Sound.{IsAsWritten}
 use Rattle.member_table.specs.Tables.{TableOf, Held, with_actions}
 use Rattle.member_table.specs.declared.change.Change.{Change}
 use Rattle.member_table.specs.declared.change.Modified.{Modified}
@@ -42,14 +44,20 @@ committed t c = record t {
   next = (if is_some c.added then t.next + 1 else t.next);
 }
 
--- an entry can be added: it has the next number, it overlaps none of its rank that stays but the identical
--- one, and there is memory for it
+-- an entry can be added: it has the next number, it is as it is written, it overlaps none of its rank that stays
+-- but the identical one, and there is memory for it
 pub record CanAdd (held : Held) (removed : List ℕ) (new : Entry) : Type 0 where
   pub serial : new.serial ≡ held.table.next
-  pub more : held.table.next + 1 < 2 ^ 64
+  pub more : held.table.next + 2 < 2 ^ 64
+  pub written : IsAsWritten new
   pub apart : list_any (λ e. stays removed (replaced (Some new) held.table.entries) e && (is_near (identity_of new) (identity_of e) && not (is_at (identity_of new) e))) held.table.entries ≡ false
   pub room : 0 < held.room
 
--- a change can be made
-abbrev pub CanCommit : Held → Change → Type 0
-CanCommit held c = IfSome c.added (CanAdd held c.removed)
+-- other actions, with their numbers in their ranges
+abbrev pub IsInRange : Modified → Type 0
+IsInRange m = AreInRange m.actions
+
+-- a change can be made: its entry can be added, and its actions are in their ranges
+pub record CanCommit (held : Held) (c : Change) : Type 0 where
+  pub added : IfSome c.added (CanAdd held c.removed)
+  pub modified : AllByRecursion IsInRange c.modified

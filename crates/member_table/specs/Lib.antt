@@ -5,8 +5,9 @@ pub mod Changes
 pub mod Planning
 pub mod Best
 pub mod Timeouts
-pub mod Wanting
 pub mod Sound
-pub mod Orders
-pub mod Ranking
 pub mod Worked
+pub mod InsideWanting
+pub mod InsideKept
+pub mod InsideOrders
+pub mod InsideRanking

@@ -2,13 +2,14 @@
 use Rattle.std.specs.Prelude.{ℕ, ◌&&◌, Bool, true, false, List, [], map, Option, Some, None, option_to_list, if◌then◌else◌}
 use Rattle.std.specs.List.{list_any}
 use Rattle.of10_actions.specs.declared.action.Action.{Action}
+use Rattle.of10_msgs.specs.Commands.{command_at}
 use Rattle.of10_msgs.specs.declared.message.FlowMod.{FlowMod}
 use Rattle.member_table.specs.Changes.{replaced}
-use Rattle.member_table.specs.Tables.{TableOf, command_of, entry_of, identity_in, is_meant, outputs_to}
+use Rattle.member_table.specs.Tables.{TableOf, entry_of, identity_in, is_meant, outputs_to}
 use Rattle.member_table.specs.Timeouts.{serials_of}
 use Rattle.member_table.specs.declared.change.Change.{Change}
-use Rattle.member_table.specs.declared.command.Command.{Command}
-use Rattle.member_table.specs.declared.command.Command.TheVariants.{Add, Modify, ModifyStrict, Delete, DeleteStrict}
+use Rattle.of10_msgs.specs.declared.command.Command.{Command}
+use Rattle.of10_msgs.specs.declared.command.Command.TheVariants.{Add, Modify, ModifyStrict, Delete, DeleteStrict}
 use Rattle.member_table.specs.declared.entry.Entry.{Entry}
 
 -- an entry comes, in the place of the one of this number, if there is one
@@ -46,7 +47,12 @@ change_by_command ModifyStrict t m now = modification true t m now
 change_by_command Delete t m now = removal false t m
 change_by_command DeleteStrict t m now = removal true t m
 
+-- a number that is no command's asks for no change
+abbrev pub change_asked : Option Command → TableOf → FlowMod → ℕ → Change
+change_asked None t m now = removing []
+change_asked (Some command) t m now = change_by_command command t m now
+
 -- the change that a message asks for at a moment: exactly the numbers of the entries that go, and of those
 -- that get other actions, in the table's order
 abbrev pub change_of : TableOf → FlowMod → ℕ → Change
-change_of t m now = change_by_command (command_of m.command) t m now
+change_of t m now = change_asked (command_at m.command) t m now

@@ -1,11 +1,12 @@
 -- When a message is refused.
 use Rattle.std.specs.Prelude.{◌≡◌, ℕ, ◌&&◌, not, nat_le, min, Bool, true, false, List, [], ◌∷◌, length, map, filter, Option, Some, None, if◌then◌else◌}
 use Rattle.std.specs.List.{list_any}
+use Rattle.of10_msgs.specs.Commands.{command_at}
 use Rattle.of10_msgs.specs.declared.message.FlowMod.{FlowMod}
 use Rattle.member_table.specs.Entries.{identity_of, is_at, is_near, same_identity}
-use Rattle.member_table.specs.Tables.{TableOf, command_of, identity_in, is_meant}
-use Rattle.member_table.specs.declared.command.Command.{Command}
-use Rattle.member_table.specs.declared.command.Command.TheVariants.{Add, Modify, ModifyStrict, Delete, DeleteStrict}
+use Rattle.member_table.specs.Tables.{TableOf, identity_in, is_meant}
+use Rattle.of10_msgs.specs.declared.command.Command.{Command}
+use Rattle.of10_msgs.specs.declared.command.Command.TheVariants.{Add, Modify, ModifyStrict, Delete, DeleteStrict}
 use Rattle.member_table.specs.declared.entry.Entry.{Entry}
 use Rattle.member_table.specs.declared.entry.Identity.{Identity}
 use Rattle.member_table.specs.declared.fault.TableFault.{TableFault}
@@ -52,9 +53,14 @@ refusal_by_command ModifyStrict t m = refusal_unless true t m
 refusal_by_command Delete t m = None
 refusal_by_command DeleteStrict t m = None
 
+-- a number that is no command's is refused by no table
+abbrev pub refusal_asked : Option Command → TableOf → FlowMod → Option TableFault
+refusal_asked None t m = None
+refusal_asked (Some command) t m = refusal_by_command command t m
+
 -- why a message is refused
 abbrev pub refusal : TableOf → FlowMod → Option TableFault
-refusal t m = refusal_by_command (command_of m.command) t m
+refusal t m = refusal_asked (command_at m.command) t m
 
 -- a fault is the refusal's, unless memory ran out
 abbrev pub IsFaultOf : Option TableFault → TableFault → Type 0

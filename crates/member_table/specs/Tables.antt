@@ -1,15 +1,17 @@
 -- A member's table, and what a message makes of it (sections 4.6 and 5.3.3 of the standard).
-use Rattle.std.specs.Prelude.{ℕ, ◌+◌, ◌==◌, ◌||◌, ◌&&◌, not, Bool, true, false, List, map, filter, if◌then◌else◌}
+use Rattle.std.specs.Prelude.{ℕ, ◌+◌, ◌==◌, ◌||◌, ◌&&◌, not, Bool, true, false, List, map, filter, Option, Some, None, if◌then◌else◌}
 use Rattle.std.specs.List.{list_any}
 use Rattle.of10_match.specs.Matching.{covers}
+use Rattle.of10_match.specs.Numbers.{rank_by}
 use Rattle.of10_match.specs.OfpMatchFields.{fields_in}
 use Rattle.of10_match.specs.Wildcards.{is_exact, normal_of}
 use Rattle.of10_actions.specs.declared.action.Action.{Action}
 use Rattle.of10_actions.specs.declared.action.Action.TheVariants.{Output}
+use Rattle.of10_msgs.specs.Commands.{command_at}
 use Rattle.of10_msgs.specs.declared.message.FlowMod.{FlowMod}
 use Rattle.member_table.specs.Entries.{is_at, put}
-use Rattle.member_table.specs.declared.command.Command.{Command}
-use Rattle.member_table.specs.declared.command.Command.TheVariants.{Add, Modify, ModifyStrict, Delete, DeleteStrict}
+use Rattle.of10_msgs.specs.declared.command.Command.{Command}
+use Rattle.of10_msgs.specs.declared.command.Command.TheVariants.{Add, Modify, ModifyStrict, Delete, DeleteStrict}
 use Rattle.member_table.specs.declared.entry.Entry.{Entry}
 use Rattle.member_table.specs.declared.entry.Identity.{Identity}
 
@@ -24,14 +26,17 @@ pub record Held : Type 0 where
   pub table : TableOf
   pub room : ℕ
 
--- the command of a number
-abbrev pub command_of : ℕ → Command
-command_of number =
-    if number == 0 then Add else if number == 1 then Modify else if number == 2 then ModifyStrict else if number == 3 then Delete else DeleteStrict
+-- the entry has the rank
+abbrev pub has_rank : ℕ → Entry → Bool
+has_rank rank e = rank == e.rank
 
--- the rank of a message: above every priority where its match is written without a wildcard
+-- the rank of a match as it is written: above every priority where it is written without a wildcard
+abbrev pub rank_written : List ℕ → ℕ → ℕ
+rank_written written priority = rank_by (is_exact (fields_in written)) priority
+
+-- the rank of a message
 abbrev pub rank_of : FlowMod → ℕ
-rank_of m = if is_exact (fields_in m.m) then 65536 else m.priority
+rank_of m = rank_written m.m m.priority
 
 -- the rank and the match of a message
 abbrev pub identity_in : FlowMod → Identity
@@ -95,6 +100,11 @@ after_command ModifyStrict t m now = modified true t m now
 after_command Delete t m now = deleted false t m
 after_command DeleteStrict t m now = deleted true t m
 
+-- a number that is no command's changes nothing
+abbrev pub after_asked : Option Command → TableOf → FlowMod → ℕ → TableOf
+after_asked None t m now = t
+after_asked (Some command) t m now = after_command command t m now
+
 -- the table after an accepted message at a moment
 abbrev pub after : TableOf → FlowMod → ℕ → TableOf
-after t m now = after_command (command_of m.command) t m now
+after t m now = after_asked (command_at m.command) t m now

@@ -1,6 +1,7 @@
 -- Whose time is up (idle_timeout and hard_timeout of section 5.3.3 of the standard).
 use Rattle.std.specs.Prelude.{ℕ, ◌+◌, ◌==◌, ◌&&◌, not, nat_le, Bool, List, map, filter, IsPermutation, IsSorted}
 use Rattle.std.specs.Ordering.{nat_cmp}
+use Rattle.member_table.specs.Tables.{TableOf}
 use Rattle.member_table.specs.declared.entry.Entry.{Entry}
 
 -- the numbers of the entries that pass a test, in their order
@@ -18,6 +19,10 @@ is_hard_due now e = has_passed e.added e.hard now
 -- its count hasn't risen for its idle timeout, and its hard timeout hasn't passed
 abbrev pub is_idle_due : ℕ → Entry → Bool
 is_idle_due now e = not (is_hard_due now e) && has_passed e.last e.idle now
+
+-- a table without the entries that have stood for their hard timeouts at a moment
+abbrev pub without_expired : ℕ → TableOf → TableOf
+without_expired now t = record t { entries = filter (λ e. not (is_hard_due now e)) t.entries }
 
 -- the same numbers, rising
 pub record ListsRising (numbers listed : List ℕ) : Type 0 where

@@ -1,5 +1,5 @@
 -- A small table, and what messages make of it, computed.
-use Rattle.std.specs.Prelude.{◌≡◌, ℕ, List, [], ◌∷◌, ◌++◌, map, Option, Some, None, option_map}
+use Rattle.std.specs.Prelude.{◌≡◌, ℕ, List, [], ◌∷◌, map, Some, None, option_map}
 use Rattle.of10_match.specs.Fields.{HeaderOf, MatchOf}
 use Rattle.of10_match.specs.Matching.{everything}
 use Rattle.of10_match.specs.Wildcards.{match_bytes}
@@ -10,7 +10,7 @@ use Rattle.member_table.specs.Best.{best_entry}
 use Rattle.member_table.specs.Planning.{change_of}
 use Rattle.member_table.specs.Refusals.{refusal}
 use Rattle.member_table.specs.Tables.{TableOf, after, rank_of}
-use Rattle.member_table.specs.Timeouts.{is_hard_due, is_idle_due, serials_of}
+use Rattle.member_table.specs.Timeouts.{is_hard_due, is_idle_due, serials_of, without_expired}
 use Rattle.member_table.specs.declared.fault.TableFault.TheVariants.{Overlap, Entries}
 
 -- IPv4 packets to addresses, and from addresses
@@ -82,6 +82,10 @@ ExactIsAbove = rank_of (record (message 0 5 everything 1) { m = 0 ∷ 0 ∷ 0 �
 abbrev pub TimesAreUp : Type 0
 TimesAreUp = (serials_of (is_idle_due 109) two.entries ≡ []) × (serials_of (is_idle_due 110) two.entries ≡ 1 ∷ 2 ∷ [])
     × (serials_of (is_hard_due 129) two.entries ≡ []) × (serials_of (is_hard_due 130) two.entries ≡ 1 ∷ 2 ∷ []) × (serials_of (is_idle_due 130) two.entries ≡ [])
+
+-- what has stood for its hard timeout goes, and what came later stays
+abbrev pub ExpiredGo : Type 0
+ExpiredGo = (shown (without_expired 129 two) ≡ shown two) × (shown (without_expired 130 two) ≡ []) × (shown (without_expired 130 (after two (message 0 200 to_host 9) 105)) ≡ (3, to 9) ∷ [])
 
 -- an IPv4 packet to an address
 abbrev pub packet : ℕ → HeaderOf

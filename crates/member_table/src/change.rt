@@ -1,7 +1,11 @@
 //! What a message changes in a table, and whose time is up.
+ghost use Rattle.std.specs.Prelude.{◌≡◌};
+ghost use Rattle.member_table.specs.Planning.{removing};
+
 use crate::entry::Entry;
 use cv_io::List;
 use of10_actions::Action;
+use std::alloc::Global;
 
 /// Other actions for an entry.
 #[derive(PartialEq, Eq, Debug, Drop)]
@@ -18,6 +22,19 @@ pub struct Change {
     pub added: Option<Entry>,
     pub removed: List<u64>,
     pub modified: List<Modified>,
+}
+
+impl Change {
+    /// The change by which entries go.
+    pub fn removal(alloc: Global, serials: List<u64>) -> Change
+        ensures { result ≡ removing serials }
+    {
+        Change {
+            added: None,
+            removed: serials,
+            modified: List::new(alloc),
+        }
+    }
 }
 
 /// The serial numbers of the entries whose time is up, rising: those that have stood too long, and of

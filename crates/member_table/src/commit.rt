@@ -1,6 +1,7 @@
 //! Changes are made.
 ghost use Rattle.std.specs.Prelude.{◌≡◌, ◌≤◌, ◌+◌, filter, map};
-ghost use Rattle.member_table.specs.Changes.{CanCommit, changed_by, committed, replaced as replaced_of, stays};
+ghost use Rattle.std.specs.List.{AllByRecursion};
+ghost use Rattle.member_table.specs.Changes.{CanCommit, IsInRange, changed_by, committed, replaced as replaced_of, stays};
 
 use crate::change::{Change, Modified};
 use crate::entry::Entry;
@@ -41,8 +42,20 @@ impl Table {
         }
     }
 
-    /// Takes entries out but the one whose place is taken. The last go first, so that less moves up.
-    fn remove_all(&mut self, mut serials: List<u64>, place: Option<u64>)
+    /// Takes entries out but the one whose place is taken: many in one pass, and one alone by its place.
+    fn remove_all(&mut self, serials: List<u64>, place: Option<u64>)
+        ensures table { self.new.table ≡ record self.old.table { entries = filter (stays serials place) self.old.table.entries } }
+        ensures room { self.new.room ≡ self.old.room }
+    {
+        if serials.len() > 1 {
+            self.drop_all(serials, place);
+        } else {
+            self.drop_each(serials, place);
+        }
+    }
+
+    /// Takes entries out but the one whose place is taken, one after the other.
+    fn drop_each(&mut self, mut serials: List<u64>, place: Option<u64>)
         ensures table { self.new.table ≡ record self.old.table { entries = filter (stays serials place) self.old.table.entries } }
         ensures room { self.new.room ≡ self.old.room }
     {
@@ -55,6 +68,7 @@ impl Table {
 
     /// Gives entries other actions.
     fn modify_all(&mut self, mut modified: List<Modified>)
+        requires { AllByRecursion IsInRange modified }
         ensures table { self.new.table ≡ record self.old.table { entries = map (changed_by modified) self.old.table.entries } }
         ensures room { self.new.room ≡ self.old.room }
     {

@@ -4,15 +4,16 @@
 #![tactic(auto)]
 
 pub mod change;
-pub mod command;
 mod commit;
 mod copy;
 mod due;
 pub mod entry;
 pub mod fault;
+pub mod laws;
 mod order;
 mod places;
 mod plan;
+pub mod rank;
 mod ranked;
 mod ranks;
 pub mod table;
@@ -22,7 +23,7 @@ mod wanted;
 pub mod worked;
 
 pub use change::{Change, Due, Modified};
-pub use command::Command;
 pub use entry::{Entry, Identity};
 pub use fault::TableFault;
+pub use rank::rank_of;
 pub use table::Table;

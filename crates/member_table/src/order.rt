@@ -1,13 +1,14 @@
 //! Entries in the order of insertion.
-ghost use Rattle.std.specs.Prelude.{◌≡◌, ◌==◌, ◌<◌, ◌≤◌, ◌+◌, ◌-◌, ◌&&◌, ℕ, Bool, [], None, cond, nat_eq, OnOk, IfOk, length, find, filter, map, not, false, true, if◌then◌else◌, vec_len, vec_capacity};
+ghost use Rattle.std.specs.Prelude.{◌≡◌, ◌==◌, ◌<◌, ◌≤◌, ◌+◌, ◌-◌, ◌&&◌, ℕ, Bool, List, [], None, cond, is_some, nat_eq, OnOk, IfOk, length, find, filter, map, not, false, true, if◌then◌else◌, vec_len, vec_capacity};
 ghost use Rattle.std.specs.List.{list_any, slice_get};
 ghost use Rattle.std.specs.Option.{option_and_then, option_copied, option_map_or};
 ghost use Rattle.indexmap.specs.IndexMap.{get, spare};
-ghost use Rattle.member_table.specs.Changes.{is_number};
-ghost use Rattle.member_table.specs.Orders.{numbered, unnumbered};
+ghost use Rattle.member_table.specs.Changes.{is_number, stays};
+ghost use Rattle.member_table.specs.InsideOrders.{IsIndexed, numbered, unnumbered};
 ghost use Rattle.member_table.specs.Timeouts.{serials_of};
-ghost use Rattle.member_table.specs.Wanting.{is_wanted as is_wanted_of};
-ghost use Rattle.member_table.specs.Entries.{has_serial, identity_of, is_at, put as put_of};
+ghost use Rattle.member_table.specs.InsideWanting.{is_wanted as is_wanted_of};
+ghost use Rattle.member_table.specs.Entries.{has_serial, identity_of, is_at, put as put_of, same_identity};
+ghost use Rattle.member_table.specs.declared.entry.Entry.{Entry as EntryOf};
 
 use crate::entry::{Entry, Identity};
 use crate::places::place_of;
@@ -32,7 +33,7 @@ impl Model for Order {
     ghost use Rattle.std.specs.Prelude.{◌-◌, min, nat_eq, vec_capacity, vec_len};
     ghost use Rattle.indexmap.specs.IndexMap.{get, spare};
     ghost use Rattle.member_table.specs.Entries.{same_identity};
-    ghost use Rattle.member_table.specs.Orders.{OrderOf, IsInStep, listed};
+    ghost use Rattle.member_table.specs.InsideOrders.{OrderOf, IsInStep, listed};
 
     ghost Value = { OrderOf };
 
@@ -71,6 +72,46 @@ fn take(entries: &mut IndexMap<u64, Entry>, replaced: Option<u64>) -> Option<Ent
         Some(serial) => entries.swap_remove(&serial),
         None => None,
     }
+}
+
+/// Takes out the entry of a number, and its identity.
+fn take_one(entries: &mut IndexMap<u64, Entry>, numbers: &mut IndexMap<Identity, u64>, serial: u64)
+    ensures indexed { (es : List EntryOf) → IsIndexed (get nat_eq entries.old) (get same_identity numbers.old) es
+        → IsIndexed (get nat_eq entries.new) (get same_identity numbers.new) (filter (λ e. not (has_serial serial e)) es) }
+    ensures entries_room { spare entries.old ≤ spare entries.new }
+    ensures numbers_room { spare numbers.old ≤ spare numbers.new }
+{
+    if let Some(entry) = entries.swap_remove(&serial) {
+        numbers.swap_remove(&entry.identity());
+    }
+}
+
+/// Takes out the entries of some numbers, and their identities, but for one.
+fn take_all(
+    entries: &mut IndexMap<u64, Entry>,
+    numbers: &mut IndexMap<Identity, u64>,
+    mut serials: List<u64>,
+    place: Option<u64>,
+)
+    ensures indexed { (es : List EntryOf) → IsIndexed (get nat_eq entries.old) (get same_identity numbers.old) es
+        → IsIndexed (get nat_eq entries.new) (get same_identity numbers.new) (filter (stays serials place) es) }
+    ensures entries_room { spare entries.old ≤ spare entries.new }
+    ensures numbers_room { spare numbers.old ≤ spare numbers.new }
+{
+    while let Some(serial) = serials.pop() {
+        if place != Some(serial) {
+            take_one(entries, numbers, serial);
+        }
+    }
+}
+
+/// Keeps the numbers that have entries.
+fn keep_known(serials: &mut Vec<u64>, entries: &IndexMap<u64, Entry>)
+    ensures numbers { serials.new.items ≡ filter (λ s. is_some (get nat_eq entries.now s)) serials.old.items }
+    ensures length { vec_len serials.new ≤ vec_len serials.old }
+    ensures capacity { vec_capacity serials.new ≡ vec_capacity serials.old }
+{
+    serials.retain(|serial| entries.contains_key(serial));
 }
 
 /// Takes a number out. The others keep their order.
@@ -129,6 +170,13 @@ impl Order {
         self.entries.get(&serial)
     }
 
+    /// Whether an entry has the serial number.
+    pub fn has(&self, serial: u64) -> bool
+        ensures { result ≡ list_any (has_serial serial) self.now.entries }
+    {
+        self.entries.contains_key(&serial)
+    }
+
     /// The entry of an identity.
     pub fn identical(&self, identity: &Identity) -> Option<&Entry>
         ensures { option_copied result ≡ find (is_at identity.now) self.now.entries }
@@ -165,6 +213,15 @@ impl Order {
         self.numbers.swap_remove(&entry.identity());
         forget(&mut self.serials, serial);
         Some(entry)
+    }
+
+    /// Takes entries out in one pass, but the one whose place is taken. The others keep their order.
+    pub fn remove_all(&mut self, serials: List<u64>, place: Option<u64>)
+        ensures entries { self.new.entries ≡ filter (stays serials place) self.old.entries }
+        ensures room { self.old.room ≤ self.new.room }
+    {
+        take_all(&mut self.entries, &mut self.numbers, serials, place);
+        keep_known(&mut self.serials, &self.entries);
     }
 
     /// Gives an entry other actions; false where there is no such entry.

@@ -1,38 +1,33 @@
 //! Changes are planned.
 ghost use Rattle.std.specs.Prelude.{◌≡◌, ◌≤◌, ◌+◌, ◌<◌, ◌^◌, [], ◌∷◌, ◌&&◌, true, false, Bool, Some, None, IfOk, IfErr, OnOk, map, find, option_map, if◌then◌else◌};
 ghost use Rattle.std.specs.List.{list_any};
+ghost use Rattle.of10_match.specs.Normal.{IsNormal};
+ghost use Rattle.of10_actions.specs.Actions.{AreInRange};
 ghost use Rattle.member_table.specs.Entries.{is_at};
 ghost use Rattle.member_table.specs.Changes.{CanCommit, committed};
-ghost use Rattle.member_table.specs.Planning.{adding, addition, change_of, modification, removal};
-ghost use Rattle.member_table.specs.Refusals.{IsFaultOf, refusal, refusal_of, refusal_unless};
-ghost use Rattle.member_table.specs.Tables.{after, entry_of as entry_described, identity_in, is_meant, outputs_to};
+ghost use Rattle.member_table.specs.Planning.{adding, addition, change_by_command, change_of, modification, removal};
+ghost use Rattle.member_table.specs.Refusals.{IsFaultOf, refusal, refusal_by_command, refusal_of, refusal_unless};
+ghost use Rattle.member_table.specs.Tables.{after, after_command, entry_of as entry_described, identity_in, is_meant, outputs_to};
 ghost use Rattle.member_table.specs.Timeouts.{serials_of};
 
 use crate::change::{Change, Modified};
-use crate::command::Command;
 use crate::entry::{Entry, Identity};
 use crate::fault::TableFault;
 use crate::table::Table;
 use crate::wanted::Wanted;
 use cv_io::{Duplicate, List, Memory};
 use of10_actions::{Action, port};
-use of10_msgs::FlowMod;
+use of10_msgs::{Command, FlowMod};
 use std::alloc::Global;
-
-/// The rank of an entry whose match is written without a wildcard, above every priority (section 3.4).
-const EXACT: u32 = 65536;
 
 /// The rank and the match of a message.
 fn identity_of(m: &FlowMod) -> Identity
-    ensures { result ≡ identity_in m.now }
+    ensures identity { result ≡ identity_in m.now }
+    ensures normal { IsNormal result.normal }
 {
     let read = of10_match::read(&m.m);
     Identity {
-        rank: if read.exact {
-            EXACT
-        } else {
-            u32::from(m.priority)
-        },
+        rank: of10_match::rank(read.exact, m.priority),
         normal: read.normal,
     }
 }
@@ -84,10 +79,10 @@ fn alone(alloc: Global, wanted: bool, serial: u64) -> Result<Vec<u64>, Memory>
 }
 
 impl Table {
-    /// Plans what a message changes at a moment. It takes all memory that the change needs, and leaves
+    /// Plans what a message changes at a moment; a command above 4 changes nothing. It takes all memory that the change needs, and leaves
     /// the entries as they are.
     pub fn plan(&mut self, m: &FlowMod, now: u64) -> Result<Change, TableFault>
-        requires { m.now.command ≤ 4 }
+        requires { AreInRange m.now.actions }
         ensures change { IfOk result (λ change. change ≡ change_of self.old.table m.now now) }
         ensures planned { IfOk result (λ change. committed self.old.table change ≡ after self.old.table m.now now) }
         ensures ready { IfOk result (CanCommit self.new) }
@@ -98,8 +93,32 @@ impl Table {
     {
         // The proof learns what is true of every table.
         let _ = &self.next;
-        let identity = identity_of(m);
         match Command::from_number(m.command) {
+            Some(command) => self.plan_command(command, m, now),
+            None => Ok(Change::removal(self.alloc, List::new(self.alloc))),
+        }
+    }
+
+    /// Plans what a command changes at a moment.
+    fn plan_command(
+        &mut self,
+        command: Command,
+        m: &FlowMod,
+        now: u64,
+    ) -> Result<Change, TableFault>
+        requires { AreInRange m.now.actions }
+        ensures change { IfOk result (λ change. change ≡ change_by_command command self.old.table m.now now) }
+        ensures planned { IfOk result (λ change. committed self.old.table change ≡ after_command command self.old.table m.now now) }
+        ensures ready { IfOk result (CanCommit self.new) }
+        ensures accepted { OnOk result (refusal_by_command command self.old.table m.now ≡ None) }
+        ensures fault { IfErr result (IsFaultOf (refusal_by_command command self.old.table m.now)) }
+        ensures table { self.new.table ≡ self.old.table }
+        ensures room { self.old.room ≤ self.new.room }
+    {
+        // The proof learns what is true of every table.
+        let _ = &self.next;
+        let identity = identity_of(m);
+        match command {
             Command::Add => self.plan_entry(m, &identity, now),
             Command::Modify => self.plan_actions(false, m, &identity, now),
             Command::ModifyStrict => self.plan_actions(true, m, &identity, now),
@@ -161,7 +180,9 @@ impl Table {
         asked: &Identity,
         now: u64,
     ) -> Result<Change, TableFault>
-        requires { asked.now ≡ identity_in m.now }
+        requires identity { asked.now ≡ identity_in m.now }
+        requires normal { IsNormal asked.now.normal }
+        requires in_range { AreInRange m.now.actions }
         ensures change { IfOk result (λ change. change ≡ modification strict self.old.table m.now now) }
         ensures ready { IfOk result (CanCommit self.new) }
         ensures accepted { OnOk result (refusal_unless strict self.old.table m.now ≡ None) }
@@ -182,7 +203,9 @@ impl Table {
 
     /// Plans the entry that a message describes.
     fn plan_entry(&mut self, m: &FlowMod, asked: &Identity, now: u64) -> Result<Change, TableFault>
-        requires { asked.now ≡ identity_in m.now }
+        requires identity { asked.now ≡ identity_in m.now }
+        requires normal { IsNormal asked.now.normal }
+        requires in_range { AreInRange m.now.actions }
         ensures change { IfOk result (λ change. change ≡ addition self.old.table m.now now) }
         ensures ready { IfOk result (CanCommit self.new) }
         ensures accepted { OnOk result (refusal_of (identity_in m.now) self.old.table ≡ None) }
@@ -213,14 +236,15 @@ impl Table {
         }
     }
 
-    /// Makes room for one more entry. A table that has given every number has none.
+    /// Makes room for one more entry. A table that has given its last number has none; it keeps two of 64
+    /// bits back, so that two more than a number fits.
     fn reserve(&mut self) -> Result<(), Memory>
         ensures table { self.new.table ≡ self.old.table }
         ensures kept { self.old.room ≤ self.new.room }
         ensures room { OnOk result (0 < self.new.room) }
-        ensures more { OnOk result (self.new.table.next + 1 < 2 ^ 64) }
+        ensures more { OnOk result (self.new.table.next + 2 < 2 ^ 64) }
     {
-        if self.next == u64::MAX {
+        if self.next >= u64::MAX - 1 {
             return Err(Memory);
         }
         if self.room == 0 {

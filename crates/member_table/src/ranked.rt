@@ -2,7 +2,7 @@
 ghost use Rattle.std.specs.Prelude.{◌≡◌, ◌<◌, ◌≤◌, length, take, drop, find};
 ghost use Rattle.std.specs.List.{AllByRecursion};
 ghost use Rattle.std.specs.Option.{option_copied};
-ghost use Rattle.member_table.specs.Ranking.{IsLeastOf, RanksFall, holds_it, is_in_way as is_in_way_of, lesser as lesser_of, ranked_of};
+ghost use Rattle.member_table.specs.InsideRanking.{IsLeastOf, RanksFall, holds_it, is_in_way as is_in_way_of, lesser as lesser_of, ranked_of};
 
 use crate::entry::{Entry, Identity};
 use of10_match::Header;

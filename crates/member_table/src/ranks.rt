@@ -1,10 +1,12 @@
 //! The matches of a table's entries, found by their ranks.
-ghost use Rattle.std.specs.Prelude.{◌≡◌, ◌<◌, ◌≤◌, ◌+◌, [], true, false, MatchOption, IfOk, OnOk, option_map};
+ghost use Rattle.std.specs.Prelude.{◌≡◌, ◌==◌, ◌<◌, ◌≤◌, ◌+◌, [], true, false, MatchOption, IfOk, OnOk, filter, option_map, vec_len, vec_capacity};
 ghost use Rattle.std.specs.List.{list_any};
 ghost use Rattle.std.specs.Option.{ForSome};
-ghost use Rattle.member_table.specs.Ranking.{AddsTo, Exchanges, ranked_of, IsLeastOf, IsTop, holds_it, is_in_way, same_ranked};
+ghost use Rattle.member_table.specs.Entries.{has_serial};
+ghost use Rattle.member_table.specs.InsideRanking.{AddsTo, Exchanges, ranked_of, IsLeastOf, IsTop, holds_it, is_in_way, same_ranked};
 
 use crate::entry::{Entry, Identity};
+use crate::order::Order;
 use crate::places::place_of;
 use crate::ranked::{Ranked, count_from, first_that_holds, least_in_way};
 use cv_io::Memory;
@@ -22,13 +24,22 @@ pub struct Ranks {
 
 impl Model for Ranks {
     ghost use Rattle.std.specs.Prelude.{◌-◌, vec_len, vec_capacity};
-    ghost use Rattle.member_table.specs.Ranking.{RanksOf, RanksFall};
+    ghost use Rattle.member_table.specs.InsideRanking.{RanksOf, RanksFall};
 
     ghost Value = { RanksOf };
 
     ghost view = { λ a. record { items = a.items.items; room = vec_capacity a.items - vec_len a.items } };
 
     ghost invariant = { λ a. RanksFall a.items.items };
+}
+
+/// Keeps what an order has the entries of.
+fn keep_items(items: &mut Vec<Ranked>, order: &Order)
+    ensures items { items.new.items ≡ filter (λ r. list_any (has_serial r.serial) order.now.entries) items.old.items }
+    ensures length { vec_len items.new ≤ vec_len items.old }
+    ensures capacity { vec_capacity items.new ≡ vec_capacity items.old }
+{
+    items.retain(|item| order.has(item.serial));
 }
 
 impl Ranks {
@@ -92,6 +103,22 @@ impl Ranks {
             self.remove(&Ranked::of(&old));
         }
         self.insert(item);
+    }
+
+    /// Keeps the matches of the entries that an order has.
+    pub fn keep(&mut self, order: &Order)
+        ensures items { self.new.items ≡ filter (λ r. list_any (has_serial r.serial) order.now.entries) self.old.items }
+        ensures room { self.old.room ≤ self.new.room }
+    {
+        keep_items(&mut self.items, order);
+    }
+
+    /// Whether a match has the rank.
+    pub fn has(&self, rank: u32) -> bool
+        ensures { result ≡ list_any (λ r. rank == r.identity.rank) self.now.items }
+    {
+        let rank = u64::from(rank);
+        count_from(&self.items, rank + 1) < count_from(&self.items, rank)
     }
 
     /// The least serial number of a match that overlaps a new one of its rank and isn't the same.

@@ -8,6 +8,7 @@ use crate::entry::Entry;
 use crate::order::Order;
 use crate::ranked::Ranked;
 use crate::ranks::Ranks;
+use cv_io::List;
 use of10_match::Header;
 use std::alloc::Global;
 use std::marker::Model;
@@ -25,7 +26,7 @@ pub struct Table {
 
 impl Model for Table {
     ghost use Rattle.member_table.specs.Tables.{Held};
-    ghost use Rattle.member_table.specs.Sound.{IsKept};
+    ghost use Rattle.member_table.specs.InsideKept.{IsKept};
 
     ghost Value = { Held };
 
@@ -35,9 +36,9 @@ impl Model for Table {
 }
 
 impl Table {
-    ghost use Rattle.member_table.specs.Tables.{TableOf, with_actions};
+    ghost use Rattle.member_table.specs.Tables.{TableOf, has_rank as has_rank_of, with_actions};
     ghost use Rattle.member_table.specs.Entries.{has_serial, identity_of, put as put_of};
-    ghost use Rattle.member_table.specs.Changes.{CanAdd};
+    ghost use Rattle.member_table.specs.Changes.{CanAdd, IsInRange, stays};
     ghost use Rattle.member_table.specs.Sound.{IsSound};
     ghost use Rattle.member_table.specs.Best.{best_entry};
 
@@ -93,6 +94,13 @@ impl Table {
         }
     }
 
+    /// Whether an entry has the rank.
+    pub fn has_rank(&self, rank: u32) -> bool
+        ensures { result ≡ list_any (has_rank_of rank) self.now.table.entries }
+    {
+        self.ranks.has(rank)
+    }
+
     /// Takes an entry out; the others keep their order. False where there is no such entry.
     pub fn drop_serial(&mut self, serial: u64) -> bool
         ensures table { self.new.table ≡ record self.old.table { entries = filter (λ e. not (has_serial serial e)) self.old.table.entries } }
@@ -117,8 +125,18 @@ impl Table {
         self.order.set_last(serial, now)
     }
 
+    /// Takes entries out in one pass, but the one whose place is taken. The others keep their order.
+    pub(crate) fn drop_all(&mut self, serials: List<u64>, place: Option<u64>)
+        ensures table { self.new.table ≡ record self.old.table { entries = filter (stays serials place) self.old.table.entries } }
+        ensures room { self.new.room ≡ self.old.room }
+    {
+        self.order.remove_all(serials, place);
+        self.ranks.keep(&self.order);
+    }
+
     /// Gives an entry other actions, where it is there.
     pub(crate) fn modify(&mut self, modified: Modified)
+        requires { IsInRange modified }
         ensures table { self.new.table ≡ record self.old.table { entries = map (λ e. if has_serial modified.serial e then with_actions modified.actions e else e) self.old.table.entries } }
         ensures room { self.new.room ≡ self.old.room }
     {

@@ -1,3 +1,6 @@
+ghost use Rattle.std.specs.Prelude.{IfOk};
+ghost use Rattle.of10_actions.specs.Actions.{AreInRange};
+
 use super::*;
 use cv_io::{Duplicate, List};
 use of10_actions::{Action, port};
@@ -50,7 +53,9 @@ fn message(
     m: [u8; MATCH],
     output: u16,
     out_port: u16,
-) -> Result<FlowMod, Fail> {
+) -> Result<FlowMod, Fail>
+    ensures { IfOk result (λ m. AreInRange m.actions) }
+{
     let to = Action::Output {
         port: output,
         max_len: 0,
@@ -70,13 +75,21 @@ fn message(
 }
 
 /// Plans a message and makes the change.
-fn apply(table: &mut Table, m: &FlowMod, now: u64) -> Result<(), TableFault> {
-    if m.command > 4 {
-        return Ok(());
-    }
+fn apply(table: &mut Table, m: &FlowMod, now: u64) -> Result<(), TableFault>
+    requires { AreInRange m.now.actions }
+{
     let change = table.plan(m, now)?;
     table.commit(change);
     Ok(())
+}
+
+/// An entry as its number and the port that it sends to.
+fn one_shown(alloc: Global, entry: &Entry) -> Result<String, Fail> {
+    let to = match entry.actions.get(0) {
+        Some(Action::Output { port, .. }) => *port,
+        _ => 0,
+    };
+    Ok(format!(in alloc; " {}>{to}", entry.serial)?)
 }
 
 /// The entries as their numbers and the ports that they send to.
@@ -84,12 +97,7 @@ fn shown(alloc: Global, table: &Table) -> Result<String, Fail> {
     let mut text = String::new(alloc);
     for place in 0..table.len() {
         if let Some(entry) = table.at(place) {
-            let to = match entry.actions.get(0) {
-                Some(Action::Output { port, .. }) => *port,
-                _ => 0,
-            };
-            let one = format!(in alloc; " {}>{to}", entry.serial)?;
-            text.push_str(one.as_str())?;
+            text.push_str(one_shown(alloc, entry)?.as_str())?;
         }
     }
     Ok(text)
@@ -113,117 +121,85 @@ fn six(alloc: Global, limit: u32) -> Result<Table, Fail> {
     Ok(table)
 }
 
-/// What a message makes of the six entries.
-fn shown_after(
-    alloc: Global,
-    command: u16,
-    priority: u16,
-    in_port: Option<u16>,
-    out_port: u16,
-) -> Result<String, Fail> {
-    let mut table = six(alloc, 7)?;
+/// A message to the six entries: the limit of the table, the command, the priority, the in_port and the
+/// out_port.
+#[derive(Clone, Copy)]
+struct Row(u32, u16, u16, Option<u16>, u16);
+
+/// What a message makes of the six entries, or why it is refused.
+fn shown_after(alloc: Global, row: Row) -> Result<String, Fail> {
+    let Row(limit, command, priority, in_port, out_port) = row;
+    let mut table = six(alloc, limit)?;
     let m = message(alloc, command, priority, from_port(in_port), 9, out_port)?;
-    apply(&mut table, &m, 8)?;
-    shown(alloc, &table)
+    match apply(&mut table, &m, 8) {
+        Ok(()) => shown(alloc, &table),
+        Err(fault) => Ok(format!(in alloc; "{fault}")?),
+    }
 }
+
+const ROWS: [(Row, &str); 16] = [
+    (
+        Row(7, ADD, 10, Some(2), port::NONE),
+        " 1>1 7>9 3>3 4>4 5>1 6>65531",
+    ),
+    (
+        Row(7, ADD, 10, Some(5), port::NONE),
+        " 1>1 2>2 3>3 4>4 5>1 6>65531 7>9",
+    ),
+    (
+        Row(7, MODIFY, 0, Some(1), port::NONE),
+        " 1>9 2>2 3>9 4>4 5>1 6>65531",
+    ),
+    (
+        Row(7, MODIFY, 3, Some(9), port::NONE),
+        " 1>1 2>2 3>3 4>4 5>1 6>65531 7>9",
+    ),
+    (
+        Row(7, MODIFY_STRICT, 20, Some(1), port::NONE),
+        " 1>1 2>2 3>9 4>4 5>1 6>65531",
+    ),
+    (Row(7, DELETE, 0, None, port::NONE), ""),
+    (Row(7, DELETE, 0, None, 1), " 2>2 3>3 4>4 6>65531"),
+    (Row(7, DELETE, 0, None, port::FLOOD), " 1>1 2>2 3>3 4>4 5>1"),
+    (
+        Row(7, DELETE_STRICT, 30, None, port::NONE),
+        " 1>1 2>2 3>3 5>1 6>65531",
+    ),
+    (
+        Row(7, DELETE_STRICT, 30, None, 9),
+        " 1>1 2>2 3>3 4>4 5>1 6>65531",
+    ),
+    (
+        Row(7, ADD, 10, None, port::NONE),
+        "the entry 1 has the same rank and overlaps",
+    ),
+    (
+        Row(7, ADD, 5, None, port::NONE),
+        "the entry 5 has the same rank and overlaps",
+    ),
+    (
+        Row(6, MODIFY_STRICT, 10, None, port::NONE),
+        "the entry 1 has the same rank and overlaps",
+    ),
+    (
+        Row(6, ADD, 10, Some(5), port::NONE),
+        "the table holds its limit of 6 entries",
+    ),
+    (
+        Row(6, MODIFY, 10, Some(5), port::NONE),
+        "the table holds its limit of 6 entries",
+    ),
+    (
+        Row(6, ADD, 20, Some(1), port::NONE),
+        " 1>1 2>2 7>9 4>4 5>1 6>65531",
+    ),
+];
 
 #[test]
 fn five_commands_over_six_entries(rt: HostRuntime) -> Result<(), Fail> {
-    let alloc = rt.alloc();
-    let rows = [
-        (ADD, 10, Some(2), port::NONE, " 1>1 7>9 3>3 4>4 5>1 6>65531"),
-        (
-            ADD,
-            10,
-            Some(5),
-            port::NONE,
-            " 1>1 2>2 3>3 4>4 5>1 6>65531 7>9",
-        ),
-        (
-            MODIFY,
-            0,
-            Some(1),
-            port::NONE,
-            " 1>9 2>2 3>9 4>4 5>1 6>65531",
-        ),
-        (
-            MODIFY,
-            3,
-            Some(9),
-            port::NONE,
-            " 1>1 2>2 3>3 4>4 5>1 6>65531 7>9",
-        ),
-        (
-            MODIFY_STRICT,
-            20,
-            Some(1),
-            port::NONE,
-            " 1>1 2>2 3>9 4>4 5>1 6>65531",
-        ),
-        (
-            MODIFY_STRICT,
-            21,
-            Some(1),
-            port::NONE,
-            " 1>1 2>2 3>3 4>4 5>1 6>65531 7>9",
-        ),
-        (DELETE, 0, None, port::NONE, ""),
-        (DELETE, 0, None, 1, " 2>2 3>3 4>4 6>65531"),
-        (DELETE, 0, None, port::FLOOD, " 1>1 2>2 3>3 4>4 5>1"),
-        (
-            DELETE_STRICT,
-            30,
-            None,
-            port::NONE,
-            " 1>1 2>2 3>3 5>1 6>65531",
-        ),
-        (DELETE_STRICT, 30, None, 9, " 1>1 2>2 3>3 4>4 5>1 6>65531"),
-        (
-            DELETE_STRICT,
-            31,
-            None,
-            port::NONE,
-            " 1>1 2>2 3>3 4>4 5>1 6>65531",
-        ),
-    ];
-    for (command, priority, in_port, out_port, want) in rows {
-        let got = shown_after(alloc, command, priority, in_port, out_port)?;
-        assert_eq!(rt; got.as_str(), want, "command {command} at {priority}");
-    }
-    Ok(())
-}
-
-/// Why a message to the six entries of a full table is refused.
-fn refused(
-    alloc: Global,
-    command: u16,
-    priority: u16,
-    in_port: Option<u16>,
-) -> Result<Option<TableFault>, Fail> {
-    let mut table = six(alloc, 6)?;
-    let m = message(alloc, command, priority, from_port(in_port), 9, port::NONE)?;
-    Ok(apply(&mut table, &m, 8).err())
-}
-
-#[test]
-fn refusals(rt: HostRuntime) -> Result<(), Fail> {
-    let alloc = rt.alloc();
-    let rows: [(u16, u16, Option<u16>, Option<TableFault>); 6] = [
-        (ADD, 10, None, Some(TableFault::Overlap { with: 1 })),
-        (ADD, 5, None, Some(TableFault::Overlap { with: 5 })),
-        (
-            MODIFY_STRICT,
-            10,
-            None,
-            Some(TableFault::Overlap { with: 1 }),
-        ),
-        (ADD, 10, Some(5), Some(TableFault::Entries { limit: 6 })),
-        (MODIFY, 10, Some(5), Some(TableFault::Entries { limit: 6 })),
-        (ADD, 20, Some(1), None),
-    ];
-    for (command, priority, in_port, want) in rows {
-        let got = refused(alloc, command, priority, in_port)?;
-        assert_eq!(rt; got, want, "command {command} at {priority}");
+    for (row, want) in ROWS {
+        let got = shown_after(rt.alloc(), row)?;
+        assert_eq!(rt; got.as_str(), want);
     }
     Ok(())
 }
@@ -240,37 +216,31 @@ fn timed(alloc: Global) -> Result<Table, Fail> {
     Ok(table)
 }
 
-/// The numbers that are due, by their hard timeouts and by their idle ones.
-fn due_shown(alloc: Global, table: &Table, now: u64) -> Result<String, Fail> {
+/// The numbers that are due, by their hard timeouts and by their idle ones, once the second entry has had
+/// a packet.
+fn due_shown(alloc: Global, touched: u64, now: u64) -> Result<String, Fail> {
+    let mut table = timed(alloc)?;
+    let there = table.touch(2, touched);
     let due = table.due(now)?;
-    Ok(format!(in alloc; "{:?} {:?}", due.hard.as_slice(), due.idle.as_slice())?)
+    Ok(format!(in alloc;
+        "{there} {:?} {:?}",
+        due.hard.as_slice(),
+        due.idle.as_slice()
+    )?)
 }
 
 #[test]
 fn timeouts_are_due_at_their_second(rt: HostRuntime) -> Result<(), Fail> {
-    let alloc = rt.alloc();
-    let table = timed(alloc)?;
-    for (now, want) in [
-        (104, "[] []"),
-        (105, "[4] [2]"),
-        (109, "[4] [2]"),
-        (110, "[1, 4] [2]"),
+    for (touched, now, want) in [
+        (100, 104, "true [] []"),
+        (100, 105, "true [4] [2]"),
+        (100, 109, "true [4] [2]"),
+        (100, 110, "true [1, 4] [2]"),
+        (106, 110, "true [1, 4] []"),
+        (106, 111, "true [1, 4] [2]"),
     ] {
-        let got = due_shown(alloc, &table, now)?;
-        assert_eq!(rt; got.as_str(), want, "at {now}");
-    }
-    Ok(())
-}
-
-#[test]
-fn a_touched_entry_is_due_later(rt: HostRuntime) -> Result<(), Fail> {
-    let alloc = rt.alloc();
-    let mut table = timed(alloc)?;
-    assert!(rt; table.touch(2, 106));
-    assert!(rt; !table.touch(9, 106));
-    for (now, want) in [(110, "[1, 4] []"), (111, "[1, 4] [2]")] {
-        let got = due_shown(alloc, &table, now)?;
-        assert_eq!(rt; got.as_str(), want, "at {now}");
+        let got = due_shown(rt.alloc(), touched, now)?;
+        assert_eq!(rt; got.as_str(), want);
     }
     Ok(())
 }
@@ -313,47 +283,34 @@ fn exact() -> [u8; MATCH] {
     .to_bytes()
 }
 
-#[test]
-fn an_exact_match_is_above_every_priority(rt: HostRuntime) -> Result<(), Fail> {
-    let alloc = rt.alloc();
+/// What is found in a table: the best entry of the packet, whether ranks 10 and 65536 are there, and the
+/// priority of the entry of number 5.
+fn found(alloc: Global, table: &Table) -> Result<String, Fail> {
+    let best = table.best(&packet()).unwrap_or(0);
+    let priority = table.get(5).map_or(0, |entry| entry.priority);
+    Ok(format!(in alloc;
+        "{best} {} {} {priority}",
+        table.has_rank(10),
+        table.has_rank(65536)
+    )?)
+}
+
+/// Adds the exact match to the six entries, and copies the table before and after.
+fn copies(alloc: Global) -> Result<(Table, Table), Fail> {
     let mut table = six(alloc, 9)?;
-    assert_eq!(rt; table.best(&packet()), Some(4));
+    let before = table.copy()?;
     let m = message(alloc, ADD, 0, exact(), 1, port::NONE)?;
     apply(&mut table, &m, 8)?;
-    assert_eq!(rt; table.best(&packet()), Some(7));
-    Ok(())
+    Ok((before, table.copy()?))
 }
 
 #[test]
-fn entries_go_by_their_numbers(rt: HostRuntime) -> Result<(), Fail> {
-    let mut table = six(rt.alloc(), 6)?;
-    assert!(rt; table.drop_serial(4));
-    assert!(rt; !table.drop_serial(4));
-    assert_eq!(rt; table.best(&packet()), Some(3));
-    assert!(rt; table.get(4).is_none());
-    assert_eq!(rt; table.get(5).map(|entry| entry.priority), Some(5));
-    Ok(())
-}
-
-/// A table of one entry, whose number is 2.
-fn of_number_two(alloc: Global) -> Result<Table, Fail> {
-    let mut table = Table::new(alloc, 3);
-    for (in_port, output) in [(1, 4), (2, 5)] {
-        let m = message(alloc, ADD, 10, from_port(Some(in_port)), output, port::NONE)?;
-        apply(&mut table, &m, 7)?;
-    }
-    table.drop_serial(1);
-    Ok(table)
-}
-
-#[test]
-fn a_copy_goes_on_as_its_table(rt: HostRuntime) -> Result<(), Fail> {
-    let alloc = rt.alloc();
-    let table = of_number_two(alloc)?;
-    let mut copied = table.copy()?;
-    let m = message(alloc, ADD, 10, from_port(Some(3)), 6, port::NONE)?;
-    apply(&mut copied, &m, 8)?;
-    assert_eq!(rt; shown(alloc, &copied)?.as_str(), " 2>5 3>6");
-    assert_eq!(rt; shown(alloc, &table)?.as_str(), " 2>5");
+fn entries_are_found(rt: HostRuntime) -> Result<(), Fail> {
+    let (mut before, after) = copies(rt.alloc())?;
+    assert_eq!(rt; found(rt.alloc(), &before)?.as_str(), "4 true false 5");
+    assert_eq!(rt; found(rt.alloc(), &after)?.as_str(), "7 true true 5");
+    before.drop_serial(5);
+    before.drop_serial(4);
+    assert_eq!(rt; found(rt.alloc(), &before)?.as_str(), "3 true false 0");
     Ok(())
 }

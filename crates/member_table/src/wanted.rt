@@ -1,6 +1,6 @@
 //! Which entries of a table are asked for.
 ghost use Rattle.std.specs.Prelude.{◌≡◌};
-ghost use Rattle.member_table.specs.Wanting.{is_wanted};
+ghost use Rattle.member_table.specs.InsideWanting.{is_wanted};
 
 use crate::entry::Entry;
 use of10_match::Match;

@@ -1,10 +1,10 @@
-//! A worked example, computed by the checker.
-ghost use Rattle.member_table.specs.Worked.{ActionsChange, ChangesAreNamed, EntriesAreRefused, EntriesCome, EntriesGo, ExactIsAbove, HighestIsBest, TimesAreUp};
+//! Worked examples, computed by the checker.
+ghost use Rattle.member_table.specs.Worked.{ActionsChange, ChangesAreNamed, EntriesAreRefused, EntriesCome, EntriesGo, ExactIsAbove, HighestIsBest, ExpiredGo, TimesAreUp};
 
 /// A table of two entries, what the five commands make of it, what is refused, which entry is best,
-/// and when time is up.
+/// when time is up, and what is left then.
 #[tactic(auto, unfolding(crate::specs::Tables::is_output_to))]
-pub fn worked_table()
+pub fn worked_examples()
     ensures entries_come { EntriesCome }
     ensures actions_change { ActionsChange }
     ensures entries_go { EntriesGo }
@@ -13,4 +13,5 @@ pub fn worked_table()
     ensures exact_is_above { ExactIsAbove }
     ensures highest_is_best { HighestIsBest }
     ensures times_are_up { TimesAreUp }
+    ensures expired_go { ExpiredGo }
 {}

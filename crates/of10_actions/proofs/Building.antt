@@ -3,7 +3,7 @@ use Rattle.std.proofs.Common.{◌≡◌, ℕ, ◌+◌, ◌<◌, ◌≤◌, Bool,
 use Rattle.std.specs.Prelude.{◌==◌, if◌then◌else◌}
 use Rattle.std.specs.List.{list_any, AllByRecursion}
 use Rattle.std.proofs.lemmas.List.{append-nil, drop_all}
-use Rattle.of10_actions.specs.declared.port.TheConstants.{NORMAL}
+use Rattle.of10_actions.specs.Numbers.{NORMAL}
 use Rattle.of10_actions.specs.Fields.{RewriteOf}
 use Rattle.of10_actions.specs.Rewriting.{and_then, no_rewrite, Extends}
 use Rattle.of10_actions.specs.Effects.{set_by, dests_of, tail_of, outs_of, outs_before, ends_or, effects_from, effects_of, TailExtends, EachExtends, BuildsUp}

@@ -4,7 +4,7 @@ use Rattle.std.specs.Prelude.{IfSome}
 use Rattle.std.specs.Option.{option_or}
 use Rattle.of10_match.specs.Fields.{HeaderOf}
 use Rattle.of10_actions.specs.Fields.{RewriteOf}
-use Rattle.of10_actions.specs.Rewriting.{apply, and_then, no_rewrite, set_to, is_ip, has_ports}
+use Rattle.of10_actions.specs.Rewriting.{apply, and_then, no_rewrite, set_to, is_ip, has_tcp_udp}
 
 -- what holds of both values holds of the first that is there
 pub if_some_or : {A : Type 0} (P : A → Type 0) (x y : Option A) → IfSome x P → IfSome y P → IfSome (option_or x y) P
@@ -24,8 +24,8 @@ apply-and_then r s h = λ i. record h {
   nw_src = set-or (is_ip h.dl_type) s.nw_src r.nw_src h.nw_src i;
   nw_dst = set-or (is_ip h.dl_type) s.nw_dst r.nw_dst h.nw_dst i;
   nw_tos = set-or (is_ip h.dl_type) s.nw_tos r.nw_tos h.nw_tos i;
-  tp_src = set-or (has_ports h.dl_type h.nw_proto) s.tp_src r.tp_src h.tp_src i;
-  tp_dst = set-or (has_ports h.dl_type h.nw_proto) s.tp_dst r.tp_dst h.tp_dst i;
+  tp_src = set-or (has_tcp_udp h.dl_type h.nw_proto) s.tp_src r.tp_src h.tp_src i;
+  tp_dst = set-or (has_tcp_udp h.dl_type h.nw_proto) s.tp_dst r.tp_dst h.tp_dst i;
 }
 
 or-or : (a b c : Option ℕ) → option_or c (option_or b a) ≡ option_or (option_or c b) a

@@ -2,31 +2,31 @@
 use Rattle.std.proofs.Common.{◌≡◌, ℕ, Option, Some, None, refl}
 use Rattle.std.specs.Option.{option_or}
 use Rattle.of10_actions.specs.Fields.{RewriteOf}
-use Rattle.of10_actions.specs.Rewriting.{Covers, Extends, and_then}
+use Rattle.of10_actions.specs.Rewriting.{IsSetToo, Extends, and_then}
 
-covers-itself : (a : Option ℕ) → Covers a a
+covers-itself : (a : Option ℕ) → IsSetToo a a
 covers-itself None = tt
 covers-itself (Some v) = tt
 
-covers-onward : (c b a : Option ℕ) → Covers c b → Covers b a → Covers c a
+covers-onward : (c b a : Option ℕ) → IsSetToo c b → IsSetToo b a → IsSetToo c a
 covers-onward c b None p q = tt
 covers-onward (Some z) (Some y) (Some x) p q = tt
 covers-onward None (Some y) (Some x) p q = absurd p
 covers-onward c None (Some x) p q = absurd q
 
-covers-or : (a b : Option ℕ) → Covers (option_or b a) a
+covers-or : (a b : Option ℕ) → IsSetToo (option_or b a) a
 covers-or None b = tt
 covers-or (Some v) None = tt
 covers-or (Some v) (Some w) = tt
 
-covers-after : (a b c : Option ℕ) → Covers c b → Covers (option_or c a) (option_or b a)
+covers-after : (a b c : Option ℕ) → IsSetToo c b → IsSetToo (option_or c a) (option_or b a)
 covers-after a None None p = covers-itself a
 covers-after None None (Some z) p = tt
 covers-after (Some x) None (Some z) p = tt
 covers-after a (Some y) (Some z) p = tt
 covers-after a (Some y) None p = absurd p
 
-covers-absorbs : (a b : Option ℕ) → Covers b a → option_or b a ≡ b
+covers-absorbs : (a b : Option ℕ) → IsSetToo b a → option_or b a ≡ b
 covers-absorbs a (Some w) p = refl
 covers-absorbs None None p = refl
 covers-absorbs (Some v) None p = absurd p

@@ -1,7 +1,7 @@
 -- The spelling of the first actions of a list.
-use Rattle.std.proofs.Common.{◌≡◌, ℕ, ◌+◌, ◌<◌, ◌≤◌, List, [], ◌∷◌, ◌++◌, All, length, get_or, take, drop, sym, ap, subst, ◌∙◌, append_assoc, arith}
+use Rattle.std.proofs.Common.{◌≡◌, ℕ, ◌+◌, ◌<◌, List, [], ◌∷◌, ◌++◌, All, length, get_or, take, sym, ap, subst, ◌∙◌, append_assoc, arith}
 use Rattle.std.proofs.lemmas.Grind.{take_at_read, flat_map-append}
-use Rattle.std.proofs.lemmas.List.{append-nil, length-append, take-append-drop}
+use Rattle.std.proofs.lemmas.List.{append-nil, length-append}
 use Rattle.std.proofs.lemmas.List.Elements.{All-push}
 use Rattle.of10_actions.specs.declared.action.Action.{Action}
 use Rattle.of10_actions.specs.Kinds.{length_of, type_of}
@@ -25,12 +25,7 @@ written_more old new into xs i d lt so_far added =
 pub all_more : (P : Action → Type 0) (xs : List Action) (i : ℕ) (d : Action) → i < length xs → All P (take i xs) → P (get_or xs i d) → All P (take (i + 1) xs)
 all_more P xs i d lt so_far here = subst (All P) (sym (take_at_read xs i d lt).1) (All-push P (take i xs) (get_or xs i d) so_far here)
 
--- the length of one more action, which isn't above that of the list
+-- the length of one more action
 pub length_more : (xs : List Action) (i : ℕ) (d : Action) → i < length xs → length (spellings (take i xs)) + length_of (type_of (get_or xs i d)) ≡ length (spellings (take (i + 1) xs))
 length_more xs i d lt =
     omega (arith, ap length (spellings_more xs i d lt), length-append (spellings (take i xs)) (spelling (get_or xs i d)), spells_length (get_or xs i d) (spelling (get_or xs i d)) (spelling_spells (get_or xs i d)))
-
-pub length_le : (xs : List Action) (n : ℕ) → length (spellings (take n xs)) ≤ length (spellings xs)
-length_le xs n =
-    let whole : spellings xs ≡ spellings (take n xs) ++ spellings (drop n xs) = ap spellings (sym (take-append-drop n xs)) ∙ flat_map-append spelling (take n xs) (drop n xs) in
-    omega (arith, ap length whole, length-append (spellings (take n xs)) (spellings (drop n xs)))

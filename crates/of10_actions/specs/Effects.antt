@@ -2,6 +2,7 @@
 use Rattle.std.specs.Prelude.{ℕ, List, [], ◌∷◌, ◌++◌, map, Some, ◌==◌, ◌||◌, if◌then◌else◌}
 use Rattle.std.specs.List.{list_any, AllByRecursion}
 use Rattle.of10_actions.specs.Fields.{RewriteOf}
+use Rattle.of10_actions.specs.Numbers.{ACTION, IN_PORT, NORMAL, FLOOD, ALL, CONTROLLER}
 use Rattle.of10_actions.specs.Rewriting.{and_then, no_rewrite, Extends}
 use Rattle.of10_actions.specs.declared.action.Action.{Action}
 use Rattle.of10_actions.specs.declared.action.Action.TheVariants.{Output, SetDlSrc, SetDlDst, SetNwSrc, SetNwDst, SetNwTos, SetTpSrc, SetTpDst}
@@ -10,10 +11,8 @@ use Rattle.of10_actions.specs.declared.effects.Dest.TheVariants.{Port, Flood, In
 use Rattle.of10_actions.specs.declared.effects.Effects.{Effects}
 use Rattle.of10_actions.specs.declared.effects.Out.{Out}
 use Rattle.of10_actions.specs.declared.effects.PortView.{PortView}
-use Rattle.of10_actions.specs.declared.effects.TheConstants.{ACTION}
 use Rattle.of10_actions.specs.declared.effects.Tail.{Tail}
 use Rattle.of10_actions.specs.declared.effects.Tail.TheVariants.{Nothing, Pass, Link}
-use Rattle.of10_actions.specs.declared.port.TheConstants.{IN_PORT, NORMAL, FLOOD, ALL, CONTROLLER}
 
 -- the fields that an action sets
 abbrev pub set_by : Action → RewriteOf

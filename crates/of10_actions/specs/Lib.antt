@@ -1,4 +1,6 @@
 pub mod Fields
+pub mod Numbers
+pub mod Ports
 pub mod Ranges
 pub mod Rewriting
 pub mod Actions

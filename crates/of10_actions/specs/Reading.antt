@@ -7,10 +7,10 @@ use Rattle.of10_actions.specs.declared.fault.ActionFault.{ActionFault}
 use Rattle.of10_actions.specs.declared.fault.ActionFault.TheVariants.{BadType, BadLen, BadArgument, BadVendor, Memory}
 use Rattle.of10_actions.specs.declared.kind.Kind.{Kind}
 use Rattle.of10_actions.specs.declared.kind.Kind.TheVariants.{Output, SetVlanVid, SetVlanPcp, StripVlan, SetDlSrc, SetDlDst, SetNwSrc, SetNwDst, SetNwTos, SetTpSrc, SetTpDst, Enqueue}
-use Rattle.of10_actions.specs.declared.kind.TheConstants.{VENDOR}
 use Rattle.of10_actions.specs.Kinds.{kind_of, length_of, type_of}
+use Rattle.of10_actions.specs.Numbers.{VENDOR}
 
--- the numbers of 16, 32 and 48 bits at a place
+-- the numbers of 16, 32, 48 and 64 bits at a place
 abbrev pub u16_at : ℕ → List ℕ → ℕ
 u16_at at bytes = big_number 2 (drop at bytes)
 
@@ -19,6 +19,9 @@ u32_at at bytes = big_number 4 (drop at bytes)
 
 abbrev pub u48_at : ℕ → List ℕ → ℕ
 u48_at at bytes = big_number 6 (drop at bytes)
+
+abbrev pub u64_at : ℕ → List ℕ → ℕ
+u64_at at bytes = big_number 8 (drop at bytes)
 
 -- the value, unless the test found it out of its range
 abbrev pub unless : Bool → Action → Option Action

@@ -1,12 +1,12 @@
 //! Actions.
-ghost use Rattle.std.specs.Prelude.{◌≡◌};
-ghost use Rattle.of10_actions.specs.Actions.{IsInRange};
+ghost use Rattle.std.specs.Prelude.{◌≡◌, ◌↔◌, IsTrue};
+ghost use Rattle.of10_actions.specs.Actions.{AreInRange, IsInRange};
 ghost use Rattle.of10_actions.specs.Effects.{set_by};
 ghost use Rattle.of10_actions.specs.Kinds.{type_of};
 
 use crate::kind::Kind;
 use crate::rewrite::Rewrite;
-use cv_io::{Duplicate, Memory};
+use cv_io::{Duplicate, List, Memory};
 
 /// One action (`ofp_action_header` and what follows it). A vid is below 4096, a pcp below 8, a tos a
 /// multiple of 4, and an Ethernet address below 2^48.
@@ -53,6 +53,19 @@ impl Action {
         }
     }
 
+    /// Whether the action's numbers are in their ranges.
+    pub fn is_in_range(&self) -> bool
+        ensures { IsTrue result ↔ IsInRange self.now }
+    {
+        match *self {
+            Action::SetVlanVid { vid } => vid < 4096,
+            Action::SetVlanPcp { pcp } => pcp < 8,
+            Action::SetDlSrc { address } | Action::SetDlDst { address } => address < 1 << 48,
+            Action::SetNwTos { tos } => tos % 4 == 0,
+            _ => true,
+        }
+    }
+
     /// The fields that the action sets. Only the seven that a rewrite has are looked at.
     pub fn rewrite(&self) -> Rewrite
         requires { IsInRange self.now }
@@ -91,4 +104,11 @@ impl Action {
             _ => nothing,
         }
     }
+}
+
+/// Whether the numbers of all actions are in their ranges.
+pub fn are_in_range(actions: &List<Action>) -> bool
+    ensures { IsTrue result ↔ AreInRange actions.now }
+{
+    actions.as_slice().iter().all(|action| action.is_in_range())
 }

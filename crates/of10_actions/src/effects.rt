@@ -2,6 +2,9 @@
 use crate::rewrite::Rewrite;
 use cv_io::{Duplicate, List, Memory};
 
+/// The reason of a PACKET_IN for a packet that no entry holds (OFPR_NO_MATCH).
+pub const NO_MATCH: u8 = 0;
+
 /// The reason of a PACKET_IN that an action makes (OFPR_ACTION).
 pub const ACTION: u8 = 1;
 
@@ -16,6 +19,20 @@ pub enum Dest {
     Ingress,
     /// The member's controller, with the reason of its PACKET_IN.
     Tell { member: u32, reason: u8 },
+}
+
+impl Duplicate for Dest {
+    fn copy(&self) -> Result<Dest, Memory> {
+        Ok(match self {
+            Dest::Port { v, port } => Dest::Port { v: *v, port: *port },
+            Dest::Flood { v, port } => Dest::Flood { v: *v, port: *port },
+            Dest::Ingress => Dest::Ingress,
+            Dest::Tell { member, reason } => Dest::Tell {
+                member: *member,
+                reason: *reason,
+            },
+        })
+    }
 }
 
 /// A packet that leaves, with the rewrite in force.
@@ -61,10 +78,29 @@ pub struct Effects {
     pub tail: Tail,
 }
 
-/// The visible ports of a member at its virtual switch, in rising order.
+impl Duplicate for Effects {
+    fn copy(&self) -> Result<Effects, Memory> {
+        Ok(Effects {
+            outs: self.outs.copy()?,
+            tail: self.tail.copy()?,
+        })
+    }
+}
+
+/// The visible ports of a member at its virtual switch, each list in rising order.
 #[derive(PartialEq, Eq, Debug, Drop)]
 pub struct PortView {
     pub v: u32,
     pub outside: List<u16>,
     pub links: List<u16>,
+}
+
+impl Duplicate for PortView {
+    fn copy(&self) -> Result<PortView, Memory> {
+        Ok(PortView {
+            v: self.v,
+            outside: self.outside.copy()?,
+            links: self.links.copy()?,
+        })
+    }
 }

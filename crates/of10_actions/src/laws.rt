@@ -4,10 +4,15 @@ ghost use Rattle.of10_match.specs.Fields.{HeaderOf};
 ghost use Rattle.of10_actions.specs.declared.action.Action.{Action};
 ghost use Rattle.of10_actions.specs.Actions.{AreActions};
 ghost use Rattle.of10_actions.specs.Fields.{RewriteOf};
+ghost use Rattle.of10_actions.specs.Numbers as numbers;
 ghost use Rattle.of10_actions.specs.Reading.{reading};
 ghost use Rattle.of10_actions.specs.Rewriting.{Extends, and_then, apply, no_rewrite};
 ghost use Rattle.of10_actions.specs.Spelling.{IsBytes, SpellsList, spellings};
 ghost use Rattle.of10_actions.specs.Worked.{FaultsBehindIt, SetWhereThere, ToOneIsSpelled, TwoSets};
+
+use crate::effects::{ACTION, NO_MATCH};
+use crate::kind::VENDOR;
+use crate::port::{ALL, CONTROLLER, FLOOD, IN_PORT, LOCAL, MAX, NONE, NORMAL, TABLE};
 
 /// Rewriting by one and then by the next is rewriting by their composition, for every header.
 pub fn composition()
@@ -37,6 +42,22 @@ pub fn grammar()
     ensures all_spellings { (bytes : List ℕ) (list : List Action) →
         AreActions list → SpellsList list bytes → reading bytes ≡ Ok list }
     ensures round_trip { (list : List Action) → AreActions list → reading (spellings list) ≡ Ok list }
+{}
+
+/// The constants are the numbers of the standard.
+pub fn numbers_meet()
+    ensures max { MAX ≡ numbers.MAX }
+    ensures in_port { IN_PORT ≡ numbers.IN_PORT }
+    ensures table { TABLE ≡ numbers.TABLE }
+    ensures normal { NORMAL ≡ numbers.NORMAL }
+    ensures flood { FLOOD ≡ numbers.FLOOD }
+    ensures all { ALL ≡ numbers.ALL }
+    ensures controller { CONTROLLER ≡ numbers.CONTROLLER }
+    ensures local { LOCAL ≡ numbers.LOCAL }
+    ensures none { NONE ≡ numbers.NONE }
+    ensures vendor { VENDOR ≡ numbers.VENDOR }
+    ensures no_match { NO_MATCH ≡ numbers.NO_MATCH }
+    ensures action { ACTION ≡ numbers.ACTION }
 {}
 
 /// The definitions give what is written by hand in these examples.

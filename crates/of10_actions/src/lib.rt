@@ -8,13 +8,14 @@ pub mod fault;
 pub mod kind;
 pub mod laws;
 pub mod meaning;
+pub mod number;
 pub mod port;
 pub mod reading;
 pub mod rewrite;
 pub mod writing;
 
-pub use action::Action;
-pub use effects::{ACTION, Dest, Effects, Out, PortView, Tail};
+pub use action::{Action, are_in_range};
+pub use effects::{ACTION, Dest, Effects, NO_MATCH, Out, PortView, Tail};
 pub use fault::ActionFault;
 pub use kind::Kind;
 pub use reading::read_list;

@@ -2,6 +2,7 @@
 ghost use Rattle.std.specs.Prelude.{◌≡◌, ◌++◌, IfOk, OnOk};
 ghost use Rattle.of10_actions.specs.Actions.{AreInRange};
 ghost use Rattle.of10_actions.specs.Effects.{BuildsUp, dests_of, effects_of, flood_of, outs_of, tail_of};
+ghost use Rattle.of10_actions.specs.Ports.{AreRising};
 
 use crate::action::Action;
 use crate::effects::{ACTION, Dest, Effects, Out, PortView, Tail};
@@ -19,7 +20,8 @@ pub fn effects(
     ports: &PortView,
     member: u32,
 ) -> Result<Effects, Memory>
-    requires { AreInRange list.now }
+    requires in_range { AreInRange list.now }
+    requires rising { AreRising ports.now }
     ensures meaning { IfOk result (λ effects. effects ≡ effects_of ports.now member list.now) }
     ensures builds_up { IfOk result (λ effects. BuildsUp effects) }
 {

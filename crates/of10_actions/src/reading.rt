@@ -1,13 +1,14 @@
 //! From bytes to actions.
-ghost use Rattle.std.specs.Prelude.{◌≡◌, ◌+◌, ◌<◌, ◌≤◌, ◌^◌, IfOk, length, nat_lt};
+ghost use Rattle.std.specs.Prelude.{◌≡◌, ◌<◌, ◌≤◌, ◌^◌, IfOk, length, nat_lt};
 ghost use Rattle.of10_actions.specs.Actions.{AreInRange};
 ghost use Rattle.of10_actions.specs.Kinds.{length_of};
-ghost use Rattle.of10_actions.specs.Reading.{Gives, action_at, action_of, reading, of_kind, u16_at as u16_of, u32_at as u32_of, u48_at as u48_of, unless};
+ghost use Rattle.of10_actions.specs.Reading.{Gives, action_at, action_of, reading, of_kind, unless};
 ghost use Rattle.of10_actions.specs.Spelling.{SpellsList};
 
 use crate::action::Action;
 use crate::fault::ActionFault;
 use crate::kind::{Kind, VENDOR};
+use crate::number::{u16_at, u32_at, u48_at};
 use byteorder::{BigEndian, ByteOrder};
 use cv_io::List;
 use std::alloc::Global;
@@ -99,27 +100,6 @@ fn arguments(kind: Kind, bytes: &[u8]) -> Option<Action>
         },
     };
     Some(action)
-}
-
-fn u16_at(bytes: &[u8], at: usize) -> u16
-    requires { at + 2 ≤ length bytes.now }
-    ensures { result ≡ u16_of at bytes.now }
-{
-    BigEndian::read_u16(&bytes[at..])
-}
-
-fn u32_at(bytes: &[u8], at: usize) -> u32
-    requires { at + 4 ≤ length bytes.now }
-    ensures { result ≡ u32_of at bytes.now }
-{
-    BigEndian::read_u32(&bytes[at..])
-}
-
-fn u48_at(bytes: &[u8], at: usize) -> u64
-    requires { at + 6 ≤ length bytes.now }
-    ensures { result ≡ u48_of at bytes.now }
-{
-    BigEndian::read_u48(&bytes[at..])
 }
 
 fn vlan_vid(vid: u16) -> Option<Action>

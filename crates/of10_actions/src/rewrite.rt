@@ -1,8 +1,9 @@
 //! Rewrites: new values of some fields.
 ghost use Rattle.std.specs.Prelude.{◌≡◌};
-ghost use Rattle.of10_actions.specs.Rewriting.{and_then, apply as apply_of, has_ports as has_ports_of, no_rewrite, set_value};
+ghost use Rattle.of10_actions.specs.Rewriting.{and_then, apply as apply_of, has_tcp_udp as has_tcp_udp_of, no_rewrite, set_value};
 
-use of10_match::Header;
+use cv_io::{Duplicate, Memory};
+use of10_match::{Header, IPV4, TCP, UDP};
 use std::marker::Model;
 
 /// New values of some fields. An Ethernet address is below 2^48, and nw_tos a multiple of 4.
@@ -29,6 +30,12 @@ impl Model for Rewrite {
     ghost invariant = { RewriteInRange };
 
     ghost inverse = { rewrite_inside };
+}
+
+impl Duplicate for Rewrite {
+    fn copy(&self) -> Result<Rewrite, Memory> {
+        Ok(*self)
+    }
 }
 
 impl Rewrite {
@@ -67,8 +74,8 @@ impl Rewrite {
     pub fn apply(&self, header: &Header) -> Header
         ensures { result ≡ apply_of self.now header.now }
     {
-        let ip = header.dl_type == 0x0800;
-        let ports = has_ports(header.dl_type, header.nw_proto);
+        let ip = header.dl_type == IPV4;
+        let ports = has_tcp_udp(header.dl_type, header.nw_proto);
         Header {
             dl_src: set(true, self.dl_src, header.dl_src),
             dl_dst: set(true, self.dl_dst, header.dl_dst),
@@ -82,11 +89,11 @@ impl Rewrite {
     }
 }
 
-/// Whether the packet has ports that a rewrite sets.
-fn has_ports(dl_type: u16, nw_proto: u8) -> bool
-    ensures { result ≡ has_ports_of dl_type nw_proto }
+/// Whether a packet has ports of TCP or UDP, which a rewrite sets.
+fn has_tcp_udp(dl_type: u16, nw_proto: u8) -> bool
+    ensures { result ≡ has_tcp_udp_of dl_type nw_proto }
 {
-    dl_type == 0x0800 && (nw_proto == 6 || nw_proto == 17)
+    dl_type == IPV4 && (nw_proto == TCP || nw_proto == UDP)
 }
 
 /// The value after one that replaces it, where the test says so.

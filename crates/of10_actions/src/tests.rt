@@ -1,3 +1,5 @@
+ghost use Rattle.std.specs.Prelude.{◌<◌, ◌^◌, length};
+
 use super::*;
 use crate::meaning::effects;
 use cv_io::List;
@@ -24,12 +26,22 @@ const SETS: [u8; 40] = [
     0, 2, 0, 0, 0, 8, 0, 2, 0, 0,
 ];
 
-fn view(alloc: Global) -> Result<PortView, Fail> {
-    Ok(PortView {
+/// The effects of written actions for member 3, at outside ports 1, 2, 4 and 5 and link port 9, or none
+/// where the ports do not rise.
+fn effects_at(alloc: Global, bytes: &[u8], outside: &[u16]) -> Result<Option<Effects>, Fail>
+    requires { length bytes.now < 2 ^ 32 }
+{
+    let list = read_list(alloc, bytes)?;
+    let ports = PortView {
         v: 7,
-        outside: List::from_slice(alloc, &[1, 2, 4, 5])?,
+        outside: List::from_slice(alloc, outside)?,
         links: List::from_slice(alloc, &[9])?,
-    })
+    };
+    if ports.is_rising() {
+        Ok(Some(effects(alloc, &list, &ports, 3)?))
+    } else {
+        Ok(None)
+    }
 }
 
 #[test]
@@ -49,16 +61,6 @@ fn the_worked_actions(rt: HostRuntime) -> Result<(), Fail> {
     assert_eq!(rt; bytes.as_slice(), WORKED.as_slice());
     let length = bytes.len();
     assert_eq!(rt; list_length(&list), length);
-    let done = effects(rt.alloc(), &list, &view(rt.alloc())?, 3)?;
-    let out = Out {
-        rewrite: Rewrite {
-            nw_dst: Some(0x0200_0001),
-            ..Rewrite::new()
-        },
-        dest: Dest::Port { v: 7, port: 1 },
-    };
-    assert_eq!(rt; done.outs.as_slice(), [out].as_slice());
-    assert_eq!(rt; done.tail, Tail::Nothing);
     Ok(())
 }
 
@@ -251,68 +253,88 @@ fn cut_lists(rt: HostRuntime) {
     assert!(rt; read_list(rt.alloc(), &[]).is_ok());
 }
 
-#[test]
-fn floods_and_tails(rt: HostRuntime) -> Result<(), Fail> {
-    let ports = view(rt.alloc())?;
-    let tos = Rewrite {
-        nw_tos: Some(4),
-        ..Rewrite::new()
+/// Whether the actions have these outs and this tail.
+fn has_effects(alloc: Global, bytes: &[u8], outs: &[Out], tail: Tail) -> Result<bool, Fail>
+    requires { length bytes.now < 2 ^ 32 }
+{
+    let want = Effects {
+        outs: List::from_slice(alloc, outs)?,
+        tail,
     };
-    let list = read_list(rt.alloc(), &FLOODS)?;
-    let done = effects(rt.alloc(), &list, &ports, 3)?;
-    let mut dests: List<Dest> = List::new(rt.alloc());
-    for (i, out) in done.outs.as_slice().iter().enumerate() {
-        assert_eq!(rt; out.rewrite, if i < 4 { Rewrite::new() } else { tos });
-        dests.push(out.dest)?;
+    Ok(effects_at(alloc, bytes, &[1, 2, 4, 5])? == Some(want))
+}
+
+fn to_port(rewrite: Rewrite, port: u16) -> Out {
+    Out {
+        rewrite,
+        dest: Dest::Port { v: 7, port },
     }
-    let want = [
-        Dest::Flood { v: 7, port: 1 },
-        Dest::Flood { v: 7, port: 2 },
-        Dest::Flood { v: 7, port: 4 },
-        Dest::Flood { v: 7, port: 5 },
-        Dest::Flood { v: 7, port: 1 },
-        Dest::Flood { v: 7, port: 2 },
-        Dest::Flood { v: 7, port: 4 },
-        Dest::Flood { v: 7, port: 5 },
-        Dest::Ingress,
-        Dest::Tell {
-            member: 3,
-            reason: 1,
-        },
-    ];
-    assert_eq!(rt; dests.as_slice(), want.as_slice());
-    assert_eq!(rt; done.tail, Tail::Pass(tos));
-    let link = read_list(rt.alloc(), &[0, 0, 0, 8, 0, 9, 0, 0])?;
-    let done = effects(rt.alloc(), &link, &ports, 3)?;
-    assert_eq!(rt; done.tail, Tail::Link(Rewrite::new(), 9));
-    assert!(rt; done.outs.is_empty());
-    Ok(())
+}
+
+fn to_flood(rewrite: Rewrite, port: u16) -> Out {
+    Out {
+        rewrite,
+        dest: Dest::Flood { v: 7, port },
+    }
 }
 
 #[test]
-fn the_second_set_wins(rt: HostRuntime) -> Result<(), Fail> {
-    let list = read_list(rt.alloc(), &SETS)?;
-    let done = effects(rt.alloc(), &list, &view(rt.alloc())?, 3)?;
+fn effects_of_lists(rt: HostRuntime) -> Result<(), Fail> {
+    let none = Rewrite::new();
+    let server = Rewrite {
+        nw_dst: Some(0x0200_0001),
+        ..none
+    };
     let first = Rewrite {
         nw_dst: Some(0x0a00_0001),
         tp_dst: Some(80),
-        ..Rewrite::new()
+        ..none
     };
     let second = Rewrite {
         nw_dst: Some(0x0a00_0002),
         ..first
     };
-    let want = [
+    let sets = [to_port(first, 1), to_port(second, 2)];
+    let link = [0, 0, 0, 8, 0, 9, 0, 0];
+    let alloc = rt.alloc();
+    assert!(rt; has_effects(alloc, &WORKED, &[to_port(server, 1)], Tail::Nothing)?);
+    assert!(rt; has_effects(alloc, &SETS, &sets, Tail::Nothing)?);
+    assert!(rt; has_effects(alloc, &link, &[], Tail::Link(none, 9))?);
+    Ok(())
+}
+
+#[test]
+fn floods_go_by_rising_ports(rt: HostRuntime) -> Result<(), Fail> {
+    let none = Rewrite::new();
+    let tos = Rewrite {
+        nw_tos: Some(4),
+        ..none
+    };
+    let told = Dest::Tell {
+        member: 3,
+        reason: 1,
+    };
+    let outs = [
+        to_flood(none, 1),
+        to_flood(none, 2),
+        to_flood(none, 4),
+        to_flood(none, 5),
+        to_flood(tos, 1),
+        to_flood(tos, 2),
+        to_flood(tos, 4),
+        to_flood(tos, 5),
         Out {
-            rewrite: first,
-            dest: Dest::Port { v: 7, port: 1 },
+            rewrite: tos,
+            dest: Dest::Ingress,
         },
         Out {
-            rewrite: second,
-            dest: Dest::Port { v: 7, port: 2 },
+            rewrite: tos,
+            dest: told,
         },
     ];
-    assert_eq!(rt; done.outs.as_slice(), want.as_slice());
+    assert!(rt; has_effects(rt.alloc(), &FLOODS, &outs, Tail::Pass(tos))?);
+    assert_eq!(rt; effects_at(rt.alloc(), &FLOODS, &[1, 1])?, None);
+    assert_eq!(rt; effects_at(rt.alloc(), &FLOODS, &[4, 2])?, None);
     Ok(())
 }
 

@@ -1,5 +1,5 @@
 //! From actions to bytes.
-ghost use Rattle.std.specs.Prelude.{◌≡◌, ◌-◌, ◌<◌, ◌^◌, ◌++◌, All, IfOk, OnErr, OnOk, length, replicate, slice_set, take};
+ghost use Rattle.std.specs.Prelude.{◌≡◌, ◌-◌, ◌<◌, ◌^◌, ◌++◌, All, IfOk, OnErr, OnOk, length, min, replicate, slice_set, take};
 ghost use Rattle.of10_actions.specs.Actions.{AreInRange, FitsTypes, IsInRange};
 ghost use Rattle.of10_actions.specs.Kinds.{length_of, type_of};
 ghost use Rattle.of10_actions.specs.Reading.{reading};
@@ -42,14 +42,13 @@ pub fn write_actions(list: &List<Action>, into: &mut Bytes) -> Result<(), Memory
     Ok(())
 }
 
-/// How many bytes a list of actions is written as.
+/// How many bytes a list of actions is written as, at most the greatest usize.
 pub fn list_length(list: &List<Action>) -> usize
-    requires { length (spellings list.now) < 2 ^ 64 }
-    ensures { result ≡ length (spellings list.now) }
+    ensures { result ≡ min (length (spellings list.now)) (2 ^ 64 - 1) }
 {
-    let mut total = 0;
+    let mut total: usize = 0;
     for action in list.as_slice() {
-        total += usize::from(action.kind().length());
+        total = total.saturating_add(usize::from(action.kind().length()));
     }
     total
 }

@@ -33,10 +33,6 @@ pub record IsTheCut (bytes : List ℕ) (frames : List (List ℕ)) (rest : List �
   pub cut : IsCut bytes frames rest
   pub only : (others : List (List ℕ)) (left : List ℕ) → IsCut bytes others left → (others ≡ frames) × (left ≡ rest)
 
--- the frames of the bytes, up to the rest, come after the old ones
-abbrev pub AddsFrames : List ℕ → List ℕ → List (List ℕ) → List (List ℕ) → Type 0
-AddsFrames bytes rest old new = (frames : List (List ℕ)) × (new ≡ old ++ frames) × IsCut bytes frames rest
-
 -- what each fault says of the bytes that are kept
 abbrev pub IsCause : FrameFault → List ℕ → Type 0
 IsCause (faults.Short length) kept = IsShort kept × (length ≡ length_field kept)

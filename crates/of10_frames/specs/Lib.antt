@@ -1,2 +1,4 @@
 pub mod Wire
 pub mod Frames
+pub mod Worked
+pub mod InsideStream

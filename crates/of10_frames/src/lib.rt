@@ -4,6 +4,7 @@
 #![tactic(auto)]
 
 pub mod framer;
+pub mod laws;
 pub mod stream;
 pub mod wire;
 

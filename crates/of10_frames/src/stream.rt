@@ -1,7 +1,8 @@
 //! Whole streams.
 ghost use Rattle.std.specs.Prelude.{IfOk, OnOk};
 ghost use Rattle.std.specs.List.{flat_map};
-ghost use Rattle.of10_frames.specs.Frames.{IsTheCut, AddsFrames};
+ghost use Rattle.of10_frames.specs.Frames.{IsTheCut};
+ghost use Rattle.of10_frames.specs.InsideStream.{AddsFrames};
 
 use crate::framer::{FrameFault, Framer};
 use cv_io::{Bytes, List, Memory};

@@ -1,5 +1,5 @@
 -- The test of equality of matches decides it.
-use Rattle.std.proofs.Common.{◌≡◌, ◌&&◌, Bool, Option, Some, None, refl, ap, Decides}
+use Rattle.std.proofs.Common.{◌≡◌, Bool, Option, Some, None, refl, ap, Decides}
 use Rattle.std.specs.Prelude.{◌==◌}
 use Rattle.std.specs.Option.{option_eq}
 use Rattle.std.proofs.lemmas.Bool.Decides.{Decides-eqb, Decides-and, Decides-like}

@@ -1,7 +1,8 @@
 -- Matches and their bytes as they stand in messages of controllers and switches.
-use Rattle.std.specs.Prelude.{◌≡◌, ℕ, List, [], ◌∷◌, Option, Some, None, true, false}
+use Rattle.std.specs.Prelude.{◌≡◌, ℕ, List, [], ◌∷◌, Option, Some, None, true, false, drop}
 use Rattle.of10_match.specs.Fields.{MatchOf}
-use Rattle.of10_match.specs.Matching.{everything, meet}
+use Rattle.of10_match.specs.Matching.{everything, meet, at_port, is_one_header}
+use Rattle.of10_match.specs.Numbers.{rank_by}
 use Rattle.of10_match.specs.OfpMatchFields.{fields_in}
 use Rattle.of10_match.specs.Wildcards.{is_exact, normal_of, match_bytes}
 use Rattle.of10_match.specs.declared.header.Prefix.{Prefix}
@@ -45,6 +46,17 @@ everything_bytes =
 -- packets to a prefix
 abbrev pub to : ℕ → ℕ → MatchOf
 to addr len = record everything { nw_dst = Some (record { addr = addr; len = len }) }
+
+-- an entry without a wildcard is above every priority, and an entry with one has its priority
+pub record Ranks : Type 0 where
+  pub exact : rank_by true 5 ≡ 65536
+  pub other : rank_by false 65535 ≡ 65535
+
+-- a match of a port names one field of twelve
+pub record OnePort : Type 0 where
+  pub bytes : match_bytes (at_port 1) ≡ 0 ∷ 56 ∷ 32 ∷ 254 ∷ 0 ∷ 1 ∷ drop 6 everything_bytes
+  pub one_of_twelve : is_one_header (at_port 1) ≡ false
+  pub all_twelve : is_one_header (record learned { dl_vlan_pcp = Some 0 }) ≡ true
 
 -- a learned rule is exact, is read without its dl_vlan_pcp and is written with that bit
 pub record LearnedRule : Type 0 where

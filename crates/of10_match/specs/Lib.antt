@@ -1,4 +1,5 @@
 pub mod Fields
+pub mod Numbers
 pub mod Ranges
 pub mod Matching
 pub mod Sets

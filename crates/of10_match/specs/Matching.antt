@@ -1,5 +1,5 @@
 -- What a match holds, when two matches overlap, and what both hold.
-use Rattle.std.specs.Prelude.{ℕ, Bool, true, false, ◌==◌, ◌&&◌, ◌/◌, ◌^◌, ◌-◌, nat_le, Option, Some, None, if◌then◌else◌}
+use Rattle.std.specs.Prelude.{ℕ, Bool, true, false, ◌==◌, ◌&&◌, ◌/◌, ◌^◌, ◌-◌, nat_le, Option, Some, None, is_some, if◌then◌else◌}
 use Rattle.std.specs.Option.{option_or}
 use Rattle.of10_match.specs.Fields.{HeaderOf, MatchOf}
 use Rattle.of10_match.specs.declared.header.Prefix.{Prefix}
@@ -90,6 +90,20 @@ meet m n = if overlaps m n then Some (both m n) else None
 -- the match that names no field
 abbrev pub everything : MatchOf
 everything = record { in_port = None; dl_src = None; dl_dst = None; dl_vlan = None; dl_vlan_pcp = None; dl_type = None; nw_tos = None; nw_proto = None; nw_src = None; nw_dst = None; tp_src = None; tp_dst = None }
+
+-- the match of all headers that come by a port
+abbrev pub at_port : ℕ → MatchOf
+at_port port = record everything { in_port = Some port }
+
+-- the whole address is named
+abbrev pub is_address : Option Prefix → Bool
+is_address None = false
+is_address (Some p) = p.len == 32
+
+-- all twelve fields are named, so that the match holds one header
+abbrev pub is_one_header : MatchOf → Bool
+is_one_header m =
+    each (is_some m.in_port) (is_some m.dl_src) (is_some m.dl_dst) (is_some m.dl_vlan) (is_some m.dl_vlan_pcp) (is_some m.dl_type) (is_some m.nw_tos) (is_some m.nw_proto) (is_address m.nw_src) (is_address m.nw_dst) (is_some m.tp_src) (is_some m.tp_dst)
 
 -- where the first asks for a value, the second asks for an equal one
 abbrev pub asks_by : {A : Type 0} → (A → A → Bool) → Option A → Option A → Bool

@@ -1,26 +1,27 @@
 -- Normal matches: each field is named only beside those that it needs.
 use Rattle.std.specs.Prelude.{ℕ, Bool, true, false, ◌==◌, ◌||◌, ◌&&◌, not, Option, Some, None, OnSome, IsTrue}
 use Rattle.of10_match.specs.Fields.{MatchOf}
+use Rattle.of10_match.specs.Numbers.{IPV4, ARP, UNTAGGED, ICMP, TCP, UDP}
 
 -- a dl_type of IPv4
 abbrev pub is_ip : Option ℕ → Bool
 is_ip None = false
-is_ip (Some t) = t == 0x0800
+is_ip (Some t) = t == IPV4
 
 -- a dl_type of IPv4 or ARP
 abbrev pub is_ip_or_arp : Option ℕ → Bool
 is_ip_or_arp None = false
-is_ip_or_arp (Some t) = t == 0x0800 || t == 0x0806
+is_ip_or_arp (Some t) = t == IPV4 || t == ARP
 
 -- a protocol of which tp fields are read: ICMP, TCP or UDP
 abbrev pub has_ports : Option ℕ → Bool
 has_ports None = false
-has_ports (Some p) = p == 1 || (p == 6 || p == 17)
+has_ports (Some p) = p == ICMP || (p == TCP || p == UDP)
 
--- a VLAN number, and not the 65535 of untagged packets
+-- a VLAN number, and not that of untagged packets
 abbrev pub is_tagged : Option ℕ → Bool
 is_tagged None = false
-is_tagged (Some v) = not (v == 65535)
+is_tagged (Some v) = not (v == UNTAGGED)
 
 -- the field where its prerequisite stands, else nothing
 abbrev pub kept : {A : Type 0} → Bool → Option A → Option A

@@ -1,6 +1,7 @@
 -- From the fields of the structs to what contracts see, and back; the ranges of fields.
 use Rattle.std.specs.Prelude.{ℕ, ◌<◌, ◌≤◌, ◌^◌, ◌%◌, ◌-◌, ◌≡◌, IfSome, ◌⊎◌}
 use Rattle.of10_match.specs.Fields.{HeaderOf, MatchOf}
+use Rattle.of10_match.specs.Numbers.{UNTAGGED}
 use Rattle.of10_match.specs.declared.header.Prefix.{Prefix}
 use Rattle.of10_match.specs.declared.header.Header.TheInside as Header
 use Rattle.of10_match.specs.declared.header.Match.TheInside as Match
@@ -17,9 +18,9 @@ match_view a = record { in_port = a.in_port; dl_src = a.dl_src; dl_dst = a.dl_ds
 abbrev pub match_inside : MatchOf → Match.Inside
 match_inside a = record { in_port = a.in_port; dl_src = a.dl_src; dl_dst = a.dl_dst; dl_vlan = a.dl_vlan; dl_vlan_pcp = a.dl_vlan_pcp; dl_type = a.dl_type; nw_tos = a.nw_tos; nw_proto = a.nw_proto; nw_src = a.nw_src; nw_dst = a.nw_dst; tp_src = a.tp_src; tp_dst = a.tp_dst }
 
--- a VLAN number, or 65535 for no tag
+-- a VLAN number of twelve bits, or that of packets without a tag
 abbrev pub IsVlan : ℕ → Type 0
-IsVlan v = (v < 4096) ⊎ (v ≡ 65535)
+IsVlan v = (v < 4096) ⊎ (v ≡ UNTAGGED)
 
 -- the numbers of a header are in their ranges
 pub record HeaderInRange (a : Header.Inside) : Type 0 where

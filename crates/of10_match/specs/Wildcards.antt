@@ -4,6 +4,7 @@ use Rattle.std.specs.Bool.{then_some}
 use Rattle.of10_match.specs.Fields.{MatchOf}
 use Rattle.of10_match.specs.OfpMatchFields.{fields_in, bytes_of}
 use Rattle.of10_match.specs.Normal.{normal}
+use Rattle.of10_match.specs.Numbers.{UNTAGGED}
 use Rattle.of10_match.specs.declared.header.Prefix.{Prefix}
 use Rattle.of10_match.specs.declared.ofp_match.OfpMatch.{OfpMatch}
 
@@ -15,9 +16,9 @@ is_clear wildcards bit = (wildcards / 2 ^ bit) % 2 == 0
 abbrev pub prefix_by : ℕ → ℕ → Option Prefix
 prefix_by n addr = if nat_lt n 32 then Some (record { addr = addr / 2 ^ n * 2 ^ n; len = 32 - n }) else None
 
--- a VLAN number of twelve bits, or the 65535 of untagged packets
+-- a VLAN number of twelve bits, or that of packets without a tag
 abbrev pub vlan_of : ℕ → ℕ
-vlan_of v = if v == 65535 then v else v % 4096
+vlan_of v = if v == UNTAGGED then v else v % 4096
 
 -- the fields that the wildcards name, with the bits that count
 abbrev pub named : OfpMatch → MatchOf

@@ -4,7 +4,8 @@ ghost use Rattle.std.specs.Cmp.{IsTotalOrder};
 ghost use Rattle.of10_match.specs.Fields.{HeaderOf, MatchOf};
 ghost use Rattle.of10_match.specs.Matching.{both, covers, holds, meet, overlaps};
 ghost use Rattle.of10_match.specs.Normal.{IsNormal};
-ghost use Rattle.of10_match.specs.Examples.{Everything, LearnedRule, Meets};
+ghost use Rattle.of10_match.specs.Numbers as numbers;
+ghost use Rattle.of10_match.specs.Examples.{Everything, LearnedRule, Meets, OnePort, Ranks};
 ghost use Rattle.of10_match.specs.OfpMatchFields.{FitsBytes, bytes_of, fields_in};
 ghost use Rattle.of10_match.specs.declared.ofp_match.OfpMatch.{OfpMatch};
 ghost use Rattle.of10_match.specs.Order.{by_bytes};
@@ -13,6 +14,7 @@ ghost use Rattle.of10_match.specs.Same.{same_match};
 ghost use Rattle.of10_match.specs.Sets.{Covers, Overlap};
 ghost use Rattle.of10_match.specs.Wildcards.{match_bytes, normal_of};
 
+use crate::normal::{ARP, EXACT_RANK, ICMP, IPV4, TCP, UDP, UNTAGGED};
 use std::cmp::Ordering;
 
 /// The tests of matches say what they promise of headers.
@@ -47,9 +49,22 @@ pub fn byte_laws()
     ensures equal { (m n : MatchOf) → IsMatch m → IsMatch n → by_bytes m n ≡ Ordering.Equal → m ≡ n }
 {}
 
+/// The constants are the numbers of the standard.
+pub fn numbers_meet()
+    ensures ipv4 { IPV4 ≡ numbers.IPV4 }
+    ensures arp { ARP ≡ numbers.ARP }
+    ensures untagged { UNTAGGED ≡ numbers.UNTAGGED }
+    ensures icmp { ICMP ≡ numbers.ICMP }
+    ensures tcp { TCP ≡ numbers.TCP }
+    ensures udp { UDP ≡ numbers.UDP }
+    ensures exact_rank { EXACT_RANK ≡ numbers.EXACT_RANK }
+{}
+
 /// What the definitions give at matches and bytes that are known.
 pub fn worked_examples()
     ensures learned_rule { LearnedRule }
     ensures everything { Everything }
     ensures meets { Meets }
+    ensures one_port { OnePort }
+    ensures ranks { Ranks }
 {}

@@ -1,5 +1,5 @@
 //! Headers of packets and matches of OpenFlow 1.0, and what a match holds (section 5.2.3 of the
-//! OpenFlow Switch Specification 1.0.0).
+//! OpenFlow Switch Specification 1.0.0). All types are plain and `Copy`: a copy takes no memory.
 #![tactic(auto)]
 
 mod display;
@@ -14,6 +14,6 @@ mod tests;
 mod writing;
 
 pub use header::{Header, Match, Prefix};
-pub use normal::{Read, UNTAGGED};
+pub use normal::{ARP, EXACT_RANK, ICMP, IPV4, Read, TCP, UDP, UNTAGGED, rank};
 pub use ofp_match::OfpMatch;
 pub use reading::read;

@@ -1,7 +1,7 @@
 //! Which headers a match holds, and what two matches hold together.
 ghost use Rattle.std.specs.Prelude.{ℕ, ◌≡◌, ◌≤◌, ◌-◌, ◌/◌, ◌^◌, IsTrue, ◌↔◌, IfSome, IsSome, Some, is_some};
 ghost use Rattle.of10_match.specs.Fields.{HeaderOf};
-ghost use Rattle.of10_match.specs.Matching.{agree_by, agree_prefix as agree_prefix_of, asks_by, asks_prefix as asks_prefix_of, both as both_of, covers as covers_of, everything as everything_of, fits_by, fits_prefix as fits_prefix_of, holds as holds_of, is_longer as is_longer_of, longer as longer_of, meet as meet_of, overlaps as overlaps_of, top_bits as top_bits_of};
+ghost use Rattle.of10_match.specs.Matching.{agree_by, agree_prefix as agree_prefix_of, asks_by, asks_prefix as asks_prefix_of, at_port as at_port_of, both as both_of, covers as covers_of, everything as everything_of, fits_by, fits_prefix as fits_prefix_of, holds as holds_of, is_address as is_address_of, is_longer as is_longer_of, is_one_header as is_one_header_of, longer as longer_of, meet as meet_of, overlaps as overlaps_of, top_bits as top_bits_of};
 ghost use Rattle.of10_match.specs.Sets.{Covers, IsMeet, Overlap};
 ghost use Rattle.of10_match.specs.Normal.{IsNormal};
 
@@ -111,6 +111,13 @@ fn asks<T: PartialEq + Copy>(a: Option<T>, b: Option<T>) -> bool
     }
 }
 
+/// Whether the whole address is asked for.
+fn is_address(asked: Option<Prefix>) -> bool
+    ensures { result ≡ is_address_of asked }
+{
+    asked.is_some_and(|prefix| prefix.len == 32)
+}
+
 /// Whether `b` begins with `a`.
 fn asks_prefix(a: Option<Prefix>, b: Option<Prefix>) -> bool
     ensures { result ≡ asks_prefix_of a b }
@@ -142,6 +149,34 @@ impl Match {
             tp_src: None,
             tp_dst: None,
         }
+    }
+
+    /// The match of all headers that come by a port.
+    pub fn at_port(port: u16) -> Match
+        ensures { result ≡ at_port_of port }
+    {
+        Match {
+            in_port: Some(port),
+            ..Match::everything()
+        }
+    }
+
+    /// Whether the match names all twelve fields, with whole addresses.
+    pub fn is_one_header(&self) -> bool
+        ensures { result ≡ is_one_header_of self.now }
+    {
+        self.in_port.is_some()
+            && self.dl_src.is_some()
+            && self.dl_dst.is_some()
+            && self.dl_vlan.is_some()
+            && self.dl_vlan_pcp.is_some()
+            && self.dl_type.is_some()
+            && self.nw_tos.is_some()
+            && self.nw_proto.is_some()
+            && is_address(self.nw_src)
+            && is_address(self.nw_dst)
+            && self.tp_src.is_some()
+            && self.tp_dst.is_some()
     }
 
     /// Whether each field that the match names is the header's, or a prefix of it.

@@ -1,21 +1,42 @@
 //! Normal matches, in which each field stands beside those that it needs.
-ghost use Rattle.std.specs.Prelude.{◌≡◌};
+ghost use Rattle.std.specs.Prelude.{◌≡◌, ◌≤◌};
 ghost use Rattle.of10_match.specs.Normal.{has_ports as has_ports_of, is_ip as is_ip_of, is_ip_or_arp as is_ip_or_arp_of, is_tagged as is_tagged_of, IsNormal, kept as kept_of, normal as normal_fields};
+ghost use Rattle.of10_match.specs.Numbers.{rank_by};
 
 use crate::header::Match;
 
 /// The dl_vlan of a packet without a tag.
 pub const UNTAGGED: u16 = 65535;
 
-const IPV4: u16 = 0x0800;
+/// The dl_type of IPv4.
+pub const IPV4: u16 = 0x0800;
 
-const ARP: u16 = 0x0806;
+/// The dl_type of ARP.
+pub const ARP: u16 = 0x0806;
 
-const ICMP: u8 = 1;
+/// The nw_proto of ICMP.
+pub const ICMP: u8 = 1;
 
-const TCP: u8 = 6;
+/// The nw_proto of TCP.
+pub const TCP: u8 = 6;
 
-const UDP: u8 = 17;
+/// The nw_proto of UDP.
+pub const UDP: u8 = 17;
+
+/// The rank of entries without a wildcard, above every priority (section 3.4).
+pub const EXACT_RANK: u32 = 65_536;
+
+/// The rank of an entry: its priority, unless it has no wildcard.
+pub fn rank(exact: bool, priority: u16) -> u32
+    ensures value { result ≡ rank_by exact priority }
+    ensures range { result ≤ 65536 }
+{
+    if exact {
+        EXACT_RANK
+    } else {
+        u32::from(priority)
+    }
+}
 
 /// What the 40 bytes of an `ofp_match` say.
 #[derive(Clone, Copy, PartialEq, Eq, Debug)]

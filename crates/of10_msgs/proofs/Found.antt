@@ -1,19 +1,19 @@
 -- A message that was read is spelled by its frame, and can be written.
-use Rattle.std.proofs.Common.{◌≡◌, ℕ, zero, suc, ◌+◌, ◌^◌, ◌<◌, ◌≤◌, Bool, true, false, cond, eqb, eqb-true, List, [], ◌∷◌, ◌++◌, length, take, drop, Option, Some, None, Result, Ok, Err, refl, sym, ap, subst, ◌∙◌, inl, inr, arith}
+use Rattle.std.proofs.Common.{◌≡◌, ℕ, zero, suc, ◌+◌, ◌^◌, ◌<◌, Bool, true, false, cond, eqb, eqb-true, List, ◌∷◌, ◌++◌, length, drop, Option, Some, None, Result, Ok, Err, refl, sym, ap, subst, ◌∙◌, inl, inr, arith}
 use Rattle.std.specs.Prelude.{◌||◌, ◌⊎◌, IfOk, slice_index}
 use Rattle.std.proofs.lemmas.List.{length-drop}
-use Rattle.byteorder.specs.Endian.{big_bytes, big_number}
+use Rattle.byteorder.specs.Endian.{big_bytes}
 use Rattle.of10_actions.specs.Reading.{u32_at}
 use Rattle.of10_actions.specs.Spelling.{IsBytes}
 use Rattle.of10_frames.specs.Frames.{IsFrame}
 use Rattle.of10_frames.specs.Wire.{length_field}
 use Rattle.of10_msgs.specs.Bodies.{kind_of}
 use Rattle.of10_msgs.specs.Kinds.{is_among, kind_at, lengths_of, number_of}
-use Rattle.of10_msgs.specs.Ranges.{CanWrite, IsMessage}
+use Rattle.of10_msgs.specs.Ranges.{IsMessage}
 use Rattle.of10_msgs.specs.Reading.{Gives, body_at, message_of, reading, typed}
 use Rattle.of10_msgs.specs.Spelling.{IsVersion, Spells, body_bytes, body_with}
 use Rattle.of10_msgs.specs.declared.fault.FormFault.{FormFault}
-use Rattle.of10_msgs.specs.declared.fault.FormFault.TheVariants.{BadLen, BadType, BadVersion}
+use Rattle.of10_msgs.specs.declared.fault.FormFault.TheVariants.{BadLen, BadVersion}
 use Rattle.of10_msgs.specs.declared.kind.Kind.{Kind}
 use Rattle.of10_msgs.specs.declared.kind.Kind.TheVariants as kinds
 use Rattle.of10_msgs.specs.declared.message.Body.{Body}

@@ -1,9 +1,8 @@
 -- A body that was read is spelled by its bytes.
-use Rattle.std.proofs.Common.{◌≡◌, ℕ, zero, suc, ◌+◌, ◌-◌, ◌*◌, ◌/◌, ◌%◌, ◌^◌, ◌<◌, ◌≤◌, Bool, true, false, cond, eqb, ltb, eqb-true, List, [], ◌∷◌, ◌++◌, length, take, drop, All, Option, Some, Result, Ok, Err, refl, sym, ap, subst, ◌∙◌, append_assoc, arith}
+use Rattle.std.proofs.Common.{◌≡◌, ℕ, ◌+◌, ◌-◌, ◌*◌, ◌/◌, ◌%◌, ◌≤◌, Bool, true, false, cond, eqb, ltb, eqb-true, List, [], ◌∷◌, ◌++◌, length, take, drop, Result, Ok, Err, refl, sym, ap, subst, ◌∙◌, arith}
 use Rattle.std.specs.Prelude.{◌&&◌, nat_le, slice_index}
-use Rattle.std.specs.List.{flat_map}
 use Rattle.std.proofs.lemmas.Bool.{leb-true, ltb-false}
-use Rattle.std.proofs.lemmas.List.{append-nil, drop_all, drop_at, length-append, length-drop, take_at}
+use Rattle.std.proofs.lemmas.List.{append-nil, drop_all, drop_at, length-append, take_at}
 use Rattle.std.proofs.lemmas.List.Elements.{All-from_recursion}
 use Rattle.byteorder.specs.Endian.{big_bytes, big_number}
 use Rattle.of10_actions.specs.declared.action.Action.{Action as ActionOf}
@@ -15,14 +14,14 @@ use Rattle.of10_actions.proofs.Lists.{read_is_spelled}
 use Rattle.of10_msgs.specs.Bodies.{kind_of}
 use Rattle.of10_msgs.specs.Kinds.{is_among, lengths_of}
 use Rattle.of10_msgs.specs.Ranges.{FitsTypes, HasAddress, IsInRange, PortFits}
-use Rattle.of10_msgs.specs.Reading.{body_at, features_reply_of, flow_mod_of, flow_removed_of, listed, match_at, packet_out_at, packet_out_of, port_at, ports_at, with_actions}
-use Rattle.of10_msgs.specs.Spelling.{Free, body_with, clear_match, flow_mod_fields, packet_out_fields, port_bytes}
+use Rattle.of10_msgs.specs.Reading.{body_at, features_reply_of, flow_mod_of, flow_removed_of, listed, packet_out_at, packet_out_of, port_at, ports_at, with_actions}
+use Rattle.of10_msgs.specs.Spelling.{Free, body_with, flow_mod_fields, packet_out_fields, port_bytes}
 use Rattle.of10_msgs.specs.declared.fault.FormFault.{FormFault}
 use Rattle.of10_msgs.specs.declared.fault.FormFault.TheVariants.{BadLen}
 use Rattle.of10_msgs.specs.declared.kind.Kind.{Kind}
 use Rattle.of10_msgs.specs.declared.kind.Kind.TheVariants as kinds
 use Rattle.of10_msgs.specs.declared.message.Body.{Body}
-use Rattle.of10_msgs.specs.declared.message.Body.TheVariants.{Hello, Error, EchoRequest, EchoReply, FeaturesRequest, FeaturesReply, GetConfigRequest, GetConfigReply, SetConfig, PacketIn, FlowRemoved, PortStatus, PacketOut, FlowMod, PortMod, StatsRequest, StatsReply, BarrierRequest, BarrierReply, QueueGetConfigRequest, QueueGetConfigReply}
+use Rattle.of10_msgs.specs.declared.message.Body.TheVariants.{Hello, Error, EchoRequest, EchoReply, FeaturesRequest, GetConfigRequest, GetConfigReply, SetConfig, PacketIn, PortStatus, PacketOut, FlowMod, PortMod, StatsRequest, StatsReply, BarrierRequest, BarrierReply, QueueGetConfigRequest, QueueGetConfigReply}
 use Rattle.of10_msgs.proofs.Fields.{split}
 use Rattle.of10_msgs.proofs.FoundParts.{byte, clear_twice, length_part, number_lt, part, port_fits, port_found, ports_fit, ports_found}
 use Rattle.of10_msgs.proofs.SpelledBodies.{IsFree, length_clear}

@@ -1,8 +1,8 @@
 -- What a match, a port and a list of ports that were read say of their bytes.
-use Rattle.std.proofs.Common.{◌≡◌, ℕ, zero, suc, ◌+◌, ◌*◌, ◌^◌, ◌<◌, ◌≤◌, ◌≢◌, List, [], ◌∷◌, ◌++◌, length, get_or, take, drop, refl, sym, ap, ◌∙◌, append_assoc, arith, get_or-set_other, get_or-set_same}
+use Rattle.std.proofs.Common.{◌≡◌, ℕ, zero, suc, ◌+◌, ◌*◌, ◌^◌, ◌<◌, ◌≤◌, List, ◌∷◌, ◌++◌, length, get_or, take, drop, refl, sym, ap, ◌∙◌, append_assoc, arith, get_or-set_other, get_or-set_same}
 use Rattle.std.specs.Prelude.{slice_index, slice_set}
 use Rattle.std.specs.List.{flat_map, AllByRecursion}
-use Rattle.std.proofs.lemmas.List.{append-nil, drop-drop, drop_all, drop_more, length-set, length-drop, length-take-le, set-get_or, take-append-drop}
+use Rattle.std.proofs.lemmas.List.{drop-drop, drop_all, drop_more, length-set, length-drop, length-take-le, set-get_or, take-append-drop}
 use Rattle.std.proofs.lemmas.List.Concat.{flat_map-cons}
 use Rattle.byteorder.specs.Endian.{big_bytes, big_number}
 use Rattle.byteorder.specs.Numbers.{big_from-lt}
@@ -11,7 +11,6 @@ use Rattle.of10_actions.proofs.Digits.{IsBytes-drop}
 use Rattle.of10_msgs.specs.Ranges.{HasAddress, PortFits}
 use Rattle.of10_msgs.specs.Reading.{port_at, ports_at}
 use Rattle.of10_msgs.specs.Spelling.{clear_match, port_bytes}
-use Rattle.of10_msgs.specs.declared.message.PhyPort.{PhyPort}
 use Rattle.of10_msgs.proofs.Fields.{split}
 
 -- a number that is read fits its bytes

@@ -1,5 +1,5 @@
 -- A message that is spelled is read, and what is written is spelled so.
-use Rattle.std.proofs.Common.{◌≡◌, ℕ, ◌+◌, ◌%◌, ◌/◌, ◌^◌, ◌<◌, ◌≤◌, Bool, true, false, cond, eqb, List, [], ◌∷◌, ◌++◌, length, take, drop, replicate, Option, Some, Result, Ok, Err, refl, sym, ap, ◌∙◌, arith}
+use Rattle.std.proofs.Common.{◌≡◌, ℕ, ◌+◌, ◌%◌, ◌/◌, Bool, true, false, cond, eqb, List, [], ◌∷◌, ◌++◌, length, take, drop, Option, Some, Result, Ok, Err, refl, ap, ◌∙◌, arith}
 use Rattle.std.specs.Prelude.{◌||◌}
 use Rattle.std.specs.List.{flat_map}
 use Rattle.std.proofs.lemmas.List.{length-append, length-take, length-drop, length-replicate}
@@ -12,7 +12,7 @@ use Rattle.of10_actions.proofs.Encoding.{spells_length}
 use Rattle.of10_actions.proofs.Lists.{spelling_spells}
 use Rattle.of10_msgs.specs.Bodies.{kind_of}
 use Rattle.of10_msgs.specs.Kinds.{is_among, kind_at, lengths_of, number_of}
-use Rattle.of10_msgs.specs.Ranges.{CanWrite, FitsTypes, IsInRange, IsMessage}
+use Rattle.of10_msgs.specs.Ranges.{IsInRange, IsMessage}
 use Rattle.of10_msgs.specs.Reading.{body_at, message_of, reading, typed}
 use Rattle.of10_msgs.specs.Spelling.{Free, IsVersion, Spells, SpellsActions, actions_of, body_bytes, body_with, clear_match, flow_mod_fields, match_of, packet_out_fields, padding, port_bytes, spelling, with_free, written}
 use Rattle.of10_msgs.specs.declared.fault.FormFault.{FormFault}
@@ -23,7 +23,7 @@ use Rattle.of10_msgs.specs.declared.message.Body.{Body}
 use Rattle.of10_msgs.specs.declared.message.Body.TheVariants.{Hello, FeaturesReply, PacketIn, FlowRemoved, PortStatus, PacketOut, FlowMod}
 use Rattle.of10_msgs.specs.declared.message.Message.{Message}
 use Rattle.of10_msgs.proofs.Fields.{again}
-use Rattle.of10_msgs.proofs.SpelledBodies.{Head, IsFree, body_is, framed, length_clear}
+use Rattle.of10_msgs.proofs.SpelledBodies.{Head, IsFree, body_is, length_clear}
 
 -- ---- lengths
 

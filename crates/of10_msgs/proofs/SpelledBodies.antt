@@ -1,5 +1,5 @@
 -- A body that is spelled is read, whatever is free in it.
-use Rattle.std.proofs.Common.{◌≡◌, ℕ, ◌+◌, ◌-◌, ◌*◌, ◌/◌, ◌^◌, ◌<◌, ◌≤◌, Bool, true, false, cond, ltb, List, [], ◌∷◌, ◌++◌, length, take, drop, All, Result, Ok, Err, refl, sym, ap, subst, ◌∙◌, append_assoc, arith}
+use Rattle.std.proofs.Common.{◌≡◌, ℕ, ◌+◌, ◌-◌, ◌/◌, ◌^◌, ◌<◌, Bool, false, cond, ltb, List, [], ◌∷◌, ◌++◌, length, take, drop, All, Result, Ok, Err, refl, sym, ap, subst, ◌∙◌, arith}
 use Rattle.std.specs.List.{flat_map}
 use Rattle.std.proofs.lemmas.Bool.{le-ltb}
 use Rattle.std.proofs.lemmas.List.{take_at, drop_at, length-append, length-set, append-nil}
@@ -13,7 +13,6 @@ use Rattle.of10_msgs.specs.Bodies.{kind_of}
 use Rattle.of10_msgs.specs.Ranges.{FitsTypes, HasAddress, IsInRange, PortFits}
 use Rattle.of10_msgs.specs.Reading.{body_at, features_reply_of, flow_mod_of, flow_removed_of, listed, packet_out_at, packet_out_of, ports_at, with_actions}
 use Rattle.of10_msgs.specs.Spelling.{Free, SpellsActions, body_with, clear_match, flow_mod_fields, match_of, packet_out_fields, padding, port_bytes}
-use Rattle.of10_msgs.specs.declared.fault.FormFault.{FormFault}
 use Rattle.of10_msgs.specs.declared.fault.FormFault.TheVariants.{BadLen}
 use Rattle.of10_msgs.specs.declared.message.Body.{Body}
 use Rattle.of10_msgs.specs.declared.message.Body.TheVariants.{Hello, Error, EchoRequest, EchoReply, FeaturesRequest, FeaturesReply, GetConfigRequest, GetConfigReply, SetConfig, PacketIn, FlowRemoved, PortStatus, PacketOut, FlowMod, PortMod, StatsRequest, StatsReply, BarrierRequest, BarrierReply, QueueGetConfigRequest, QueueGetConfigReply}

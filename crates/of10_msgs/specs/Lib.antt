@@ -1,5 +1,9 @@
 pub mod Kinds
+pub mod Commands
+pub mod Numbers
 pub mod Bodies
 pub mod Spelling
 pub mod Ranges
 pub mod Reading
+pub mod Senders
+pub mod Worked

@@ -1,9 +1,8 @@
 -- Reading a frame: the message, or the first fault in the order in which faults are looked for.
 use Rattle.std.specs.Prelude.{◌≡◌, ℕ, zero, suc, ◌+◌, ◌-◌, ◌/◌, List, [], ◌∷◌, length, take, drop, slice_index, Option, Some, None, Result, Ok, Err, nat_lt, ◌==◌, ◌||◌, if◌then◌else◌}
-use Rattle.byteorder.specs.Endian.{big_number}
 use Rattle.of10_actions.specs.declared.action.Action.{Action as ActionOf}
 use Rattle.of10_actions.specs.declared.fault.ActionFault.{ActionFault}
-use Rattle.of10_actions.specs.Reading.{reading as actions_in, u16_at, u32_at, u48_at}
+use Rattle.of10_actions.specs.Reading.{reading as actions_in, u16_at, u32_at, u48_at, u64_at}
 use Rattle.of10_msgs.specs.Kinds.{kind_at, lengths_of, is_among}
 use Rattle.of10_msgs.specs.Spelling.{clear_match}
 use Rattle.of10_msgs.specs.declared.fault.FormFault.{FormFault}
@@ -16,10 +15,6 @@ use Rattle.of10_msgs.specs.declared.message.FlowMod.{FlowMod as FlowModOf}
 use Rattle.of10_msgs.specs.declared.message.Message.{Message}
 use Rattle.of10_msgs.specs.declared.message.PacketOut.{PacketOut as PacketOutOf}
 use Rattle.of10_msgs.specs.declared.message.PhyPort.{PhyPort}
-
--- the number of 64 bits at a place
-abbrev pub u64_at : ℕ → List ℕ → ℕ
-u64_at at bytes = big_number 8 (drop at bytes)
 
 -- the bytes from one place to another
 abbrev pub span : ℕ → ℕ → List ℕ → List ℕ

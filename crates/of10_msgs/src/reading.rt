@@ -8,10 +8,11 @@ ghost use Rattle.of10_msgs.specs.Spelling.{Spells};
 ghost use Rattle.of10_msgs.specs.Reading.{Gives, body_at, flow_mod_of, flow_removed_of, listed, packet_out_at, packet_out_of, port_at as port_of, ports_at as ports_of, reading, typed};
 
 use crate::fault::FormFault;
-use crate::field::{array_at, match_at, rest_at, u16_at, u32_at, u48_at, u64_at};
+use crate::field::{array_at, match_at, rest_at};
 use crate::kind::Kind;
 use crate::message::{Body, FlowMod, Message, PacketOut, PhyPort};
 use cv_io::{List, Memory};
+use of10_actions::number::{u16_at, u32_at, u48_at, u64_at};
 use of10_actions::{Action, ActionFault, read_list};
 use of10_frames::{VERSION, length_of};
 use std::alloc::Global;

@@ -2,9 +2,11 @@ ghost use Rattle.std.specs.Prelude.{IfOk};
 ghost use Rattle.of10_msgs.specs.Ranges.{CanWrite};
 
 use super::*;
-use cv_io::Bytes;
+use crate::number::NO_BUFFER;
+use cv_io::{Bytes, List};
 use of10_actions::{Action, ActionFault};
 use of10_frames::{header, is_frame};
+use std::alloc::Global;
 use std::process::Abort;
 use std::test::*;
 
@@ -58,30 +60,58 @@ fn another_implementation(rt: HostRuntime) -> Result<(), Fail> {
 const ADD: &str =
     "010e005000000007003020ee000100000000000000000000000000000000080000000000000000000a0000010000000000000000000000000000000000008000ffffffffffff00000000000800020000";
 
+/// The message of the same bytes.
+fn addition(alloc: Global, m: [u8; MATCH]) -> Result<Message, Fail> {
+    let mut actions = List::new(alloc);
+    actions.push(Action::Output {
+        port: 2,
+        max_len: 0,
+    })?;
+    Ok(Message {
+        xid: 7,
+        body: Body::FlowMod(FlowMod {
+            m,
+            cookie: 0,
+            command: Command::Add.number(),
+            idle_timeout: 0,
+            hard_timeout: 0,
+            priority: 0x8000,
+            buffer_id: NO_BUFFER,
+            out_port: 0xffff,
+            flags: 0,
+            actions,
+        }),
+    })
+}
+
 #[test]
 fn one_flow_mod(rt: HostRuntime) -> Result<(), Fail> {
     let frame = hex::decode(rt.alloc(), ADD)?;
     assert!(rt; frame.len() == 80);
-    let message = read(&rt, &frame)?;
-    assert_eq!(rt; message.xid, 7);
-    let Body::FlowMod(ref f) = message.body else {
-        return Err("it is no FLOW_MOD".into());
-    };
-    assert_eq!(rt; f.m.as_slice(), &frame[8..48]);
-    assert_eq!(rt; f.cookie, 0);
-    assert_eq!(rt; (f.command, f.idle_timeout, f.hard_timeout), (0, 0, 0));
-    assert_eq!(rt; (f.priority, f.buffer_id), (0x8000, 0xffff_ffff));
-    assert_eq!(rt; (f.out_port, f.flags), (0xffff, 0));
-    assert_eq!(rt;
-        f.actions.as_slice(),
-        [Action::Output {
-            port: 2,
-            max_len: 0
-        }]
-        .as_slice()
-    );
+    let mut m = [0; MATCH];
+    m.copy_from_slice(&frame[8..48]);
+    let message = addition(rt.alloc(), m)?;
+    assert_eq!(rt; read(&rt, &frame)?, message);
+    assert!(rt; fits(&message));
     let written = write_message(rt.alloc(), &message)?;
     assert_eq!(rt; written.as_slice(), &frame[..]);
+    Ok(())
+}
+
+#[test]
+fn what_a_controller_may_send(rt: HostRuntime) -> Result<(), Fail> {
+    for (kind, refused) in [(6, true), (10, true), (21, true), (14, false), (18, false)] {
+        let frame = [1, kind, 0, 8, 0, 0, 0, 1];
+        assert!(rt; is_frame(&frame));
+        let fault = read_of_controller(rt.alloc(), &frame).err();
+        assert_eq!(rt;
+            fault == Some(FormFault::BadType { kind }),
+            refused,
+            "type {kind}"
+        );
+    }
+    assert_eq!(rt; Command::from_number(3), Some(Command::Delete));
+    assert_eq!(rt; Command::from_number(5), None);
     Ok(())
 }
 

@@ -1,35 +1,75 @@
 //! From messages to bytes.
-ghost use Rattle.std.specs.Prelude.{◌≡◌, ◌++◌, ◌∷◌, ◌<◌, ◌^◌, [], All, IfOk, OnOk, length};
+ghost use Rattle.std.specs.Prelude.{◌≡◌, ◌↔◌, ◌++◌, ◌∷◌, ◌-◌, ◌<◌, ◌^◌, [], All, IfOk, IsTrue, OnOk, length, min};
 ghost use Rattle.std.specs.List.{flat_map};
 ghost use Rattle.byteorder.specs.Endian.{big_bytes};
 ghost use Rattle.of10_actions.specs.Spelling.{spellings};
-ghost use Rattle.of10_msgs.specs.Ranges.{CanWrite, HasAddress, IsInRange};
+ghost use Rattle.of10_msgs.specs.Ranges.{CanWrite, FitsTypes, FlowModFits, HasAddress, IsClear, IsInRange, PacketOutFits, PortFits};
+ghost use Rattle.of10_msgs.specs.Reading.{reading};
 ghost use Rattle.of10_msgs.specs.Spelling.{body_bytes, flow_mod_fields as flow_mod_fields_of, packet_out_fields as packet_out_fields_of, port_bytes, spelling};
 
+use crate::field::cleared;
 use crate::message::{Body, FlowMod, MATCH, Message, PacketOut, PhyPort};
 use byteorder::{BigEndian, ByteOrder};
 use cv_io::{Bytes, List, Memory};
-use of10_actions::{list_length, write_actions};
+use of10_actions::{are_in_range, list_length, write_actions};
 use of10_frames::{HEADER, header};
 use std::alloc::Global;
 
-/// The bytes of a message, with zero padding.
+/// Whether the message can be written: its length is one of its type's, and its parts are in range.
+pub fn fits(m: &Message) -> bool
+    ensures { IsTrue result ↔ CanWrite m.now.body }
+{
+    let length = body_length(&m.body).saturating_add(HEADER);
+    length < 65_536 && m.body.kind().lengths().has(length) && is_in_range(&m.body)
+}
+
+/// Whether Ethernet addresses, matches and actions are in their ranges.
+fn is_in_range(body: &Body) -> bool
+    ensures { IsTrue result ↔ IsInRange body.now }
+{
+    match body {
+        Body::FeaturesReply { ports, .. } => {
+            ports.as_slice().iter().all(|port| has_address(port))
+        }
+        Body::PortStatus { port, .. } => has_address(port),
+        Body::FlowRemoved { m, .. } => is_clear(m),
+        Body::PacketOut(p) => are_in_range(&p.actions),
+        Body::FlowMod(f) => is_clear(&f.m) && are_in_range(&f.actions),
+        _ => true,
+    }
+}
+
+fn has_address(port: &PhyPort) -> bool
+    ensures { IsTrue result ↔ HasAddress port.now }
+{
+    port.hw_addr < 1 << 48
+}
+
+/// Whether the padding of a match is zero.
+fn is_clear(m: &[u8; MATCH]) -> bool
+    ensures { IsTrue result ↔ IsClear m.now }
+{
+    cleared(*m) == *m
+}
+
+/// The bytes of a message, with zero padding. `fits` tells which can be written.
 pub fn write_message(alloc: Global, m: &Message) -> Result<Bytes, Memory>
     requires { CanWrite m.now.body }
-    ensures { IfOk result (λ bytes. bytes ≡ spelling m.now) }
+    ensures written { IfOk result (λ bytes. bytes ≡ spelling m.now) }
+    ensures reads_back { IfOk result (λ bytes. reading bytes ≡ Ok m.now) }
 {
+    let Message { xid, .. } = *m;
     let length = HEADER + body_length(&m.body);
     let mut out = Bytes::with_capacity(alloc, length)?;
-    out.extend_from_slice(&header(m.body.kind().number(), length as u16, m.xid))?;
+    out.extend_from_slice(&header(m.body.kind().number(), length as u16, xid))?;
     write_body(&m.body, &mut out)?;
     Ok(out)
 }
 
-/// How many bytes follow the header.
+/// How many bytes follow the header, at most the greatest usize.
 #[tactic(auto, unfolding(crate::specs::Spelling::body_bytes, crate::specs::Spelling::flow_mod_fields, crate::specs::Spelling::packet_out_fields, crate::specs::Spelling::port_bytes))]
 fn body_length(body: &Body) -> usize
-    requires { length (body_bytes body.now) < 2 ^ 16 }
-    ensures { result ≡ length (body_bytes body.now) }
+    ensures { result ≡ min (length (body_bytes body.now)) (2 ^ 64 - 1) }
 {
     match body {
         Body::FeaturesRequest
@@ -45,37 +85,40 @@ fn body_length(body: &Body) -> usize
         | Body::StatsReply { body: bytes }
         | Body::QueueGetConfigRequest { bytes }
         | Body::QueueGetConfigReply { bytes } => bytes.len(),
-        Body::Error { bytes, .. } => 4 + bytes.len(),
-        Body::FeaturesReply { ports, .. } => 24 + ports_length(ports),
-        Body::PacketIn { bytes, .. } => 10 + bytes.len(),
+        Body::Error { bytes, .. } => bytes.len().saturating_add(4),
+        Body::FeaturesReply { ports, .. } => ports_length(ports).saturating_add(24),
+        Body::PacketIn { bytes, .. } => bytes.len().saturating_add(10),
         Body::FlowRemoved { m, .. } => match_length(m) + 40,
         Body::PortStatus { port, .. } => 8 + port_length(port),
-        Body::PacketOut(p) => 8 + list_length(&p.actions) + p.bytes.len(),
-        Body::FlowMod(f) => match_length(&f.m) + 24 + list_length(&f.actions),
+        Body::PacketOut(p) => list_length(&p.actions)
+            .saturating_add(p.bytes.len())
+            .saturating_add(8),
+        Body::FlowMod(f) => list_length(&f.actions).saturating_add(match_length(&f.m) + 24),
     }
 }
 
 fn match_length(m: &[u8; MATCH]) -> usize
-    ensures { result ≡ length m.now }
+    ensures value { result ≡ length m.now }
+    ensures size { length m.now ≡ 40 }
 {
     m.len()
 }
 
-/// How many bytes ports take.
+/// How many bytes ports take, at most the greatest usize.
 fn ports_length(ports: &List<PhyPort>) -> usize
-    requires { length (flat_map port_bytes ports.now) < 2 ^ 16 }
-    ensures { result ≡ length (flat_map port_bytes ports.now) }
+    ensures { result ≡ min (length (flat_map port_bytes ports.now)) (2 ^ 64 - 1) }
 {
-    let mut total = 0;
+    let mut total: usize = 0;
     for port in ports.as_slice() {
-        total += port_length(port);
+        total = total.saturating_add(port_length(port));
     }
     total
 }
 
 #[tactic(auto, unfolding(crate::specs::Spelling::port_bytes))]
 fn port_length(port: &PhyPort) -> usize
-    ensures { result ≡ length (port_bytes port.now) }
+    ensures value { result ≡ length (port_bytes port.now) }
+    ensures size { result ≡ 48 }
 {
     32 + port.name.len()
 }
@@ -85,7 +128,9 @@ fn port_length(port: &PhyPort) -> usize
 fn write_body(body: &Body, out: &mut Bytes) -> Result<(), Memory>
     requires in_range { IsInRange body.now }
     requires fits { length (body_bytes body.now) < 2 ^ 16 }
-    ensures { OnOk result (out.new ≡ out.old ++ body_bytes body.now) }
+    ensures written { OnOk result (out.new ≡ out.old ++ body_bytes body.now) }
+    // True of every body of the type; the laws of the grammar ask for it.
+    ensures types { OnOk result (FitsTypes body.now) }
 {
     match body {
         Body::FeaturesRequest
@@ -164,7 +209,8 @@ fn write_body(body: &Body, out: &mut Bytes) -> Result<(), Memory>
 /// Appends the ports of a FEATURES_REPLY.
 fn write_ports(ports: &List<PhyPort>, out: &mut Bytes) -> Result<(), Memory>
     requires { All HasAddress ports.now }
-    ensures { OnOk result (out.new ≡ out.old ++ flat_map port_bytes ports.now) }
+    ensures written { OnOk result (out.new ≡ out.old ++ flat_map port_bytes ports.now) }
+    ensures types { OnOk result (All PortFits ports.now) }
 {
     for port in ports.as_slice() {
         write_port(port, out)?;
@@ -175,7 +221,8 @@ fn write_ports(ports: &List<PhyPort>, out: &mut Bytes) -> Result<(), Memory>
 #[tactic(auto, unfolding(crate::specs::Spelling::port_bytes))]
 fn write_port(port: &PhyPort, out: &mut Bytes) -> Result<(), Memory>
     requires { HasAddress port.now }
-    ensures { OnOk result (out.new ≡ out.old ++ port_bytes port.now) }
+    ensures written { OnOk result (out.new ≡ out.old ++ port_bytes port.now) }
+    ensures types { OnOk result (PortFits port.now) }
 {
     out.extend_from_slice(&port_head(port.port_no, port.hw_addr))?;
     out.extend_from_slice(&port.name)?;
@@ -189,7 +236,8 @@ fn write_port(port: &PhyPort, out: &mut Bytes) -> Result<(), Memory>
 fn write_packet_out(p: &PacketOut, out: &mut Bytes) -> Result<(), Memory>
     requires in_range { IsInRange (Body.PacketOut p.now) }
     requires fits { length (spellings p.now.actions) < 2 ^ 16 }
-    ensures { OnOk result (out.new ≡ out.old ++ body_bytes (Body.PacketOut p.now)) }
+    ensures written { OnOk result (out.new ≡ out.old ++ body_bytes (Body.PacketOut p.now)) }
+    ensures types { OnOk result (PacketOutFits p.now) }
 {
     out.extend_from_slice(&packet_out_fields(p, list_length(&p.actions) as u16))?;
     write_actions(&p.actions, out)?;
@@ -199,7 +247,8 @@ fn write_packet_out(p: &PacketOut, out: &mut Bytes) -> Result<(), Memory>
 #[tactic(auto, unfolding(crate::specs::Spelling::body_bytes))]
 fn write_flow_mod(f: &FlowMod, out: &mut Bytes) -> Result<(), Memory>
     requires { IsInRange (Body.FlowMod f.now) }
-    ensures { OnOk result (out.new ≡ out.old ++ body_bytes (Body.FlowMod f.now)) }
+    ensures written { OnOk result (out.new ≡ out.old ++ body_bytes (Body.FlowMod f.now)) }
+    ensures types { OnOk result (FlowModFits f.now) }
 {
     out.extend_from_slice(&f.m)?;
     out.extend_from_slice(&flow_mod_fields(f))?;
@@ -208,27 +257,46 @@ fn write_flow_mod(f: &FlowMod, out: &mut Bytes) -> Result<(), Memory>
 
 #[tactic(auto, unfolding(crate::specs::Spelling::flow_mod_fields))]
 fn flow_mod_fields(f: &FlowMod) -> [u8; 24]
-    ensures { result ≡ flow_mod_fields_of f.now }
+    ensures value { result ≡ flow_mod_fields_of f.now }
+    ensures long { (f.now.cookie < 2 ^ 64) × (f.now.buffer_id < 2 ^ 32) × (f.now.command < 2 ^ 16) × (f.now.priority < 2 ^ 16) }
+    ensures short { (f.now.idle_timeout < 2 ^ 16) × (f.now.hard_timeout < 2 ^ 16) × (f.now.out_port < 2 ^ 16) × (f.now.flags < 2 ^ 16) }
 {
+    let FlowMod {
+        cookie,
+        command,
+        idle_timeout,
+        hard_timeout,
+        priority,
+        buffer_id,
+        out_port,
+        flags,
+        ..
+    } = *f;
     let mut bytes = [0; 24];
-    BigEndian::write_u64(&mut bytes, f.cookie);
-    BigEndian::write_u16(&mut bytes[8..], f.command);
-    BigEndian::write_u16(&mut bytes[10..], f.idle_timeout);
-    BigEndian::write_u16(&mut bytes[12..], f.hard_timeout);
-    BigEndian::write_u16(&mut bytes[14..], f.priority);
-    BigEndian::write_u32(&mut bytes[16..], f.buffer_id);
-    BigEndian::write_u16(&mut bytes[20..], f.out_port);
-    BigEndian::write_u16(&mut bytes[22..], f.flags);
+    BigEndian::write_u64(&mut bytes, cookie);
+    BigEndian::write_u16(&mut bytes[8..], command);
+    BigEndian::write_u16(&mut bytes[10..], idle_timeout);
+    BigEndian::write_u16(&mut bytes[12..], hard_timeout);
+    BigEndian::write_u16(&mut bytes[14..], priority);
+    BigEndian::write_u32(&mut bytes[16..], buffer_id);
+    BigEndian::write_u16(&mut bytes[20..], out_port);
+    BigEndian::write_u16(&mut bytes[22..], flags);
     bytes
 }
 
 #[tactic(auto, unfolding(crate::specs::Spelling::packet_out_fields))]
 fn packet_out_fields(p: &PacketOut, actions_len: u16) -> [u8; 8]
-    ensures { result ≡ packet_out_fields_of p.now actions_len }
+    ensures value { result ≡ packet_out_fields_of p.now actions_len }
+    ensures types { (p.now.buffer_id < 2 ^ 32) × (p.now.in_port < 2 ^ 16) }
 {
+    let PacketOut {
+        buffer_id,
+        in_port,
+        ..
+    } = *p;
     let mut bytes = [0; 8];
-    BigEndian::write_u32(&mut bytes, p.buffer_id);
-    BigEndian::write_u16(&mut bytes[4..], p.in_port);
+    BigEndian::write_u32(&mut bytes, buffer_id);
+    BigEndian::write_u16(&mut bytes[4..], in_port);
     BigEndian::write_u16(&mut bytes[6..], actions_len);
     bytes
 }

@@ -14,7 +14,8 @@ use Rattle.of10_match.proofs.NormalMeet.{IsNormal-both}
 use Rattle.of10_match.proofs.Overlapping.{overlaps_exact}
 use Rattle.of10_match.proofs.Twelve.{and-false, and-first, and-second}
 use Rattle.of10_actions.specs.Fields.{RewriteOf}
-use Rattle.of10_actions.specs.Rewriting.{apply, pull}
+use Rattle.of10_actions.specs.Rewriting.{apply}
+use Rattle.pull_back.specs.Pulling.{pull}
 use Rattle.of10_actions.specs.declared.effects.Tail.{Tail}
 use Rattle.of10_actions.specs.declared.effects.Tail.TheVariants.{Nothing, Pass, Link}
 use Rattle.pull_back.specs.Pulls.{IsPullBack}

@@ -8,18 +8,17 @@ use crate::op::Op;
 use cv_io::{Memory, Steps};
 use of10_actions::Tail;
 use policy_meaning::{Rule, chain_rule, hop_rule, sum_rule};
-use std::alloc::Global;
 use std::sync::ledger::Ledger;
 
 /// The rule of a pair.
-fn pair(alloc: Global, op: Op, a: &Rule, b: &Rule, size: u64) -> Result<Option<Rule>, Memory>
+fn pair(op: Op, a: &Rule, b: &Rule, size: u64) -> Result<Option<Rule>, Memory>
     requires { joined_level op a.now.level b.now.level size < 2 ^ 64 }
     ensures { IfOk result (λ rule. rule ≡ joined op size a.now b.now) }
 {
     match (op, &a.tail) {
-        (Op::Par, _) => sum_rule(alloc, a, b),
-        (Op::Seq, Tail::Pass(rewrite)) => chain_rule(alloc, size, rewrite, a, b),
-        (Op::Hop, Tail::Link(rewrite, _)) => hop_rule(alloc, size, rewrite, a, b),
+        (Op::Par, _) => sum_rule(a, b),
+        (Op::Seq, Tail::Pass(rewrite)) => chain_rule(size, rewrite, a, b),
+        (Op::Hop, Tail::Link(rewrite, _)) => hop_rule(size, rewrite, a, b),
         _ => Ok(None),
     }
 }
@@ -28,7 +27,6 @@ fn pair(alloc: Global, op: Op, a: &Rule, b: &Rule, size: u64) -> Result<Option<R
 /// in it. For a hop the left one stands at its node, and `size` is that of the nodes of its peers.
 /// This is one step.
 pub fn join<G: Ledger>(
-    alloc: Global,
     op: Op,
     a: &Rule,
     b: &Rule,
@@ -44,5 +42,5 @@ pub fn join<G: Ledger>(
     ensures step { steps.new ≡ steps.old + 1 }
 {
     steps.tick();
-    pair(alloc, op, a, b, size)
+    pair(op, a, b, size)
 }

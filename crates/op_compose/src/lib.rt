@@ -5,6 +5,7 @@
 
 pub mod delta;
 pub mod joining;
+pub mod laws;
 pub mod lifting;
 pub mod op;
 pub mod single;

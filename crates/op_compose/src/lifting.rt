@@ -3,6 +3,7 @@ ghost use Rattle.std.specs.Prelude.{◌≡◌, ◌+◌, ◌<◌, ◌^◌, IfOk};
 ghost use Rattle.op_compose.specs.Composition.{StandsAlone, alone, alone_level};
 
 use crate::op::{Op, Side};
+use alg_priority::{concat, shift};
 use cv_io::{Duplicate, Memory, Steps};
 use policy_meaning::{Rule, hop_lone, lifted};
 use std::sync::ledger::Ledger;
@@ -24,8 +25,8 @@ pub fn lift<G: Ledger>(
 {
     steps.tick();
     match (op, side) {
-        (Op::Seq, Side::Left) => lifted(a.level * size, a),
-        (Op::Over, Side::Left) => lifted(size + a.level, a),
+        (Op::Seq, Side::Left) => lifted(concat(a.level, 0, size), a),
+        (Op::Over, Side::Left) => lifted(shift(a.level, size), a),
         (Op::Hop, Side::Left) => hop_lone(size, a),
         _ => a.copy(),
     }

@@ -99,7 +99,6 @@ fn entry(alloc: Global, m: Match, level: u64, tail: Tail) -> Result<Rule, Memory
 
 /// The match and the level of the rule of a pair, if there is one, and the leaves of its ancestry.
 fn paired<G: Ledger>(
-    alloc: Global,
     op: Op,
     a: Rule,
     b: Rule,
@@ -111,7 +110,7 @@ fn paired<G: Ledger>(
     requires level { joined_level op a.level b.level size < 2 ^ 64 }
 {
     let mut steps = Steps::<G>::new(blank);
-    Ok(match join(alloc, op, &a, &b, size, &mut steps)? {
+    Ok(match join(op, &a, &b, size, &mut steps)? {
         Some(rule) => Some((rule.m, rule.level, rule.ancestry.len())),
         None => None,
     })
@@ -122,21 +121,21 @@ fn worked_pairs(rt: HostRuntime) -> Result<(), Fail> {
     let alloc = rt.alloc();
     let monitor = entry(alloc, monitored(), 4, Tail::Nothing)?;
     let router = entry(alloc, routed(), 4, Tail::Nothing)?;
-    let both = paired::<Brand>(alloc, Op::Par, monitor, router, 8, Blank::new(1))?;
+    let both = paired::<Brand>(Op::Par, monitor, router, 8, Blank::new(1))?;
     assert_eq!(rt; both, Some((monitored_and_routed(), 8, 2)));
     let balancer = entry(alloc, balanced(), 4, Tail::Pass(to_server()))?;
     let server = entry(alloc, served(), 4, Tail::Nothing)?;
-    let passed = paired::<Brand>(alloc, Op::Seq, balancer, server, 8, Blank::new(1))?;
+    let passed = paired::<Brand>(Op::Seq, balancer, server, 8, Blank::new(1))?;
     assert_eq!(rt; passed, Some((balanced(), 36, 2)));
     // What goes to the server isn't in the router's net.
     let balancer = entry(alloc, balanced(), 4, Tail::Pass(to_server()))?;
     let router = entry(alloc, routed(), 4, Tail::Nothing)?;
-    let apart = paired::<Brand>(alloc, Op::Seq, balancer, router, 8, Blank::new(1))?;
+    let apart = paired::<Brand>(Op::Seq, balancer, router, 8, Blank::new(1))?;
     assert_eq!(rt; apart, None);
     // The peer's rule holds what comes by its own port, whichever port the packet came by.
     let first = entry(alloc, by_port(1), 4, Tail::Link(Rewrite::new(), 9))?;
     let second = entry(alloc, by_port(9), 288, Tail::Nothing)?;
-    let crossed = paired::<Brand>(alloc, Op::Hop, first, second, 512, Blank::new(1))?;
+    let crossed = paired::<Brand>(Op::Hop, first, second, 512, Blank::new(1))?;
     assert_eq!(rt; crossed, Some((by_port(1), 2336, 2)));
     Ok(())
 }

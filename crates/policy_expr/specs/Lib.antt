@@ -1,4 +1,5 @@
 pub mod Policy
+pub mod Stored
 pub mod Sizes
 pub mod Signs
 pub mod Tokens

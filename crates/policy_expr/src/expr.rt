@@ -5,7 +5,6 @@ ghost use Rattle.policy_expr.specs.Sizes.{HasBitsOf, leaf_count, size_by_leaf};
 
 use alg_priority::{size_concat, size_shift, size_sum};
 use cv_io::{List, Memory};
-use std::alloc::Global;
 
 /// A policy over the members of one virtual switch.
 #[derive(Debug, Drop)]
@@ -21,23 +20,23 @@ pub enum Expr {
 }
 
 impl Expr {
-    /// A copy of the expression.
-    pub fn copy(&self, alloc: Global) -> Result<Expr, Memory>
+    /// A copy, which stands for the same policy.
+    pub fn copy(&self) -> Result<Expr, Memory>
         ensures { IfOk result (λ copied. policy_of copied ≡ policy_of self.now) }
     {
         Ok(match self {
             Expr::Member { index } => Expr::Member { index: *index },
             Expr::Par { left, right } => Expr::Par {
-                left: Box::new(alloc, left.copy(alloc)?)?,
-                right: Box::new(alloc, right.copy(alloc)?)?,
+                left: Box::new(*Box::allocator(left), left.copy()?)?,
+                right: Box::new(*Box::allocator(right), right.copy()?)?,
             },
             Expr::Seq { left, right } => Expr::Seq {
-                left: Box::new(alloc, left.copy(alloc)?)?,
-                right: Box::new(alloc, right.copy(alloc)?)?,
+                left: Box::new(*Box::allocator(left), left.copy()?)?,
+                right: Box::new(*Box::allocator(right), right.copy()?)?,
             },
             Expr::Over { left, right } => Expr::Over {
-                left: Box::new(alloc, left.copy(alloc)?)?,
-                right: Box::new(alloc, right.copy(alloc)?)?,
+                left: Box::new(*Box::allocator(left), left.copy()?)?,
+                right: Box::new(*Box::allocator(right), right.copy()?)?,
             },
         })
     }

@@ -167,7 +167,7 @@ fn sizes_and_copies(rt: HostRuntime) -> Result<(), Fail> {
     let left = Box::new(alloc, Expr::Member { index: 0 })?;
     let right = Box::new(alloc, Expr::Member { index: 1 })?;
     let pair = Expr::Par { left, right };
-    let copied = pair.copy(alloc)?;
+    let copied = pair.copy()?;
     assert_eq!(rt; shown(alloc, &copied)?.as_str(), "(0 + 1)");
     let left = Box::new(alloc, pair)?;
     let right = Box::new(alloc, Expr::Member { index: 2 })?;

@@ -9,7 +9,7 @@ use Rattle.std.specs.Prelude.{◌||◌, cond, map, All}
 use Rattle.std.proofs.lemmas.Bool.{false≢true}
 use Rattle.atomic_table.specs.Table.{Final, Seen}
 use Rattle.policy_lock.specs.declared.machine.Machine.{Ghosts}
-use Rattle.policy_lock.specs.declared.locked.Locked.{Locked}
+use Rattle.policy_lock.specs.declared.held.Held.{Held}
 use Rattle.policy_lock.specs.declared.view.Entry.{Entry}
 use Rattle.policy_lock.specs.declared.view.Pass.{Pass}
 use Rattle.policy_lock.specs.declared.view.View.{View}
@@ -91,9 +91,9 @@ module _ {E R : Type 0} where
 
 module _ {M E R S : Type 0} (g : Ghosts M E R S) (code : Coded S) (lock : LockOf S) where
   -- the slot's value, and what it stands for
-  pub closes : (words : List ℕ) (slots : List (Option (Locked M E R S g))) (id : ℕ) (v : View E R S) (seats : List (SeatOf E R S)) → Final (Seen (Kept g lock.start) id v) words slots → v.seated ≡ true → v.holds ≡ false
+  pub closes : (words : List ℕ) (slots : List (Option (Held M E R S g))) (id : ℕ) (v : View E R S) (seats : List (SeatOf E R S)) → Final (Seen (Kept g lock.start) id v) words slots → v.seated ≡ true → v.holds ≡ false
       → passes seats ≡ v.pass ∷ v.gathered → missing (numbers seats) ≡ 0 → All (λ (x : SeatOf E R S). x.lock ≡ lock.id) seats
-      → (x : Locked M E R S g) × (get_elem? slots 0 ≡ some (Some x)) × IsClosed g lock.start seats x.machine × All (IsSeatOf lock) seats
+      → (x : Held M E R S g) × (get_elem? slots 0 ≡ some (Some x)) × IsClosed g lock.start seats x.boxed.value.machine × All (IsSeatOf lock) seats
   closes words slots id v seats fin seated free are all of = let s = fin.0 in let k = fin.1.0 in let at = fin.1.1 in let known = k.each_seat id v at in let mine = known.2 seated in
       let knows : AllKnown lock.start k.log k.roster id (passes seats) = subst (AllKnown lock.start k.log k.roster id) (sym are) (mine, known.3) in
       let given : (n : List ℕ) → k.roster n ≢ none → has_number n (numbers seats) ≡ true = covered lock.start k.log k.roster id seats knows all k.parents in
@@ -107,7 +107,7 @@ module _ {M E R S : Type 0} (g : Ghosts M E R S) (code : Coded S) (lock : LockOf
         record {
           log = k.log;
           legal = k.legal;
-          means = means g code lock.start x k.log h.2;
+          means = means g code lock.start x.boxed.value k.log h.2;
           seen = saw lock.start k.log k.roster id seats knows;
           under = under (λ n. Rattle.std.specs.Prelude.IsTrue (has_number n (numbers seats))) [] k.log (λ n some_call. given n (λ e. some_call (k.unborn n e)));
         },

@@ -13,7 +13,7 @@ use Rattle.std.proofs.lemmas.List.{same_from_push}
 use Rattle.atomic_table.specs.Table.{step, keeps, takes, gives, stepped, Allows}
 use Rattle.atomic_table.proofs.Lists.{set_here, set_else, set_again}
 use Rattle.policy_lock.specs.declared.machine.Machine.{Ghosts}
-use Rattle.policy_lock.specs.declared.locked.Locked.{Locked}
+use Rattle.policy_lock.specs.declared.held.Held.{Held}
 use Rattle.policy_lock.specs.declared.view.Entry.{Entry}
 use Rattle.policy_lock.specs.declared.view.Pass.{Pass}
 use Rattle.policy_lock.specs.declared.view.View.{View}
@@ -57,13 +57,13 @@ module _ {M E R S : Type 0} (g : Ghosts M E R S) (start : S) where
   Rule = Kept g start
 
   -- a step that changes nothing
-  pub rests : (s : Lock g) (k : Rule s) (id : ℕ) (v : View E R S) (c : List (ℕ × Option (Locked M E R S g))) → get_elem? s.views id ≡ some v → Rule (stepped s 0 (get_or s.words 0 0) id c v keeps)
+  pub rests : (s : Lock g) (k : Rule s) (id : ℕ) (v : View E R S) (c : List (ℕ × Option (Held M E R S g))) → get_elem? s.views id ≡ some v → Rule (stepped s 0 (get_or s.words 0 0) id c v keeps)
   rests s k id v c at = subst (λ (z : List ℕ × List (View E R S)). Rule record { words = z.0; homes = s.homes; views = z.1 }) (λ i. (sym (set-get_or s.words 0 0) i, sym (set_again s.views id v at) i)) k
 
   pub takes_it : (slots id : ℕ) (me : Sat g) (old new : ℕ) → me.0.seated ≡ true → old % 2 ≡ 0 → new ≡ old + 1
       → Allows Rule slots id me 0 (λ n. either (eqb n old) new n) (Takes g (step slots 0 old new none) me)
   takes_it slots id me old new seated even up s k wide at small = let n : ℕ = get_or s.words 0 0 in let one = k.one_word in dite (ℕ_discrete n old)
-      (λ hit. let still : n % 2 ≡ 0 = ap (λ (z : ℕ). z % 2) hit ∙ even in let h = k.home still in let x : Locked M E R S g = h.0 in let w : View E R S = took k.log me.0 in
+      (λ hit. let still : n % 2 ≡ 0 = ap (λ (z : ℕ). z % 2) hit ∙ even in let h = k.home still in let x : Held M E R S g = h.0 in let w : View E R S = took k.log me.0 in
       let now : get_or (set s.words 0 new) 0 0 ≡ new = get_or-set_same s.words 0 new 0 (omega arith) in let known = k.each_seat id me.0 at in let mine = known.2 seated in
       let half = k.word_is in (
         w,
@@ -95,8 +95,8 @@ module _ {M E R S : Type 0} (g : Ghosts M E R S) (start : S) where
         ((λ _. refl), λ hit. absurd (miss hit)),
       ))
 
-  pub commits : (slots id : ℕ) (me : Sat g) (v : View E R S) (new : ℕ) (x : Locked M E R S g) (old : List E) (e : E) → me ≡ (v, (0, Some x) ∷ []) → v.holds ≡ true → v.gathered ≡ [] → x.events.items ≡ old ++ e ∷ []
-      → ((s : S) → v.pass.start ≡ Some s → (g.idle (after g s v.pass.seen) e ≡ false) × Stands g s x (v.pass.seen ++ made g s v e ∷ [])) → new ≡ 2 * length v.pass.seen + 2 → slots ≡ 1
+  pub commits : (slots id : ℕ) (me : Sat g) (v : View E R S) (new : ℕ) (x : Held M E R S g) (old : List E) (e : E) → me ≡ (v, (0, Some x) ∷ []) → v.holds ≡ true → v.gathered ≡ [] → x.boxed.value.events.items ≡ old ++ e ∷ []
+      → ((s : S) → v.pass.start ≡ Some s → (g.idle (after g s v.pass.seen) e ≡ false) × Stands g s x.boxed.value (v.pass.seen ++ made g s v e ∷ [])) → new ≡ 2 * length v.pass.seen + 2 → slots ≡ 1
       → Allows Rule slots id me 0 (λ _. new) (λ _. Commits g (step slots 0 new 0 none) me new)
   commits slots id me v new x old e is holds empty last stays up one_slot = subst (λ (m : Sat g). Allows Rule slots id m 0 (λ _. new) (λ _. Commits g (step slots 0 new 0 none) m new)) (sym is)
       (λ s k wide at small. let it : Entry E R = made g start v e in let w : View E R S = added g start v e in let o = k.out id v at holds in let known = k.each_seat id v at in let mine = known.2 o.3 in
@@ -136,14 +136,14 @@ module _ {M E R S : Type 0} (g : Ghosts M E R S) (start : S) where
               (λ h. absurd (false≢true h))
               (λ j u other there h. absurd (other ((k.out j u there h).1 ∙ sym o.1)));
           busy = λ e. let e' : new % 2 ≡ 1 = ap (λ (z : ℕ). z % 2) (sym now) ∙ e in absurd (omega arith);
-          home = λ _. (x, set_here s.homes 0 (some (Some x)) (omega arith), subst (Stands g start x) grown stands);
+          home = λ _. (x, set_here s.homes 0 (some (Some x)) (omega arith), subst (Stands g start x.boxed.value) grown stands);
         },
         λ s0 y old' e' is' at' last'. let p : start ≡ s0 = ap (opt_or start) (sym mine.0 ∙ is') in let q : x ≡ y = ap (val_or x) at' in
-            let r : e ≡ e' = (same_from_push old old' e e' (sym last ∙ (ap (λ (z : Locked M E R S g). z.events.items) q ∙ last'))).1 in λ i. (added g (p i) v (r i), []),
+            let r : e ≡ e' = (same_from_push old old' e e' (sym last ∙ (ap (λ (z : Held M E R S g). z.boxed.value.events.items) q ∙ last'))).1 in λ i. (added g (p i) v (r i), []),
       ))
 
-  pub gives_back : (slots id : ℕ) (me : Sat g) (v : View E R S) (word : ℕ) (x : Locked M E R S g) → me ≡ (v, (0, Some x) ∷ []) → v.holds ≡ true
-      → ((s : S) → v.pass.start ≡ Some s → Stands g s x v.pass.seen) → word ≡ 2 * length v.pass.seen → slots ≡ 1
+  pub gives_back : (slots id : ℕ) (me : Sat g) (v : View E R S) (word : ℕ) (x : Held M E R S g) → me ≡ (v, (0, Some x) ∷ []) → v.holds ≡ true
+      → ((s : S) → v.pass.start ≡ Some s → Stands g s x.boxed.value v.pass.seen) → word ≡ 2 * length v.pass.seen → slots ≡ 1
       → Allows Rule slots id me 0 (λ _. word) (λ _. GivesBack g (step slots 0 word 0 none) me word)
   gives_back slots id me v word x is holds stays up one_slot = subst (λ (m : Sat g). Allows Rule slots id m 0 (λ _. word) (λ _. GivesBack g (step slots 0 word 0 none) m word)) (sym is)
       (λ s k wide at small. let w : View E R S = let_go v in let o = k.out id v at holds in let known = k.each_seat id v at in let stands = stays start (known.2 o.3).0 in
@@ -166,7 +166,7 @@ module _ {M E R S : Type 0} (g : Ghosts M E R S) (start : S) where
               (λ h. absurd (false≢true h))
               (λ j u other there h. absurd (other ((k.out j u there h).1 ∙ sym o.1)));
           busy = λ e. let e' : word % 2 ≡ 1 = ap (λ (z : ℕ). z % 2) (sym now) ∙ e in absurd (omega arith);
-          home = λ _. (x, set_here s.homes 0 (some (Some x)) (omega arith), subst (Stands g start x) o.2 stands);
+          home = λ _. (x, set_here s.homes 0 (some (Some x)) (omega arith), subst (Stands g start x.boxed.value) o.2 stands);
         },
         refl,
       ))
@@ -183,6 +183,15 @@ module _ {M E R S : Type 0} (g : Ghosts M E R S) (start : S) where
           refl,
           omega arith,
           (λ sits q le. let mine = known.2 sits in calls_none (q ∷ me.0.pass.number) k.log me.0.pass.seen known.0 (k.unborn (q ∷ me.0.pass.number) (mine.4 q le))),
-          λ z sits is. let same : start ≡ z = ap (opt_or start) (sym (known.2 sits).0 ∙ is) in subst (λ y. Rattle.policy_lock.specs.History.IsLegal g y me.0.pass.seen) same (legal_before g start k.log me.0.pass.seen known.0 k.legal),
+          λ z sits is. let mine = known.2 sits in let same : start ≡ z = ap (opt_or start) (sym mine.0 ∙ is) in (
+            subst (λ y. Rattle.policy_lock.specs.History.IsLegal g y me.0.pass.seen) same (legal_before g start k.log me.0.pass.seen known.0 k.legal),
+            record {
+              log = k.log;
+              legal = subst (λ y. Rattle.policy_lock.specs.History.IsLegal g y k.log) same k.legal;
+              later = known.0;
+              calls = mine.2;
+              long = sym half;
+            },
+          ),
         ),
       )

@@ -8,3 +8,4 @@ pub mod Hears
 pub mod Missing
 pub mod Closes
 pub mod Opens
+pub mod Follows

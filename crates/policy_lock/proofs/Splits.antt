@@ -5,7 +5,7 @@ use Rattle.std.proofs.lemmas.Bool.{false≢true}
 use Rattle.atomic_table.specs.Table.{Splits, opening}
 use Rattle.atomic_table.proofs.Lists.{at_longer}
 use Rattle.policy_lock.specs.declared.machine.Machine.{Ghosts}
-use Rattle.policy_lock.specs.declared.locked.Locked.{Locked}
+use Rattle.policy_lock.specs.declared.held.Held.{Held}
 use Rattle.policy_lock.specs.declared.view.Pass.{Pass}
 use Rattle.policy_lock.specs.declared.view.View.{View}
 use Rattle.policy_lock.specs.History.{calls_by}
@@ -20,7 +20,7 @@ module _ {M E R S : Type 0} (g : Ghosts M E R S) (start : S) where
   abbrev Rule : Lock g → Type 0
   Rule = Kept g start
 
-  pub starts : (x : Locked M E R S g) → Stands g start x [] → Rule (opening (0 ∷ []) (Some x ∷ []) (first_view start))
+  pub starts : (x : Held M E R S g) → Stands g start x.boxed.value [] → Rule (opening (0 ∷ []) (Some x ∷ []) (first_view start))
   starts x stands = let none_yet : Roster = λ _. none in record {
     log = [];
     roster = put none_yet [] 0;

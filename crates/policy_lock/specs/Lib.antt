@@ -1,3 +1,5 @@
+pub mod After
+pub mod Look
 pub mod History
 pub mod Seat
 pub mod Number

@@ -1,8 +1,10 @@
 -- What the locked value stands for, and what a post does to it.
-use Rattle.std.specs.Prelude.{◌≡◌, ℕ, ◌+◌, ◌≤◌, true, false, List, [], ◌∷◌, ◌++◌, length, Result, Ok, Err}
+use Rattle.std.specs.Prelude.{◌≡◌, ℕ, ◌+◌, ◌-◌, ◌<◌, ◌≤◌, take, drop, true, false, List, [], ◌∷◌, ◌++◌, length, Result, Ok, Err}
 use Rattle.cv_io.specs.declared.memory.Memory.{Memory}
 use Rattle.policy_lock.specs.declared.machine.Machine.{Ghosts}
 use Rattle.policy_lock.specs.declared.locked.Locked.{Locked}
+use Rattle.policy_lock.specs.declared.after.After.{After}
+use Rattle.policy_lock.specs.declared.after.After.TheVariants.{Events, Waiting, Past}
 use Rattle.policy_lock.specs.declared.locked.Applied.{Applied}
 use Rattle.policy_lock.specs.declared.locked.Applied.TheVariants.{Idle, Done}
 use Rattle.policy_lock.specs.declared.view.Entry.{Entry}
@@ -49,3 +51,9 @@ module _ {M E R S : Type 0} (g : Ghosts M E R S) where
   IsApplied x e y (Ok (Idle r)) = StandsAs x y × IsIdle x e r
   IsApplied x e y (Ok (Done r)) = Stores x e r y
   IsApplied x e y (Err m) = StandsAs x y
+
+  -- what is stored after a place: at most 256 events; none; or nothing, since the stored events begin later
+  abbrev pub IsStoredAfter : Locked M E R S g → ℕ → After E → Type 0
+  IsStoredAfter x place (Events list) = (x.before ≤ place) × (list ≡ take 256 (drop (place - x.before) x.events.items)) × (0 < length list)
+  IsStoredAfter x place (Waiting at) = (at ≡ place) × (x.before + length x.events.items ≤ place)
+  IsStoredAfter x place (Past first) = (first ≡ x.before) × (place < first)

@@ -6,7 +6,7 @@ use mathlib.Core.List.{IsPrefix}
 use lib.ListN.{get_elem?}
 use Rattle.atomic_table.specs.Table.{State, Me}
 use Rattle.policy_lock.specs.declared.machine.Machine.{Ghosts}
-use Rattle.policy_lock.specs.declared.locked.Locked.{Locked}
+use Rattle.policy_lock.specs.declared.held.Held.{Held}
 use Rattle.policy_lock.specs.declared.view.Entry.{Entry}
 use Rattle.policy_lock.specs.declared.view.Pass.{Pass}
 use Rattle.policy_lock.specs.declared.view.View.{View}
@@ -39,11 +39,11 @@ module _ {E R S : Type 0} where
 module _ {M E R S : Type 0} (g : Ghosts M E R S) where
   -- the words, slots and views of the table
   abbrev pub Lock : Type 0
-  Lock = State (Option (Locked M E R S g)) (View E R S)
+  Lock = State (Option (Held M E R S g)) (View E R S)
 
   -- a token's view, and the slots that it holds
   abbrev pub Sat : Type 0
-  Sat = Me (Option (Locked M E R S g)) (View E R S)
+  Sat = Me (Option (Held M E R S g)) (View E R S)
 
   -- One history. The word is twice its length, and one more while a seat holds the value, which else is at home
   pub record Kept (start : S) (s : Lock) : Type 0 where
@@ -59,4 +59,4 @@ module _ {M E R S : Type 0} (g : Ghosts M E R S) where
     pub parents : (n : List ℕ) (k : ℕ) → roster n ≡ none → roster (k ∷ n) ≡ none
     pub out : (j : ℕ) (v : View E R S) → get_elem? s.views j ≡ some v → v.holds ≡ true → IsHolder (slice_index s.words 0) log holder j v
     pub busy : slice_index s.words 0 % 2 ≡ 1 → (v : View E R S) × (get_elem? s.views holder ≡ some v) × (v.holds ≡ true) × (v.seated ≡ true)
-    pub home : slice_index s.words 0 % 2 ≡ 0 → (x : Locked M E R S g) × (get_elem? s.homes 0 ≡ some (some (Some x))) × Stands g start x log
+    pub home : slice_index s.words 0 % 2 ≡ 0 → (x : Held M E R S g) × (get_elem? s.homes 0 ≡ some (some (Some x))) × Stands g start x.boxed.value log

@@ -60,7 +60,7 @@ impl<M: Machine> PolicyLock<M> {
             } = seat;
             self.table.shared.join_seat::<Gather>(&mut keeper, token);
         }
-        let PolicyLock { table } = self;
+        let PolicyLock { table, waiting: _ } = self;
         let mut closed = table.close_with(keeper);
         let Some(locked) = closed.take(0) else {
             unreachable!()
@@ -72,7 +72,7 @@ impl<M: Machine> PolicyLock<M> {
             before: _,
             events: _,
             state: _,
-        } = locked;
+        } = locked.into_inner();
         Ok(machine)
     }
 }

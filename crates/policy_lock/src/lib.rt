@@ -10,9 +10,11 @@
 //! without the lock, and only [`PolicyLock::post`] may wait.
 #![tactic(auto)]
 
+mod after;
 mod apply;
 mod close;
 mod count;
+mod held;
 mod lock;
 mod locked;
 mod machine;
@@ -22,6 +24,7 @@ mod rule;
 mod seats;
 mod view;
 
+pub use after::After;
 pub use close::Open;
 pub use lock::{PolicyLock, Receipt, Seat};
 pub use machine::Machine;

@@ -1,5 +1,5 @@
 //! The lock and its seats.
-use crate::locked::Locked;
+use crate::held::Held;
 use crate::machine::Machine;
 use crate::rule::Law;
 use crate::view::View;
@@ -8,10 +8,11 @@ use cv_io::List;
 use std::alloc::Global;
 use std::marker::Model;
 use std::snapshot::Snapshot;
+use std::sync::atomic::AtomicU64;
 
 /// A token of the lock's table.
 pub type Token<M> = atomic_table::Seat<
-    Option<Locked<M>>,
+    Option<Held<M>>,
     View<<M as Machine>::Event, <M as Machine>::Reply, <M as Machine>::State>,
 >;
 
@@ -21,12 +22,14 @@ pub type Token<M> = atomic_table::Seat<
 #[derive(Drop)]
 pub struct PolicyLock<M: Machine> {
     pub(crate) table: Table<
-        Option<Locked<M>>,
+        Option<Held<M>>,
         View<M::Event, M::Reply, M::State>,
         Snapshot<M>,
         Law<M>,
         Global,
     >,
+    /// How many seats sleep until the machine is given back.
+    pub(crate) waiting: AtomicU64,
 }
 
 impl<M: Machine> Model for PolicyLock<M> {
@@ -46,7 +49,7 @@ impl<M: Machine> Model for PolicyLock<M> {
 /// Contracts see which lock it is of, and its pass: its number and the history that it has seen.
 #[derive(Drop)]
 pub struct Seat<M: Machine> {
-    pub(crate) token: atomic_table::Seat<Option<Locked<M>>, View<M::Event, M::Reply, M::State>>,
+    pub(crate) token: atomic_table::Seat<Option<Held<M>>, View<M::Event, M::Reply, M::State>>,
     pub(crate) number: List<u64>,
     pub(crate) children: u64,
 }

@@ -54,5 +54,9 @@ pub trait Machine: Drop + Send {
     fn copy(&self) -> Result<Self, Memory>
         ensures { IfOk result (λ m. meaning m ≡ meaning self.now) };
 
+    /// A copy of an event.
+    fn copy_event(event: &Self::Event) -> Result<Self::Event, Memory>
+        ensures { IfOk result (λ copied. copied ≡ event.now) };
+
     ghost idle_stays: { (s : Self.State) (e : Self.Event) → idle s e ≡ true → next s e ≡ s };
 }

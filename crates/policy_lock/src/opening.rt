@@ -4,13 +4,14 @@ ghost use Rattle.policy_lock.specs.Seat.{IsSeatOf};
 ghost use Rattle.policy_lock.specs.Number.{missing, numbers};
 ghost use Rattle.policy_lock.specs.Opening.{new_seat, opening_seats};
 
+use crate::held::Held;
 use crate::lock::{PolicyLock, Seat};
-use crate::locked::Locked;
 use crate::machine::Machine;
 use atomic_table::{Refused, Table};
 use cv_io::{List, Memory};
 use std::alloc::Global;
 use std::snapshot::Snapshot;
+use std::sync::atomic::AtomicU64;
 
 /// Puts the machine under a lock, and gives so many seats, none of which has seen anything: the first
 /// one, and seats that were split off it. The lock closes once these are back, with those that were
@@ -43,12 +44,15 @@ impl<M: Machine> PolicyLock<M> {
         ensures first { IfOk result (λ opened. opened.1 ≡ new_seat opened.0 [] 0) }
     {
         let about = Snapshot::of(&machine);
-        let locked = Locked::new(alloc, machine)?;
+        let locked = Held::new(alloc, machine)?;
         let mut slots = Vec::with_capacity(alloc, 1)?;
         slots.push_reserved(Some(locked));
         match Table::new(alloc, &[0], slots, &about) {
             Ok((table, token)) => Ok((
-                PolicyLock { table },
+                PolicyLock {
+                    table,
+                    waiting: AtomicU64::new(0),
+                },
                 Seat {
                     token,
                     number: List::new(alloc),

@@ -7,16 +7,17 @@ ghost use Rattle.policy_lock.specs.Locked.{Stands};
 ghost use Rattle.policy_lock.specs.View.{let_go};
 ghost use Rattle.policy_lock.specs.Play.{HasTaken};
 
+use crate::held::Held;
 use crate::lock::{PolicyLock, Receipt, Seat, Token};
-use crate::locked::{Applied, Locked};
+use crate::locked::Applied;
 use crate::machine::Machine;
 use crate::rule::{Commit, GiveBack, Take};
 use cv_io::{Memory, Steps};
 use std::sync::Wait;
+use std::sync::atomic::Ordering;
 use std::sync::ledger::Ledger;
 use std::thread;
 use std::thread::Threads;
-use std::time::Duration;
 
 // How often a seat that waits lets other threads run before it sleeps for a while.
 const YIELDS: u32 = 200;
@@ -51,6 +52,7 @@ impl<M: Machine> PolicyLock<M> {
                 self.table
                     .shared
                     .store::<Commit>(&mut seat.token, 0, word + 2);
+                self.wake();
                 Ok(Receipt {
                     place: word / 2 + 1,
                     reply,
@@ -71,7 +73,7 @@ impl<M: Machine> PolicyLock<M> {
     }
 
     // Takes the lock and the value, and tells the word that was found.
-    fn take<R: Wait>(&self, rt: &R, token: &mut Token<M>) -> (u64, Locked<M>)
+    pub(crate) fn take<R: Wait>(&self, rt: &R, token: &mut Token<M>) -> (u64, Held<M>)
         requires own { token.old.table_id ≡ self.now.id }
         requires free { (token.old.me.0.seated ≡ true) × (token.old.me.1 ≡ []) }
         ensures token { (token.new.table_id ≡ token.old.table_id) × (token.new.id ≡ token.old.id) }
@@ -93,26 +95,41 @@ impl<M: Machine> PolicyLock<M> {
                 tries += 1;
                 thread::yield_now();
             } else {
-                // What a sleep compares is the low half of the word.
-                let low = (word % (1 << 32)) as u32;
-                shared.park_timeout(rt, 0, low, Duration::from_micros(50));
+                self.wait(rt, word);
             }
         }
         unreachable!()
     }
 
+    // Sleeps until a seat gives the machine back, if the word is still this one.
+    fn wait<R: Wait>(&self, rt: &R, word: u64) {
+        // What a sleep compares is the low half of the word.
+        let low = (word % (1 << 32)) as u32;
+        self.waiting.fetch_add(1, Ordering::SeqCst);
+        self.table.shared.park(rt, 0, low);
+        self.waiting.fetch_sub(1, Ordering::SeqCst);
+    }
+
+    // Wakes a seat that sleeps. The word was changed before, so none falls asleep unseen.
+    fn wake(&self) {
+        if self.waiting.load(Ordering::SeqCst) > 0 {
+            self.table.shared.wake_one(0);
+        }
+    }
+
     // Puts the value back, with no new entry.
-    fn give_back(&self, token: &mut Token<M>, word: u64, locked: Locked<M>)
+    pub(crate) fn give_back(&self, token: &mut Token<M>, word: u64, locked: Held<M>)
         requires own { token.old.table_id ≡ self.now.id }
         requires held { (token.old.me.0.holds ≡ true) × (token.old.me.1 ≡ (0, None) ∷ []) }
         requires word { word ≡ 2 * length token.old.me.0.pass.seen }
         requires stands { (s : M.State) → token.old.me.0.pass.start ≡ Some s →
-            Stands ⟦<M as Machine>⟧ s locked token.old.me.0.pass.seen }
+            Stands ⟦<M as Machine>⟧ s locked.boxed.value token.old.me.0.pass.seen }
         ensures token { (token.new.table_id ≡ token.old.table_id) × (token.new.id ≡ token.old.id) }
         ensures back { token.new.me ≡ (let_go token.old.me.0, []) }
     {
         let shared = &self.table.shared;
         drop(shared.exchange(token, 0, Some(locked)));
         shared.store::<GiveBack>(token, 0, word);
+        self.wake();
     }
 }

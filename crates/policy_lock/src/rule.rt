@@ -3,7 +3,7 @@ ghost use Rattle.policy_lock.specs.Rule.{Kept};
 ghost use Rattle.policy_lock.specs.View.{first_view, born, bearer, note, told, gathered, spent};
 ghost use Rattle.policy_lock.specs.Play.{Takes, Commits, GivesBack, Looks, Hears};
 
-use crate::locked::Locked;
+use crate::held::Held;
 use crate::machine::Machine;
 use crate::view::View;
 use atomic_table::{Join, Play, Split, TableRule};
@@ -15,7 +15,7 @@ pub struct Law<M> {
     machine: PhantomData<M>,
 }
 
-impl<M: Machine> TableRule<Option<Locked<M>>, View<M::Event, M::Reply, M::State>, Snapshot<M>>
+impl<M: Machine> TableRule<Option<Held<M>>, View<M::Event, M::Reply, M::State>, Snapshot<M>>
     for Law<M> {
     ghost holds = { λ key. Kept ⟦<M as Machine>⟧ (M.meaning key.value) };
 
@@ -25,35 +25,35 @@ impl<M: Machine> TableRule<Option<Locked<M>>, View<M::Event, M::Reply, M::State>
 /// The word goes from 2n to 2n + 1, and the taker holds.
 pub struct Take;
 
-impl<M: Machine> Play<Option<Locked<M>>, View<M::Event, M::Reply, M::State>> for Take {
+impl<M: Machine> Play<Option<Held<M>>, View<M::Event, M::Reply, M::State>> for Take {
     ghost then = { Takes ⟦<M as Machine>⟧ };
 }
 
 /// From 2n + 1 to 2n + 2: the holder's event is the entry n + 1.
 pub struct Commit;
 
-impl<M: Machine> Play<Option<Locked<M>>, View<M::Event, M::Reply, M::State>> for Commit {
+impl<M: Machine> Play<Option<Held<M>>, View<M::Event, M::Reply, M::State>> for Commit {
     ghost then = { Commits ⟦<M as Machine>⟧ };
 }
 
 /// From 2n + 1 to 2n, with no new entry.
 pub struct GiveBack;
 
-impl<M: Machine> Play<Option<Locked<M>>, View<M::Event, M::Reply, M::State>> for GiveBack {
+impl<M: Machine> Play<Option<Held<M>>, View<M::Event, M::Reply, M::State>> for GiveBack {
     ghost then = { GivesBack ⟦<M as Machine>⟧ };
 }
 
 /// A look at the word.
 pub struct Look;
 
-impl<M: Machine> Play<Option<Locked<M>>, View<M::Event, M::Reply, M::State>> for Look {
+impl<M: Machine> Play<Option<Held<M>>, View<M::Event, M::Reply, M::State>> for Look {
     ghost then = { Looks ⟦<M as Machine>⟧ };
 }
 
 /// A look at the word, at which the seat takes in what a note told it.
 pub struct Hear;
 
-impl<M: Machine> Play<Option<Locked<M>>, View<M::Event, M::Reply, M::State>> for Hear {
+impl<M: Machine> Play<Option<Held<M>>, View<M::Event, M::Reply, M::State>> for Hear {
     ghost then = { Hears ⟦<M as Machine>⟧ };
 }
 

@@ -3,6 +3,7 @@ ghost use Rattle.std.specs.Prelude.{◌≡◌, ◌≤◌, ◌∷◌, [], length,
 ghost use mathlib.Core.List.{IsPrefix};
 ghost use Rattle.policy_lock.specs.History.{IsLegal, calls_by, longer};
 ghost use Rattle.policy_lock.specs.Seat.{IsSeatOf, IsSameSeat, IsLater, with_pass, child, parent};
+ghost use Rattle.policy_lock.specs.Look.{WasAsLong};
 
 use crate::lock::{PolicyLock, Seat};
 use crate::machine::Machine;
@@ -11,11 +12,11 @@ use cv_io::{List, Memory};
 use std::alloc::{AllocError, Global};
 
 impl<M: Machine> PolicyLock<M> {
-    /// How many entries the history has, which is at least as many as the seat has seen.
+    /// How many entries the history has. It goes on from what the seat has seen.
     pub fn look(&self, seat: &mut Seat<M>) -> u64
         requires { IsSeatOf self.now seat.old }
         ensures same { seat.new ≡ seat.old }
-        ensures seen { length seat.new.pass.seen ≤ result }
+        ensures had { WasAsLong ⟦<M as Machine>⟧ self.now.start seat.old.pass result }
         ensures legal { IsLegal ⟦<M as Machine>⟧ self.now.start seat.new.pass.seen }
     {
         self.table.shared.load::<Look>(&mut seat.token, 0) / 2

@@ -3,12 +3,12 @@ use Rattle.std.proofs.Common.{◌≡◌, ℕ, ◌<◌, Bool, true, false, ◌||�
 use Rattle.std.specs.Prelude.{flat_map, if◌then◌else◌, ◌==◌, not}
 use Rattle.std.specs.List.{AllByRecursion, list_any, cons_option}
 use Rattle.of10_match.specs.Fields.{HeaderOf, MatchOf}
-use Rattle.of10_match.specs.Matching.{holds, overlaps, both, meet, fits, fits_prefix}
+use Rattle.of10_match.specs.Matching.{at_port, both, fits, fits_prefix, holds, meet, overlaps}
 use Rattle.of10_match.specs.declared.header.Prefix.{Prefix}
 use Rattle.of10_match.specs.Normal.{IsNormal}
 use Rattle.of10_match.proofs.Twelve.{each-fields, each-intro}
 use Rattle.policy_meaning.specs.Leaf.{has_port, is_inside}
-use Rattle.policy_meaning.specs.LeafRules.{at_port, is_open, is_everything, rule_met, hides, cut, cells, in_cells, has_outside}
+use Rattle.policy_meaning.specs.LeafRules.{is_open, is_everything, rule_met, hides, cut, cells, in_cells, has_outside}
 use Rattle.policy_meaning.specs.Best.{EachAt, Below, IsBest, first}
 use Rattle.policy_meaning.specs.LeafFact.{EachPair}
 use Rattle.policy_meaning.specs.declared.leaf.LeafTable.{LeafTable}

@@ -3,7 +3,8 @@ use Rattle.std.proofs.Common.{◌≡◌, ℕ, Bool, true, List, ◌++◌}
 use Rattle.std.specs.List.{AllByRecursion}
 use Rattle.of10_match.specs.Fields.{HeaderOf}
 use Rattle.of10_actions.specs.Fields.{RewriteOf}
-use Rattle.of10_actions.specs.Rewriting.{apply, no_rewrite, pulled}
+use Rattle.of10_actions.specs.Rewriting.{apply, no_rewrite}
+use Rattle.pull_back.specs.Pulling.{pulled}
 use Rattle.of10_actions.specs.declared.effects.Out.{Out}
 use Rattle.of10_actions.specs.declared.effects.Tail.{Tail}
 use Rattle.of10_actions.specs.declared.effects.Tail.TheVariants.{Nothing, Pass}
@@ -60,7 +61,7 @@ module _ (sizes : ℕ → ℕ) (rules : ℕ → List Rule) where
   all-normal (override a b) p =
       each-shift HasNormal HasNormal HasNormal (size_of sizes b) (λ x n. n) (rules_of sizes rules a) (rules_of sizes rules b) (all-normal a p.0) (all-normal b p.1)
 
-  all-plain : (e : Policy) → EachMember (OfLeaf IsPlainRule) e → Of IsPlainRule e
+  pub all-plain : (e : Policy) → EachMember (OfLeaf IsPlainRule) e → Of IsPlainRule e
   all-plain (member i) p = p
   all-plain (parallel a b) p =
       each-sum IsPlainRule IsPlainRule IsPlainRule (λ x y px py o. record { sets = all-append (λ (o : Out). o.rewrite ≡ no_rewrite) x.outs y.outs px.sets py.sets; ends = py.ends }) (rules_of sizes rules a) (rules_of sizes rules b) (all-plain a p.0) (all-plain b p.1)

@@ -1,17 +1,18 @@
 -- Levels of rules are below the sizes of what the rules are of.
 use Rattle.std.proofs.Common.{◌≡◌, ℕ, zero, suc, ◌+◌, ◌*◌, ◌<◌, ◌≤◌, ◌^◌, Bool, true, false, List, [], ◌∷◌, Option, Some, None, refl, subst, arith}
+use Rattle.of10_match.specs.Matching.{at_port}
 use Rattle.std.specs.Prelude.{filter_map, if◌then◌else◌, map, slice_get, All}
 use Rattle.std.specs.List.{AllByRecursion}
 use Rattle.std.proofs.lemmas.List.Elements.{All-from_recursion, recursion_from_All}
 use Rattle.std.proofs.Math.Nat.{mul-le-mul_left, mul-le-mul_right}
 use Rattle.of10_match.specs.Fields.{MatchOf}
 use Rattle.alg_priority.specs.Sizes.{sum_size}
-use Rattle.policy_expr.specs.Policy.{Policy, member, parallel, sequential, override, policy_of}
+use Rattle.policy_expr.specs.Policy.{Policy, member, parallel, sequential, override}
 use Rattle.policy_meaning.specs.Best.{Below}
 use Rattle.policy_meaning.specs.Fitting.{IsFittingTable, levels_of, RulesAreBelow, NodesAreBelow, SoundTablesFit}
 use Rattle.policy_meaning.specs.Hops.{at_node, hop_rule, hop_size, hopped, hops_on, leads, node, peers_size, without_port}
 use Rattle.policy_meaning.specs.LeafFact.{IsSoundEntry}
-use Rattle.policy_meaning.specs.LeafRules.{at_port, cells, entry_rule, has_outside, in_cells, leaf_rules, miss_rule, outside_rule, rule_met}
+use Rattle.policy_meaning.specs.LeafRules.{cells, entry_rule, has_outside, in_cells, leaf_rules, miss_rule, outside_rule, rule_met}
 use Rattle.policy_meaning.specs.Networks.{fabric_of, ports_of, switch_rules, switch_size, table_rules, table_size}
 use Rattle.policy_meaning.specs.Rules.{rules_of}
 use Rattle.policy_meaning.specs.declared.leaf.LeafEntry.{LeafEntry}
@@ -119,7 +120,7 @@ rules_are_below tables ports e all = All-from_recursion (Below (levels_of tables
 module _ (net : Network) (all : All IsFittingTable net.tables) where
   switch-below : (o : Option VirtualSwitch) → AllByRecursion (Below (switch_size net.tables o)) (switch_rules net.tables o)
   switch-below None = tt
-  switch-below (Some s) = rules-below net.tables all (ports_of s) (policy_of s.expr)
+  switch-below (Some s) = rules-below net.tables all (ports_of s) s.expr
 
   module _ (n v port : ℕ) (before : (u p : ℕ) → AllByRecursion (Below (hop_size (fabric_of net) n u)) (node (fabric_of net) n u p)) where
     abbrev own : ℕ

@@ -23,3 +23,10 @@ pub mod Stepping
 pub mod Ordered
 pub mod LevelsBelow
 pub mod NodeSteps
+pub mod Apart
+pub mod Disjointness
+pub mod Writes
+pub mod WrittenRules
+pub mod RangedRules
+pub mod Rising
+pub mod Listings

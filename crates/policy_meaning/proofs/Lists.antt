@@ -1,7 +1,12 @@
 -- Facts that hold of each item of a list.
-use Rattle.std.proofs.Common.{◌≡◌, List, [], ◌∷◌, ◌++◌, Option, Some, None, refl}
+use Rattle.std.proofs.Common.{◌≡◌, List, [], ◌∷◌, ◌++◌, Option, Some, None, refl, ap}
 use Rattle.std.specs.Prelude.{flat_map, filter_map, map}
 use Rattle.std.specs.List.{AllByRecursion, cons_option}
+
+-- nothing more
+pub add-none : {A : Type 0} (xs : List A) → xs ≡ xs ++ []
+add-none [] = refl
+add-none (x ∷ xs) = ap (λ ys. x ∷ ys) (add-none xs)
 
 module _ {A : Type 0} where
   pub all-map : (P Q : A → Type 0) (xs : List A) → ((x : A) → P x → Q x) → AllByRecursion P xs → AllByRecursion Q xs

@@ -6,7 +6,7 @@ use Rattle.of10_match.specs.Fields.{HeaderOf, MatchOf}
 use Rattle.of10_match.specs.Matching.{holds, overlaps, both, meet}
 use Rattle.of10_match.proofs.Holding.{holds-both}
 use Rattle.of10_actions.specs.Fields.{RewriteOf}
-use Rattle.of10_actions.specs.Rewriting.{can_pull, pulled, pull}
+use Rattle.pull_back.specs.Pulling.{can_pull, pulled, pull}
 use Rattle.policy_meaning.proofs.Booleans.{split_and, join_and, some_injective}
 
 -- a meet is there where a header is in both, and holds it

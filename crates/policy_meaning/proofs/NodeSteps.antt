@@ -1,5 +1,6 @@
 -- What the code of nodes does, step by step.
 use Rattle.std.proofs.Common.{◌≡◌, ℕ, suc, ◌+◌, ◌*◌, ◌<◌, ◌≤◌, ◌^◌, List, [], ◌∷◌, Option, Some, None, refl, subst, sym, ◌∙◌, arith, length, get_or}
+use Rattle.of10_match.specs.Matching.{at_port}
 use Rattle.std.specs.Prelude.{filter_map, flat_map, map, slice_get, All, IfSome, max}
 use Rattle.std.specs.List.{AllByRecursion}
 use Rattle.std.proofs.lemmas.List.Elements.{All-from_recursion}
@@ -8,11 +9,11 @@ use Rattle.of10_actions.specs.declared.effects.Tail.{Tail}
 use Rattle.alg_priority.specs.Levels.{capped, concat_level}
 use Rattle.alg_priority.specs.Sizes.{concat_size, sum_size}
 use Rattle.alg_priority.proofs.Saturation.{concat_size-capped, sum_size-capped}
-use Rattle.policy_expr.specs.Policy.{Policy, parallel, sequential, policy_of}
+use Rattle.policy_expr.specs.Policy.{Policy, parallel, sequential}
 use Rattle.policy_meaning.specs.Best.{Below}
 use Rattle.policy_meaning.specs.Fitting.{IsFittingTable, levels_of}
 use Rattle.policy_meaning.specs.Hops.{at_node, hop_size, hops_on, leads, node, peers_size}
-use Rattle.policy_meaning.specs.LeafRules.{at_port, rule_met}
+use Rattle.policy_meaning.specs.LeafRules.{rule_met}
 use Rattle.policy_meaning.specs.Networks.{fabric_of, ports_of, switch_rules}
 use Rattle.policy_meaning.specs.declared.leaf.LeafTable.{LeafTable}
 use Rattle.policy_meaning.specs.declared.network.Link.{Link}
@@ -40,7 +41,7 @@ none-far w (l ∷ ls) = let p : 0 < peers_size w (l ∷ ls) = positive (map (λ 
 
 module _ (net : Network) (all : All IsFittingTable net.tables) (hops n v : ℕ) (s : VirtualSwitch) (k : hops ≡ suc n) (get : slice_get net.switches v ≡ Some s) where
   abbrev own : ℕ
-  own = levels_of net.tables (policy_of s.expr)
+  own = levels_of net.tables s.expr
 
   abbrev over : ℕ
   over = peers_size (hop_size (fabric_of net) n) s.links
@@ -49,7 +50,7 @@ module _ (net : Network) (all : All IsFittingTable net.tables) (hops n v : ℕ) 
   size-is = rw (k, get) refl
 
   pub size-on : (x y r : ℕ) → x ≡ capped own → y ≡ capped over → r ≡ capped (concat_size x y) → r ≡ capped (hop_size (fabric_of net) hops v)
-  size-on x y r ex ey er = rw size-is (er ∙ rw (ex, ey) (concat_size-capped own over (levels-positive net.tables all (policy_of s.expr)) (positive _)))
+  size-on x y r ex ey er = rw size-is (er ∙ rw (ex, ey) (concat_size-capped own over (levels-positive net.tables all s.expr) (positive _)))
 
   module _ (fit : hop_size (fabric_of net) hops v < 2 ^ 64) where
     whole : own * over < 2 ^ 64
@@ -59,7 +60,7 @@ module _ (net : Network) (all : All IsFittingTable net.tables) (hops n v : ℕ) 
     own-fits = let p : 1 ≤ over = positive _ in let le = mul-le-mul_left own p in let w = whole in omega arith
 
     over-fits : over < 2 ^ 64
-    over-fits = let p : 1 ≤ own = levels-positive net.tables all (policy_of s.expr) in let le = mul-le-mul_right over p in let w = whole in omega arith
+    over-fits = let p : 1 ≤ own = levels-positive net.tables all s.expr in let le = mul-le-mul_right over p in let w = whole in omega arith
 
     pub size-exact : (size : ℕ) → size ≡ capped over → size ≡ over
     size-exact size e = let o = over-fits in omega arith
@@ -76,7 +77,7 @@ module _ (net : Network) (all : All IsFittingTable net.tables) (hops n v : ℕ) 
     met-all : (port : ℕ) → AllByRecursion (Below own) (filter_map (λ a. rule_met a (at_port port)) (switch_rules net.tables (Some s)))
     met-all port =
         all-filter_map (Below own) (Below own) (λ a. rule_met a (at_port port)) (switch_rules net.tables (Some s)) (λ x y e low. met-below own x y (at_port port) e low)
-        (rules-below net.tables all (ports_of s) (policy_of s.expr))
+        (rules-below net.tables all (ports_of s) s.expr)
 
     -- a rule leaves room for all rules of the node where it leads
     pub room-fits : (size port : ℕ) (met : List Rule) (i : ℕ) (a : Rule) → size ≡ capped over → met ≡ filter_map (λ a. rule_met a (at_port port)) (switch_rules net.tables (Some s)) → i < length met → a ≡ get_or met i a → (a.level + 1) * size < 2 ^ 64

@@ -3,13 +3,14 @@ use Rattle.std.proofs.Common.{◌≡◌, ℕ, zero, suc, ◌*◌, ◌<◌, ◌�
 use Rattle.std.specs.Prelude.{filter_map}
 use Rattle.std.specs.List.{AllByRecursion}
 use Rattle.of10_match.specs.Fields.{HeaderOf, MatchOf}
-use Rattle.of10_match.specs.Matching.{holds, overlaps, both, fits, agree, either}
+use Rattle.of10_match.specs.Matching.{agree, at_port, both, either, fits, holds, overlaps}
 use Rattle.of10_actions.specs.Fields.{RewriteOf}
-use Rattle.of10_actions.specs.Rewriting.{apply, can_pull, pulled, no_rewrite}
+use Rattle.of10_actions.specs.Rewriting.{apply, no_rewrite}
+use Rattle.pull_back.specs.Pulling.{can_pull, pulled}
 use Rattle.of10_actions.specs.declared.effects.Tail.{Tail}
 use Rattle.of10_actions.specs.declared.effects.Tail.TheVariants.{Nothing, Link}
 use Rattle.alg_priority.specs.Levels.{concat_level}
-use Rattle.policy_meaning.specs.LeafRules.{rule_met, at_port}
+use Rattle.policy_meaning.specs.LeafRules.{rule_met}
 use Rattle.policy_meaning.specs.Hops.{Fabric, node, hop_size, peers_size, outs_at, at_node, hop_lone, hopped, hop_rule, leads, hops_on, without_port, last_rule}
 use Rattle.policy_meaning.specs.Walk.{Ground, walk, here, nowhere, both_walked, walked_after, arriving, takes}
 use Rattle.policy_meaning.specs.Best.{EachAt, Below, IsBest, first, IsSound}
@@ -38,11 +39,11 @@ pub record AtPort (at : ℕ) (b : Rule) : Type 0 where
   pub port : fits b.m.in_port at ≡ true
 
 -- a match of a node holds the header at the node's port where its other fields hold
-port-holds : (m : MatchOf) (h : HeaderOf) (port : ℕ) → fits m.in_port port ≡ true → holds m (record h { in_port = port }) ≡ holds (without_port m) h
+pub port-holds : (m : MatchOf) (h : HeaderOf) (port : ℕ) → fits m.in_port port ≡ true → holds m (record h { in_port = port }) ≡ holds (without_port m) h
 port-holds m h port e = rw e
 
 -- the rule of two
-abbrev link_of : ℕ → RewriteOf → Rule → Rule → Rule
+abbrev pub link_of : ℕ → RewriteOf → Rule → Rule → Rule
 link_of size r a b = hopped size r a b (both a.m (pulled r (without_port b.m)))
 
 -- what is known of a rule of two that holds a header
@@ -89,11 +90,11 @@ best-met h n {a = a} g e p =
     let m = meet_there a.m n h (best_holds h p) e in
     best-filter_map h h (λ x. rule_met x n) IsSound (narrowed a (both a.m n)) (is_met (narrowed a) a.m n m.1) m.0 (λ x y _ u t low. met-lower h n a.level x y u t low) g p
 
-fits-met : (o : Option ℕ) (port : ℕ) → agree o (Some port) ≡ true → fits (either o (Some port)) port ≡ true
+pub fits-met : (o : Option ℕ) (port : ℕ) → agree o (Some port) ≡ true → fits (either o (Some port)) port ≡ true
 fits-met None port e = eq-eqb port port refl
 fits-met (Some w) port e = e
 
-fits-open : (o : Option ℕ) (port : ℕ) → fits o port ≡ true → fits (either o None) port ≡ true
+pub fits-open : (o : Option ℕ) (port : ℕ) → fits o port ≡ true → fits (either o None) port ≡ true
 fits-open None port e = refl
 fits-open (Some w) port e = e
 

@@ -1,9 +1,8 @@
 -- Normal matches of which little is asked.
 use Rattle.std.specs.Prelude.{ℕ}
 use Rattle.of10_match.specs.Fields.{MatchOf}
-use Rattle.of10_match.specs.Matching.{everything}
+use Rattle.of10_match.specs.Matching.{at_port, everything}
 use Rattle.of10_match.specs.Normal.{IsNormal}
-use Rattle.policy_meaning.specs.LeafRules.{at_port}
 use Rattle.policy_meaning.specs.Hops.{without_port}
 
 pub normal-everything : IsNormal everything

@@ -12,7 +12,8 @@ use Rattle.of10_match.specs.Fields.{HeaderOf}
 use Rattle.of10_match.specs.Matching.{holds}
 use Rattle.of10_match.proofs.ByteOrder.{by_bytes_total}
 use Rattle.policy_meaning.specs.Best.{EachAt, Below, IsBest, first, later}
-use Rattle.policy_meaning.specs.Order.{by_ancestry, by_leaf, OrderKeepsBest}
+use Rattle.policy_meaning.specs.Order.{by_ancestry, OrderKeepsBest}
+use Rattle.cv_io.specs.Leaves.{leaf_cmp}
 use Rattle.policy_meaning.specs.declared.rule.Rule.{Rule}
 use Rattle.policy_meaning.proofs.Booleans.{true_not_false}
 
@@ -98,12 +99,12 @@ order_keeps_best h xs ys r p b =
     best-by h r (held h b) ys c.0 c.1 c.2 (sum_by-IsPermutation (weight h r) xs ys p ∙ alone h b)
 
 -- rules are in a total order
-by_leaf_total : IsTotalOrder by_leaf
-by_leaf_total = then_total (on_total (λ (a : Leaf). a.member) nat_cmp_total) (on_total (λ (a : Leaf). a.kind) nat_cmp_total)
+leaf_cmp_total : IsTotalOrder leaf_cmp
+leaf_cmp_total = then_total (on_total (λ (a : Leaf). a.member) nat_cmp_total) (on_total (λ (a : Leaf). a.kind) nat_cmp_total)
 
-by_ancestry_total : IsTotalOrder by_ancestry
+pub by_ancestry_total : IsTotalOrder by_ancestry
 by_ancestry_total =
-    then_total (on_total (λ (a : Rule). a.ancestry) (lists_total by_leaf_total))
+    then_total (on_total (λ (a : Rule). a.ancestry) (lists_total leaf_cmp_total))
     (then_total (on_total (λ (a : Rule). a.m.in_port) (options_total nat_cmp_total)) (on_total (λ (a : Rule). a.m) by_bytes_total))
 
 pub ranks_rules : IsStrictWeakOrder (λ (a b : Rule). is_lt (by_ancestry a b))

@@ -4,7 +4,7 @@ use Rattle.std.specs.Prelude.{flat_map, if◌then◌else◌, Bool, false}
 use Rattle.std.specs.List.{AllByRecursion}
 use Rattle.of10_match.specs.Matching.{overlaps, both}
 use Rattle.of10_actions.specs.Fields.{RewriteOf}
-use Rattle.of10_actions.specs.Rewriting.{pulled}
+use Rattle.pull_back.specs.Pulling.{pulled}
 use Rattle.of10_actions.specs.declared.effects.Tail.{Tail}
 use Rattle.of10_actions.specs.declared.effects.Tail.TheVariants.{Nothing, Pass, Link}
 use Rattle.alg_priority.specs.Levels.{concat_level, shift_level}

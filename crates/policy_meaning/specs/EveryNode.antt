@@ -2,10 +2,14 @@
 use Rattle.std.specs.Prelude.{◌≡◌, ℕ, true, false, Option, Some, None, List, slice_get}
 use Rattle.std.specs.List.{AllByRecursion}
 use Rattle.of10_match.specs.Fields.{HeaderOf}
-use Rattle.policy_expr.specs.Policy.{policy_of}
+use Rattle.policy_expr.specs.Policy.{Policy}
+use Rattle.policy_meaning.specs.Best.{IsSound, Says}
+use Rattle.policy_meaning.specs.Fitting.{composed_of, levels_of}
+use Rattle.policy_meaning.specs.Leaf.{has_port}
 use Rattle.policy_meaning.specs.LeafFact.{IsSoundTable}
+use Rattle.policy_meaning.specs.Meaning.{evaluate}
 use Rattle.policy_meaning.specs.CentralFact.{ArePlain, EachMember, EachLeft}
-use Rattle.policy_meaning.specs.Networks.{fabric_of, ground_of, enters, switch_has, switch_spread, switch_links}
+use Rattle.policy_meaning.specs.Networks.{fabric_of, ground_of, enters, table_meaning, switch_has, switch_spread, switch_links}
 use Rattle.policy_meaning.specs.Hops.{node, hop_size, peer_of}
 use Rattle.policy_meaning.specs.HopFact.{HopSays}
 use Rattle.policy_meaning.specs.Walk.{walk}
@@ -27,8 +31,8 @@ HasPlainTable (Some t) = AllByRecursion (λ (e : LeafEntry). ArePlain e.effects.
 
 -- each member of the virtual switch has a sound table, and those of left operands of `+` set nothing and pass nothing on
 pub record IsSoundSwitch (tables : List LeafTable) (s : VirtualSwitch) : Type 0 where
-  pub members : EachMember (λ i. HasSoundTable (slice_get tables i)) (policy_of s.expr)
-  pub lefts : EachLeft (λ i. HasPlainTable (slice_get tables i)) (policy_of s.expr)
+  pub members : EachMember (λ i. HasSoundTable (slice_get tables i)) s.expr
+  pub lefts : EachLeft (λ i. HasPlainTable (slice_get tables i)) s.expr
 
 -- what is asked of a network
 pub record IsSoundNetwork (net : Network) : Type 0 where
@@ -44,3 +48,17 @@ abbrev pub EveryNode : Type 0
 EveryNode =
     (net : Network) → IsSoundNetwork net → (n v : ℕ) (h : HeaderOf) → enters net v h ≡ true
     → HopSays h (node (fabric_of net) n v h.in_port) (hop_size (fabric_of net) n v) (walk (ground_of net) n v h)
+
+-- of an expression over sound tables exactly one rule is best for each header that comes by one of these ports, below the
+-- expression's size, and it does what the expression does
+abbrev pub EveryExpression : Type 0
+EveryExpression =
+    (tables : List LeafTable) (ports : List ℕ) (e : Policy) → EachMember (λ i. HasSoundTable (slice_get tables i)) e
+    → (h : HeaderOf) → has_port ports h.in_port ≡ true
+    → Says h (composed_of tables ports e).rules (levels_of tables e) (evaluate (λ i. table_meaning (slice_get tables i)) e h)
+
+-- and where those of left operands of `+` set nothing and pass nothing on, one list of actions can do what each rule does
+abbrev pub ExpressionsAreSound : Type 0
+ExpressionsAreSound =
+    (tables : List LeafTable) (ports : List ℕ) (e : Policy) → EachMember (λ i. HasSoundTable (slice_get tables i)) e
+    → EachLeft (λ i. HasPlainTable (slice_get tables i)) e → AllByRecursion IsSound (composed_of tables ports e).rules

@@ -1,17 +1,15 @@
 -- The rules of the ports of virtual switches that are joined by links, for so many hops.
-use Rattle.std.specs.Prelude.{ℕ, zero, suc, true, ◌==◌, ◌&&◌, ◌*◌, max, Option, Some, None, List, [], ◌∷◌, ◌++◌, if◌then◌else◌, map, filter_map, flat_map, option_map}
-use Rattle.std.specs.Option.{option_and_then}
+use Rattle.std.specs.Prelude.{ℕ, zero, suc, true, ◌==◌, ◌&&◌, ◌*◌, max, Option, Some, None, List, [], ◌∷◌, if◌then◌else◌, map, filter_map, flat_map, option_map}
 use Rattle.of10_match.specs.Fields.{MatchOf}
-use Rattle.of10_match.specs.Matching.{meet, everything}
+use Rattle.of10_match.specs.Matching.{at_port, everything}
 use Rattle.of10_actions.specs.Fields.{RewriteOf}
-use Rattle.of10_actions.specs.Rewriting.{pull}
 use Rattle.of10_actions.specs.declared.effects.Out.{Out}
 use Rattle.of10_actions.specs.declared.effects.Dest.{Dest}
 use Rattle.of10_actions.specs.declared.effects.Dest.TheVariants.{Port, Flood, Ingress, Tell}
 use Rattle.of10_actions.specs.declared.effects.Tail.{Tail}
 use Rattle.alg_priority.specs.Levels.{concat_level}
-use Rattle.policy_meaning.specs.Meaning.{out_after}
-use Rattle.policy_meaning.specs.LeafRules.{at_port, rule_met}
+use Rattle.policy_meaning.specs.LeafRules.{rule_met}
+use Rattle.policy_meaning.specs.Rules.{after_rewrite, rule_after}
 use Rattle.policy_meaning.specs.declared.network.Place.{Place}
 use Rattle.policy_meaning.specs.declared.network.Link.{Link}
 use Rattle.policy_meaning.specs.declared.network.Onward.{Onward}
@@ -73,11 +71,11 @@ hop_lone size a = record { m = a.m; level = concat_level a.level 0 size; touched
 
 -- such a rule that goes on with the rewrite r, and a rule of the node where it comes to, where both hold m
 abbrev pub hopped : ℕ → RewriteOf → Rule → Rule → MatchOf → Rule
-hopped size r a b m = record { m = m; level = concat_level a.level b.level size; touched = true; outs = a.outs ++ map (out_after r) b.outs; tail = Tail.Nothing; ancestry = a.ancestry ++ b.ancestry }
+hopped size r a b m = after_rewrite size r a b true Tail.Nothing m
 
 -- the rule of such a pair, or none where no header of a is in b, at the peer's port and after r
 abbrev pub hop_rule : ℕ → RewriteOf → Rule → Rule → Option Rule
-hop_rule size r a b = option_map (hopped size r a b) (option_and_then (meet a.m) (pull r (without_port b.m)))
+hop_rule size r a b = rule_after size r a b (without_port b.m) true Tail.Nothing
 
 -- the rules that a rule at its node makes which goes on so, or ends
 abbrev pub hops_on : Option Onward → (ℕ → ℕ → List Rule) → ℕ → Rule → List Rule

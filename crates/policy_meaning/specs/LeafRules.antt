@@ -2,16 +2,12 @@
 use Rattle.std.specs.Prelude.{ℕ, Bool, true, false, ◌+◌, ◌||◌, not, Option, Some, None, List, [], ◌∷◌, ◌++◌, if◌then◌else◌, map, filter_map, flat_map, option_map}
 use Rattle.std.specs.List.{list_any}
 use Rattle.of10_match.specs.Fields.{MatchOf}
-use Rattle.of10_match.specs.Matching.{meet, everything, each}
+use Rattle.of10_match.specs.Matching.{at_port, meet, everything, each}
 use Rattle.of10_actions.specs.declared.effects.Tail.TheVariants.{Nothing}
 use Rattle.policy_meaning.specs.Leaf.{has_port, miss_outs}
 use Rattle.policy_meaning.specs.declared.leaf.LeafEntry.{LeafEntry}
 use Rattle.policy_meaning.specs.declared.leaf.LeafTable.{LeafTable}
 use Rattle.policy_meaning.specs.declared.rule.Rule.{Rule}
-
--- all headers that come by a port
-abbrev pub at_port : ℕ → MatchOf
-at_port p = record everything { in_port = Some p }
 
 -- nothing is asked of this field
 abbrev pub is_open : {A : Type 0} → Option A → Bool

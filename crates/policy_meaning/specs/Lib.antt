@@ -1,3 +1,4 @@
+pub mod Switches
 pub mod Meaning
 pub mod Leaf
 pub mod LeafRules
@@ -12,6 +13,9 @@ pub mod HopFact
 pub mod EveryNode
 pub mod Order
 pub mod Fitting
+pub mod Disjoint
+pub mod Written
+pub mod Ranged
 pub mod WorkedTables
 pub mod WorkedRules
 pub mod WorkedHops

@@ -1,7 +1,6 @@
 -- A network's tables, expressions and links, as evaluation, rules and walks read them.
 use Rattle.std.specs.Prelude.{ℕ, Bool, false, ◌&&◌, Option, Some, None, List, [], ◌∷◌, ◌++◌, if◌then◌else◌, map, slice_get}
 use Rattle.of10_match.specs.Fields.{HeaderOf}
-use Rattle.policy_expr.specs.Policy.{policy_of}
 use Rattle.policy_expr.specs.Sizes.{size_of}
 use Rattle.policy_meaning.specs.Meaning.{evaluate}
 use Rattle.policy_meaning.specs.Leaf.{outside, leaf_meaning, has_port}
@@ -39,17 +38,17 @@ table_size (Some t) = t.size
 -- what the expression of a virtual switch does
 abbrev pub switch_meaning : List LeafTable → Option VirtualSwitch → HeaderOf → Meaning
 switch_meaning tables None h = outside
-switch_meaning tables (Some s) h = evaluate (λ i. table_meaning (slice_get tables i)) (policy_of s.expr) h
+switch_meaning tables (Some s) h = evaluate (λ i. table_meaning (slice_get tables i)) s.expr h
 
 -- the rules of the expression of a virtual switch
 abbrev pub switch_rules : List LeafTable → Option VirtualSwitch → List Rule
 switch_rules tables None = []
-switch_rules tables (Some s) = rules_of (λ i. table_size (slice_get tables i)) (λ i. table_rules (ports_of s) (slice_get tables i)) (policy_of s.expr)
+switch_rules tables (Some s) = rules_of (λ i. table_size (slice_get tables i)) (λ i. table_rules (ports_of s) (slice_get tables i)) s.expr
 
 -- how many levels these have
 abbrev pub switch_size : List LeafTable → Option VirtualSwitch → ℕ
 switch_size tables None = 1
-switch_size tables (Some s) = size_of (λ i. table_size (slice_get tables i)) (policy_of s.expr)
+switch_size tables (Some s) = size_of (λ i. table_size (slice_get tables i)) s.expr
 
 -- the links of a virtual switch
 abbrev pub switch_links : Option VirtualSwitch → List Link

@@ -1,10 +1,10 @@
 -- The rules of an expression, from scratch: all pairs that meet, and all rules that stand alone.
-use Rattle.std.specs.Prelude.{ℕ, ◌||◌, Option, List, [], ◌∷◌, ◌++◌, if◌then◌else◌, map, filter_map, flat_map, option_map}
+use Rattle.std.specs.Prelude.{ℕ, Bool, ◌||◌, Option, List, [], ◌∷◌, ◌++◌, if◌then◌else◌, map, filter_map, flat_map, option_map}
 use Rattle.std.specs.Option.{option_and_then}
 use Rattle.of10_match.specs.Fields.{MatchOf}
 use Rattle.of10_match.specs.Matching.{meet}
 use Rattle.of10_actions.specs.Fields.{RewriteOf}
-use Rattle.of10_actions.specs.Rewriting.{pull}
+use Rattle.pull_back.specs.Pulling.{pull}
 use Rattle.of10_actions.specs.declared.effects.Tail.{Tail}
 use Rattle.of10_actions.specs.declared.effects.Tail.TheVariants.{Nothing, Pass, Link}
 use Rattle.alg_priority.specs.Levels.{sum_level, concat_level, shift_level}
@@ -21,13 +21,21 @@ summed a b m = record { m = m; level = sum_level a.level b.level; touched = a.to
 abbrev pub sum_rule : Rule → Rule → Option Rule
 sum_rule a b = option_map (summed a b) (meet a.m b.m)
 
+-- the rule of a pair of which b, with `size` levels, acts on packets that r rewrote, where it holds m
+abbrev pub after_rewrite : ℕ → RewriteOf → Rule → Rule → Bool → Tail → MatchOf → Rule
+after_rewrite size r a b touched tail m = record { m = m; level = concat_level a.level b.level size; touched = touched; outs = a.outs ++ map (out_after r) b.outs; tail = tail; ancestry = a.ancestry ++ b.ancestry }
+
+-- such a rule, or none where no header of a is asked for after r
+abbrev pub rule_after : ℕ → RewriteOf → Rule → Rule → MatchOf → Bool → Tail → Option Rule
+rule_after size r a b asked touched tail = option_map (after_rewrite size r a b touched tail) (option_and_then (meet a.m) (pull r asked))
+
 -- the rule of a pair of `>>`, where a passes r on, b has `size` levels, and it holds m
 abbrev pub chained : ℕ → RewriteOf → Rule → Rule → MatchOf → Rule
-chained size r a b m = record { m = m; level = concat_level a.level b.level size; touched = a.touched; outs = a.outs ++ map (out_after r) b.outs; tail = tail_after r b.tail; ancestry = a.ancestry ++ b.ancestry }
+chained size r a b m = after_rewrite size r a b a.touched (tail_after r b.tail) m
 
 -- the rule of a pair of `>>`, or none where no header of a is in b after r
 abbrev pub chain_rule : ℕ → RewriteOf → Rule → Rule → Option Rule
-chain_rule size r a b = option_map (chained size r a b) (option_and_then (meet a.m) (pull r b.m))
+chain_rule size r a b = rule_after size r a b b.m a.touched (tail_after r b.tail)
 
 -- a rule that stands alone, at its level in the whole
 abbrev pub lifted : ℕ → Rule → Rule

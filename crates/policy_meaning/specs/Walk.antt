@@ -1,6 +1,7 @@
 -- The way of a packet over virtual switches, by what their expressions do.
 use Rattle.std.specs.Prelude.{ℕ, zero, suc, Bool, ◌==◌, ◌&&◌, not, Option, Some, None, List, [], ◌++◌, if◌then◌else◌, map, filter_map}
 use Rattle.of10_match.specs.Fields.{HeaderOf}
+use Rattle.of10_match.specs.Numbers.{UNTAGGED}
 use Rattle.of10_actions.specs.Fields.{RewriteOf}
 use Rattle.of10_actions.specs.Rewriting.{apply, and_then}
 use Rattle.of10_actions.specs.declared.effects.Out.{Out}
@@ -19,10 +20,6 @@ pub record Ground : Type 0 where
   pub means : ℕ → HeaderOf → Meaning
   pub links : ℕ → List Link
   pub spread : ℕ → Bool
-
--- the dl_vlan of a packet without a tag
-abbrev pub UNTAGGED : ℕ
-UNTAGGED = 65535
 
 -- nothing leaves, and nobody is told
 abbrev pub nowhere : Walked

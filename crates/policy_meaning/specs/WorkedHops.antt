@@ -1,15 +1,14 @@
 -- Virtual switches that split one physical switch, and walks, computed.
 use Rattle.std.specs.Prelude.{◌≡◌, ℕ, Bool, true, false, List, [], ◌∷◌, map, if◌then◌else◌, slice_get}
-use Rattle.of10_match.specs.Matching.{everything}
+use Rattle.of10_match.specs.Matching.{at_port, everything}
 use Rattle.of10_actions.specs.Rewriting.{no_rewrite}
 use Rattle.of10_actions.specs.declared.effects.Tail.{Tail}
 use Rattle.policy_expr.specs.Policy.{member, parallel, sequential}
-use Rattle.policy_expr.specs.declared.expr.Expr.TheVariants.{Member}
 use Rattle.policy_meaning.specs.Meaning.{evaluate}
 use Rattle.policy_meaning.specs.Hops.{node, hop_size}
 use Rattle.policy_meaning.specs.Walk.{walk}
 use Rattle.policy_meaning.specs.Networks.{fabric_of, ground_of, table_meaning}
-use Rattle.policy_meaning.specs.WorkedTables.{by_port, to_port, does, entry, teller, second_balancer, idle_router, to_server, packet_to}
+use Rattle.policy_meaning.specs.WorkedTables.{to_port, does, entry, teller, second_balancer, idle_router, to_server, packet_to}
 use Rattle.policy_meaning.specs.WorkedRules.{at_level, placed}
 use Rattle.policy_meaning.specs.declared.leaf.LeafEntry.{LeafEntry}
 use Rattle.policy_meaning.specs.declared.leaf.LeafTable.{LeafTable}
@@ -22,12 +21,12 @@ hop_table size i visible entries = record { member = i; size = size; region = ev
 
 -- packets that come by a port go on at a link
 abbrev pub goes_on : ℕ → ℕ → ℕ → LeafEntry
-goes_on serial port link = entry serial (by_port port) 4 (does [] (Tail.Link no_rewrite link))
+goes_on serial port link = entry serial (at_port port) 4 (does [] (Tail.Link no_rewrite link))
 
 -- the member of the first virtual switch sends what comes by port 1 to link 9; what comes back by link 8 it sends to
 -- port 1, or once more to link 9
 abbrev pub first_member : ℕ → Bool → LeafTable
-first_member size leaves = hop_table size 0 (1 ∷ 2 ∷ 8 ∷ 9 ∷ []) (goes_on 1 1 9 ∷ (if leaves then entry 2 (by_port 8) 4 (does (to_port 1) Tail.Nothing) else goes_on 2 8 9) ∷ [])
+first_member size leaves = hop_table size 0 (1 ∷ 2 ∷ 8 ∷ 9 ∷ []) (goes_on 1 1 9 ∷ (if leaves then entry 2 (at_port 8) 4 (does (to_port 1) Tail.Nothing) else goes_on 2 8 9) ∷ [])
 
 -- the member of the second sends what comes by link 9 to link 8
 abbrev pub second_member : ℕ → LeafTable
@@ -41,8 +40,8 @@ joined v port = record { port = port; peer = record { v = v; port = port } }
 abbrev pub split_switch : ℕ → Bool → Network
 split_switch size leaves = record {
   tables = first_member size leaves ∷ second_member size ∷ [];
-  switches = record { expr = Member 0; outside = 1 ∷ 2 ∷ []; links = joined 1 8 ∷ joined 1 9 ∷ []; spread = false; whole = false }
-      ∷ record { expr = Member 1; outside = 1 ∷ 2 ∷ []; links = joined 0 8 ∷ joined 0 9 ∷ []; spread = false; whole = false } ∷ [];
+  switches = record { expr = member 0; outside = 1 ∷ 2 ∷ []; links = joined 1 8 ∷ joined 1 9 ∷ []; spread = false; whole = false }
+      ∷ record { expr = member 1; outside = 1 ∷ 2 ∷ []; links = joined 0 8 ∷ joined 0 9 ∷ []; spread = false; whole = false } ∷ [];
 }
 
 -- the sizes over one to four hops

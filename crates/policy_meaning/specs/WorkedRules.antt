@@ -1,8 +1,8 @@
 -- Rules of members and expressions, computed.
 use Rattle.std.specs.Prelude.{◌≡◌, ℕ, true, false, Some, None, List, [], ◌∷◌, map, slice_get}
 use Rattle.of10_match.specs.Fields.{MatchOf}
-use Rattle.of10_match.specs.Matching.{everything}
-use Rattle.of10_actions.specs.Rewriting.{pull}
+use Rattle.of10_match.specs.Matching.{at_port, everything}
+use Rattle.pull_back.specs.Pulling.{pull}
 use Rattle.of10_actions.specs.declared.effects.Dest.TheVariants.{Port, Tell}
 use Rattle.of10_actions.specs.declared.effects.Tail.TheVariants.{Nothing}
 use Rattle.policy_expr.specs.Policy.{Policy, member, parallel, sequential, override}
@@ -11,7 +11,7 @@ use Rattle.policy_meaning.specs.LeafRules.{leaf_rules}
 use Rattle.policy_meaning.specs.Rules.{rules_of}
 use Rattle.policy_meaning.specs.Meaning.{evaluate}
 use Rattle.policy_meaning.specs.Networks.{table_meaning, table_rules, table_size}
-use Rattle.policy_meaning.specs.WorkedTables.{from_net, to_net, by_port, to_port, does, entry, table, monitor, router, to_server, balancer, server_router, firewall, packet_to}
+use Rattle.policy_meaning.specs.WorkedTables.{from_net, to_net, to_port, does, entry, table, monitor, router, to_server, balancer, server_router, firewall, packet_to}
 use Rattle.policy_meaning.specs.declared.leaf.LeafTable.{LeafTable}
 use Rattle.policy_meaning.specs.declared.meaning.Meaning.{Meaning}
 use Rattle.policy_meaning.specs.declared.rule.Rule.{Rule}
@@ -95,7 +95,7 @@ from_net_by p = record (from_net 0x0a000100 24) { in_port = Some p }
 abbrev pub RulesByPort : Type 0
 RulesByPort =
     (placed (leaf_rules four_ports half_blind) ≡ at_level (0 ∷ []) 0 ∷ at_level (1 ∷ []) 1 ∷ at_level (1 ∷ []) 1 ∷ at_level (3 ∷ []) 4 ∷ at_level (3 ∷ []) 4 ∷ [])
-    × (map (λ (r : Rule). r.m) (leaf_rules four_ports half_blind) ≡ everything ∷ by_port 1 ∷ by_port 3 ∷ from_net_by 1 ∷ from_net_by 3 ∷ [])
+    × (map (λ (r : Rule). r.m) (leaf_rules four_ports half_blind) ≡ everything ∷ at_port 1 ∷ at_port 3 ∷ from_net_by 1 ∷ from_net_by 3 ∷ [])
 
 -- a router that may act on what goes to 10.0.0.0/16 alone, with an entry for 10.0.0.0/8 and one for 11.0.0.0/8
 abbrev pub confined : LeafTable

@@ -20,10 +20,6 @@ from_net addr len = record everything { dl_type = Some 0x0800; nw_src = Some (re
 abbrev pub to_net : ℕ → ℕ → MatchOf
 to_net addr len = record everything { dl_type = Some 0x0800; nw_dst = Some (record { addr = addr; len = len }) }
 
--- packets that come by a port
-abbrev pub by_port : ℕ → MatchOf
-by_port p = record everything { in_port = Some p }
-
 -- one packet leaves by a port of the first virtual switch
 abbrev pub to_port : ℕ → List Out
 to_port p = record { rewrite = no_rewrite; dest = Port 0 p } ∷ []

@@ -1,17 +1,16 @@
 //! The rules of virtual switches and of the nodes of their ports, from scratch.
 ghost use Rattle.std.specs.Prelude.{◌≡◌, ◌+◌, ◌*◌, ◌<◌, ◌≤◌, ◌^◌, ◌++◌, All, IfOk, OnOk, IfSome, filter_map, map, slice_get};
 ghost use Rattle.alg_priority.specs.Levels.{capped};
-ghost use Rattle.policy_expr.specs.Policy.{policy_of};
 ghost use Rattle.policy_meaning.specs.Fitting.{IsFittingTable, levels_of};
 ghost use Rattle.policy_meaning.specs.Hops.{hop_size as hop_size_of, hops_on, last_rule as last_rule_of, node, peers_size as peers_size_of};
-ghost use Rattle.policy_meaning.specs.LeafRules.{at_port as at_port_of, rule_met as rule_met_of};
+ghost use Rattle.of10_match.specs.Matching.{at_port};
+ghost use Rattle.policy_meaning.specs.LeafRules.{rule_met as rule_met_of};
 ghost use Rattle.policy_meaning.specs.Networks.{entering as entering_of, fabric_of, switch_rules as switch_rules_of};
 
 use crate::hops::{add_hops, at_node, hop_lone};
 use crate::leaf::LeafTable;
-use crate::leaf_rules::{at_port, rule_met};
+use crate::leaf_rules::rule_met;
 use crate::network::{Link, Network, Onward, VirtualSwitch, leads};
-use crate::push::push_some;
 use crate::rule::Rule;
 use crate::scratch::{expression_rules, expression_size};
 use alg_priority::size_concat;
@@ -35,7 +34,7 @@ pub fn switch_rules(
     switch: &VirtualSwitch,
 ) -> Result<List<Rule>, Memory>
     requires tables { All IsFittingTable tables.now }
-    requires size { levels_of tables.now (policy_of switch.now.expr) < 2 ^ 64 }
+    requires size { levels_of tables.now switch.now.expr < 2 ^ 64 }
     ensures { IfOk result (λ rules. rules ≡ switch_rules_of tables.now (Some switch.now)) }
 {
     let ports = switch.ports(alloc)?;
@@ -90,11 +89,11 @@ fn last_rule(alloc: Global) -> Rule
 
 /// Rules, narrowed to a port.
 fn met_at(alloc: Global, port: u16, rules: &List<Rule>) -> Result<List<Rule>, Memory>
-    ensures { IfOk result (λ met. met ≡ filter_map (λ a. rule_met_of a (at_port_of port)) rules.now) }
+    ensures { IfOk result (λ met. met ≡ filter_map (λ a. rule_met_of a (at_port port)) rules.now) }
 {
     let mut met = List::new(alloc);
     for rule in rules.as_slice() {
-        push_some(&mut met, rule_met(rule, &at_port(port))?)?;
+        met.push_some(rule_met(rule, &Match::at_port(port))?)?;
     }
     Ok(met)
 }
@@ -119,7 +118,7 @@ fn add_onward(
         None => rules.push(hop_lone(size, here)?),
         Some(on) => {
             let there = node_rules(alloc, network, hops, on.place.v, on.place.port)?;
-            add_hops(alloc, rules, size, &on.rewrite, here, &there)
+            add_hops(rules, size, &on.rewrite, here, &there)
         }
     }
 }

@@ -3,9 +3,9 @@ ghost use Rattle.std.specs.Prelude.{◌≡◌, ◌<◌, ◌^◌, ◌++◌, All, 
 ghost use Rattle.alg_priority.specs.Levels.{concat_level};
 ghost use Rattle.policy_meaning.specs.Hops.{at_node as at_node_of, hop_lone as hop_lone_of, hop_rule as hop_rule_of, out_at as out_at_of, outs_at as outs_at_of, without_port as without_port_of};
 
-use crate::composing::{chained_outs, met_after};
-use crate::push::{joined, push_some};
+use crate::composing::{Second, rule_after};
 use crate::rule::Rule;
+use alg_priority::concat;
 use cv_io::{Duplicate, List, Memory};
 use of10_actions::{Dest, Out, Rewrite, Tail};
 use of10_match::Match;
@@ -44,7 +44,7 @@ fn outs_at(alloc: Global, v: u32, port: u16, outs: &List<Out>) -> Result<List<Ou
 {
     let mut kept = List::new(alloc);
     for out in outs.as_slice() {
-        push_some(&mut kept, out_at(v, port, out))?;
+        kept.push_some(out_at(v, port, out))?;
     }
     Ok(kept)
 }
@@ -71,7 +71,7 @@ pub fn hop_lone(size: u64, a: &Rule) -> Result<Rule, Memory>
 {
     Ok(Rule {
         m: a.m,
-        level: a.level * size,
+        level: concat(a.level, 0, size),
         touched: true,
         outs: a.outs.copy()?,
         tail: Tail::Nothing,
@@ -91,32 +91,20 @@ fn without_port(m: &Match) -> Match
 
 /// The rule of one, as it stands at its node, that goes on with this rewrite, and one of the node
 /// where it comes to, or none where no header of the first is in the second, at its port and rewritten.
-pub fn hop_rule(
-    alloc: Global,
-    size: u64,
-    rewrite: &Rewrite,
-    a: &Rule,
-    b: &Rule,
-) -> Result<Option<Rule>, Memory>
+pub fn hop_rule(size: u64, rewrite: &Rewrite, a: &Rule, b: &Rule) -> Result<Option<Rule>, Memory>
     requires { concat_level a.now.level b.now.level size < 2 ^ 64 }
     ensures { IfOk result (λ rule. rule ≡ hop_rule_of size rewrite.now a.now b.now) }
 {
-    match met_after(&a.m, rewrite, &without_port(&b.m)) {
-        None => Ok(None),
-        Some(m) => Ok(Some(Rule {
-            m,
-            level: a.level * size + b.level,
-            touched: true,
-            outs: chained_outs(alloc, &a.outs, rewrite, &b.outs)?,
-            tail: Tail::Nothing,
-            ancestry: joined(alloc, &a.ancestry, &b.ancestry)?,
-        })),
-    }
+    let second = Second {
+        asked: without_port(&b.m),
+        touched: true,
+        tail: Tail::Nothing,
+    };
+    rule_after(size, rewrite, a, b, second)
 }
 
 /// Appends the rules of a rule, as it stands at its node, and of each of the node where it comes to.
 pub(crate) fn add_hops(
-    alloc: Global,
     rules: &mut List<Rule>,
     size: u64,
     rewrite: &Rewrite,
@@ -127,7 +115,7 @@ pub(crate) fn add_hops(
     ensures { OnOk result (rules.new ≡ rules.old ++ filter_map (hop_rule_of size rewrite.now a.now) there.now) }
 {
     for b in there.as_slice() {
-        push_some(rules, hop_rule(alloc, size, rewrite, a, b)?)?;
+        rules.push_some(hop_rule(size, rewrite, a, b)?)?;
     }
     Ok(())
 }

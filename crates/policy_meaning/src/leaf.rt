@@ -8,12 +8,9 @@ ghost use Rattle.policy_meaning.specs.Leaf.{best_entry as best_entry_of, has_por
 
 use crate::meaning::{Meaning, outside};
 use cv_io::{Duplicate, List, Memory};
-use of10_actions::{Dest, Effects, Out, Rewrite, Tail};
+use of10_actions::{Dest, Effects, NO_MATCH, Out, Rewrite, Tail};
 use of10_match::{Header, Match};
 use std::alloc::Global;
-
-/// The reason of a PACKET_IN for a packet that no entry holds (section 5.4.1).
-const NO_MATCH: u8 = 0;
 
 /// An entry of a member's table.
 #[derive(PartialEq, Eq, Debug, Drop)]
@@ -40,6 +37,31 @@ pub struct LeafTable {
     /// Whether the member is told of packets that no entry holds.
     pub misses: bool,
     pub entries: List<LeafEntry>,
+}
+
+impl Duplicate for LeafEntry {
+    fn copy(&self) -> Result<LeafEntry, Memory> {
+        Ok(LeafEntry {
+            serial: self.serial,
+            rank: self.rank,
+            m: self.m,
+            level: self.level,
+            effects: self.effects.copy()?,
+        })
+    }
+}
+
+impl Duplicate for LeafTable {
+    fn copy(&self) -> Result<LeafTable, Memory> {
+        Ok(LeafTable {
+            member: self.member,
+            size: self.size,
+            region: self.region.copied()?,
+            visible: self.visible.copy()?,
+            misses: self.misses,
+            entries: self.entries.copy()?,
+        })
+    }
 }
 
 /// Whether a port is one of these.

@@ -2,25 +2,14 @@
 ghost use Rattle.std.specs.Prelude.{◌≡◌, [], ◌∷◌, ◌+◌, ◌<◌, ◌^◌, ◌++◌, All, IfOk, OnOk, flat_map, map};
 ghost use Rattle.std.specs.List.{list_any};
 ghost use Rattle.policy_meaning.specs.Fitting.{SerialsFit};
-ghost use Rattle.policy_meaning.specs.LeafRules.{at_port as at_port_of, cells as cells_of, cut as cut_of, entry_rule as entry_rule_of, has_outside as has_outside_of, hides as hides_of, in_cells, is_everything as is_everything_of, is_open as is_open_of, leaf_rules as leaf_rules_of, miss_rule as miss_rule_of, outside_rule as outside_rule_of, rule_met as rule_met_of};
+ghost use Rattle.policy_meaning.specs.LeafRules.{cells as cells_of, cut as cut_of, entry_rule as entry_rule_of, has_outside as has_outside_of, hides as hides_of, in_cells, is_everything as is_everything_of, is_open as is_open_of, leaf_rules as leaf_rules_of, miss_rule as miss_rule_of, outside_rule as outside_rule_of, rule_met as rule_met_of};
 
 use crate::leaf::{LeafEntry, LeafTable, has_port};
-use crate::push::push_some;
 use crate::rule::Rule;
 use cv_io::{Duplicate, Leaf, List, Memory};
 use of10_actions::Tail;
 use of10_match::Match;
 use std::alloc::Global;
-
-/// All headers that come by a port.
-pub(crate) fn at_port(port: u16) -> Match
-    ensures { result ≡ at_port_of port }
-{
-    Match {
-        in_port: Some(port),
-        ..Match::everything()
-    }
-}
 
 fn is_open<T>(asked: &Option<T>) -> bool
     ensures { result ≡ is_open_of asked.now }
@@ -65,7 +54,7 @@ fn add_in_cells(rules: &mut List<Rule>, cells: &List<Match>, a: &Rule) -> Result
     ensures { OnOk result (rules.new ≡ rules.old ++ in_cells cells.now a.now) }
 {
     for cell in cells.as_slice() {
-        push_some(rules, rule_met(a, cell)?)?;
+        rules.push_some(rule_met(a, cell)?)?;
     }
     Ok(())
 }
@@ -75,7 +64,7 @@ fn add_cut(cells: &mut List<Match>, visible: &List<u16>, m: &Match) -> Result<()
     ensures { OnOk result (cells.new ≡ cells.old ++ cut_of visible.now m.now) }
 {
     for port in visible.as_slice() {
-        push_some(cells, m.meet(&at_port(*port)))?;
+        cells.push_some(m.meet(&Match::at_port(*port)))?;
     }
     Ok(())
 }

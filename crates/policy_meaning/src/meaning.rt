@@ -4,7 +4,6 @@ ghost use Rattle.policy_meaning.specs.Leaf.{outside as outside_of};
 ghost use Rattle.policy_meaning.specs.Meaning.{both_act as both_act_of, first_touched as first_touched_of, out_after, passed_on, tail_after as tail_after_of};
 ghost use Rattle.of10_actions.specs.declared.effects.Tail.TheVariants.{Pass};
 
-use crate::push::append;
 use cv_io::{Duplicate, List, Memory};
 use of10_actions::{Out, Rewrite, Tail};
 use std::alloc::Global;
@@ -66,7 +65,7 @@ pub(crate) fn both_act(left: Meaning, right: &Meaning) -> Result<Meaning, Memory
         mut outs,
         ..
     } = left;
-    append(&mut outs, &right.outs)?;
+    outs.append(right.outs.copy()?)?;
     Ok(Meaning {
         touched: touched | right.touched,
         outs,

@@ -4,10 +4,11 @@ ghost use Rattle.policy_meaning.specs.Hops.{leads as leads_of, peer_of as peer_o
 ghost use Rattle.policy_meaning.specs.Networks.{ports_of};
 
 use crate::leaf::LeafTable;
-use cv_io::{List, Memory};
+use cv_io::{Duplicate, List, Memory};
 use of10_actions::{Rewrite, Tail};
 use policy_expr::Expr;
 use std::alloc::Global;
+use std::marker::Model;
 
 /// A port of a virtual switch.
 #[derive(Clone, Copy, PartialEq, Eq, Debug)]
@@ -43,6 +44,18 @@ pub struct VirtualSwitch {
     pub whole: bool,
 }
 
+impl Model for VirtualSwitch {
+    ghost use Rattle.policy_meaning.specs.Switches.{SwitchOf, switch_code};
+
+    ghost Value = { SwitchOf };
+
+    ghost coded = { switch_code };
+
+    ghost use Rattle.policy_expr.specs.Policy.{policy_of};
+
+    ghost view = { λ s. record { expr = policy_of s.expr; outside = s.outside; links = s.links; spread = s.spread; whole = s.whole } };
+}
+
 /// All virtual switches, by number, and the tables of all members, by number.
 #[derive(Debug, Drop)]
 pub struct Network {
@@ -60,6 +73,39 @@ impl VirtualSwitch {
             ports.push(link.port)?;
         }
         Ok(ports)
+    }
+}
+
+impl Duplicate for Place {
+    fn copy(&self) -> Result<Place, Memory> {
+        Ok(*self)
+    }
+}
+
+impl Duplicate for Link {
+    fn copy(&self) -> Result<Link, Memory> {
+        Ok(*self)
+    }
+}
+
+impl Duplicate for VirtualSwitch {
+    fn copy(&self) -> Result<VirtualSwitch, Memory> {
+        Ok(VirtualSwitch {
+            expr: self.expr.copy()?,
+            outside: self.outside.copy()?,
+            links: self.links.copy()?,
+            spread: self.spread,
+            whole: self.whole,
+        })
+    }
+}
+
+impl Duplicate for Network {
+    fn copy(&self) -> Result<Network, Memory> {
+        Ok(Network {
+            tables: self.tables.copy()?,
+            switches: self.switches.copy()?,
+        })
     }
 }
 

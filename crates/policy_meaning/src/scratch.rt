@@ -22,7 +22,7 @@ fn sums(alloc: Global, xs: &List<Rule>, bs: &List<Rule>) -> Result<List<Rule>, M
 {
     let mut rules = List::new(alloc);
     for a in xs.as_slice() {
-        add_sums(alloc, &mut rules, a, bs)?;
+        add_sums(&mut rules, a, bs)?;
     }
     Ok(rules)
 }
@@ -35,7 +35,7 @@ fn chains(alloc: Global, size: u64, xs: &List<Rule>, bs: &List<Rule>) -> Result<
 {
     let mut rules = List::new(alloc);
     for a in xs.as_slice() {
-        add_chains(alloc, &mut rules, size, a, bs)?;
+        add_chains(&mut rules, size, a, bs)?;
     }
     Ok(rules)
 }

@@ -6,14 +6,10 @@ ghost use Rattle.of10_actions.specs.Rewriting.{and_then};
 
 use crate::evaluation::evaluate;
 use crate::network::{Network, Onward, leads};
-use crate::push::push_some;
 use cv_io::{List, Memory};
 use of10_actions::{Dest, Out, Rewrite};
-use of10_match::Header;
+use of10_match::{Header, UNTAGGED};
 use std::alloc::Global;
-
-/// The dl_vlan of a packet without a tag.
-const UNTAGGED: u16 = 65535;
 
 /// A packet that leaves at a port of a virtual switch, with the rewrite in force.
 #[derive(Clone, Copy, PartialEq, Eq, Debug)]
@@ -99,7 +95,7 @@ fn outs_here(alloc: Global, v: u32, in_port: u16, outs: &List<Out>) -> Result<Li
 {
     let mut left = List::new(alloc);
     for out in outs.as_slice() {
-        push_some(&mut left, port_out(v, in_port, out))?;
+        left.push_some(port_out(v, in_port, out))?;
     }
     Ok(left)
 }
@@ -110,7 +106,7 @@ fn told_here(alloc: Global, in_port: u16, outs: &List<Out>) -> Result<List<Told>
 {
     let mut told = List::new(alloc);
     for out in outs.as_slice() {
-        push_some(&mut told, telling(in_port, out))?;
+        told.push_some(telling(in_port, out))?;
     }
     Ok(told)
 }

@@ -11,7 +11,8 @@ use Rattle.of10_match.proofs.MeetSelf.{overlaps_self}
 use Rattle.of10_match.proofs.Overlapping.{overlaps_exact}
 use Rattle.of10_match.proofs.Twelve.{and-false}
 use Rattle.of10_actions.specs.Fields.{RewriteOf}
-use Rattle.of10_actions.specs.Rewriting.{apply, can_pull, pulled, pull, unset, set_in, whole}
+use Rattle.of10_actions.specs.Rewriting.{apply}
+use Rattle.pull_back.specs.Pulling.{can_pull, pulled, pull, unset, set_in, whole}
 use Rattle.pull_back.specs.Pulls.{IsPullBack, Reaches, PullIsExact, ImageHolds}
 use Rattle.pull_back.proofs.PulledMatches.{holds-pulled, holds-image}
 use Rattle.pull_back.proofs.Normality.{normal-guarded, normal-pulled}

@@ -1,3 +1,4 @@
+pub mod Guarded
 pub mod PulledMatches
 pub mod Normality
 pub mod Exactness

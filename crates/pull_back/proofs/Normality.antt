@@ -7,7 +7,9 @@ use Rattle.of10_match.specs.Fields.{MatchOf}
 use Rattle.of10_match.specs.Normal.{IsNormal, is_ip, is_ip_or_arp, has_ports}
 use Rattle.of10_match.proofs.Twelve.{and-first, and-second, and-intro}
 use Rattle.of10_actions.specs.Fields.{RewriteOf}
-use Rattle.of10_actions.specs.Rewriting.{unset, set_in, whole, pulled, image, sets_nw, sets_tp, Guards, IsGuarded, names, is_ip as ip, is_tcp_udp as tcp_udp}
+use Rattle.of10_actions.specs.Rewriting.{is_ip as ip, is_tcp_udp as tcp_udp}
+use Rattle.pull_back.proofs.Guarded.{Guards, IsGuarded}
+use Rattle.pull_back.specs.Pulling.{unset, set_in, whole, pulled, image, sets_nw, sets_tp, names}
 
 module _ {A : Type 0} where
   on_some_map : (x : Option A) (P Q : Type 0) → (P → Q) → OnSome x P → OnSome x Q

@@ -5,7 +5,9 @@ use Rattle.std.proofs.Math.Bool.{and-true}
 use Rattle.of10_match.specs.Fields.{HeaderOf, MatchOf}
 use Rattle.of10_match.specs.Matching.{holds, each, fits, fits_prefix, top_bits}
 use Rattle.of10_actions.specs.Fields.{RewriteOf}
-use Rattle.of10_actions.specs.Rewriting.{apply, set_to, is_ip, is_tcp_udp, has_ports, names, sets_nw, sets_tp, set_fits, unset, can_pull, pulled, Guards, IsGuarded, image, set_in, whole}
+use Rattle.of10_actions.specs.Rewriting.{apply, set_to, is_ip, is_tcp_udp, has_tcp_udp}
+use Rattle.pull_back.proofs.Guarded.{Guards, IsGuarded}
+use Rattle.pull_back.specs.Pulling.{names, sets_nw, sets_tp, set_fits, unset, can_pull, pulled, image, set_in, whole}
 use Rattle.of10_match.proofs.Twelve.{and-false, each-and, each-same, each-fields, each-intro}
 
 -- one field, for a test that no name passes always
@@ -34,7 +36,7 @@ guarded (Some v) m g e = cc
 sets_nw_same : {A : Type 0} (t : Option ℕ) (x : ℕ) (m : Option A) → fits t x ≡ true → Guards t m → (names t is_ip ≡ is_ip x) ⊎ (m ≡ None)
 sets_nw_same t x m e g = elim (named_same t is_ip x e) [ inl p ↦ inl p | inr p ↦ inr (guarded t m g p) ]
 
-sets_tp_same : {A : Type 0} (t u : Option ℕ) (x y : ℕ) (m : Option A) → fits t x ≡ true → fits u y ≡ true → Guards t m → Guards u m → ((names t is_ip && names u is_tcp_udp) ≡ has_ports x y) ⊎ (m ≡ None)
+sets_tp_same : {A : Type 0} (t u : Option ℕ) (x y : ℕ) (m : Option A) → fits t x ≡ true → fits u y ≡ true → Guards t m → Guards u m → ((names t is_ip && names u is_tcp_udp) ≡ has_tcp_udp x y) ⊎ (m ≡ None)
 sets_tp_same t u x y m e f g k =
     elim (named_same t is_ip x e) [
       | inr p ↦ inr (guarded t m g p)
@@ -53,7 +55,7 @@ pull_fields : (r : RewriteOf) (m : MatchOf) (h : HeaderOf) → IsGuarded m → f
     each (fits m.in_port h.in_port && true) (fits (unset true r.dl_src m.dl_src) h.dl_src && (set_fits fits true r.dl_src m.dl_src)) (fits (unset true r.dl_dst m.dl_dst) h.dl_dst && (set_fits fits true r.dl_dst m.dl_dst)) (fits m.dl_vlan h.dl_vlan && true) (fits m.dl_vlan_pcp h.dl_vlan_pcp && true) (fits m.dl_type h.dl_type && true) (fits (unset (sets_nw m) r.nw_tos m.nw_tos) h.nw_tos && (set_fits fits (sets_nw m) r.nw_tos m.nw_tos)) (fits m.nw_proto h.nw_proto && true) (fits_prefix (unset (sets_nw m) r.nw_src m.nw_src) h.nw_src && (set_fits fits_prefix (sets_nw m) r.nw_src m.nw_src)) (fits_prefix (unset (sets_nw m) r.nw_dst m.nw_dst) h.nw_dst && (set_fits fits_prefix (sets_nw m) r.nw_dst m.nw_dst)) (fits (unset (sets_tp m) r.tp_src m.tp_src) h.tp_src && (set_fits fits (sets_tp m) r.tp_src m.tp_src)) (fits (unset (sets_tp m) r.tp_dst m.tp_dst) h.tp_dst && (set_fits fits (sets_tp m) r.tp_dst m.tp_dst))
     ≡ each (fits m.in_port (apply r h).in_port) (fits m.dl_src (apply r h).dl_src) (fits m.dl_dst (apply r h).dl_dst) (fits m.dl_vlan (apply r h).dl_vlan) (fits m.dl_vlan_pcp (apply r h).dl_vlan_pcp) (fits m.dl_type h.dl_type && true) (fits m.nw_tos (apply r h).nw_tos) (fits m.nw_proto h.nw_proto && true) (fits_prefix m.nw_src (apply r h).nw_src) (fits_prefix m.nw_dst (apply r h).nw_dst) (fits m.tp_src (apply r h).tp_src) (fits m.tp_dst (apply r h).tp_dst)
 pull_fields r m h g p q =
-    each-same (and-true (fits m.in_port h.in_port)) (fit-unset fits (λ _. refl) true true r.dl_src m.dl_src h.dl_src (inl refl)) (fit-unset fits (λ _. refl) true true r.dl_dst m.dl_dst h.dl_dst (inl refl)) (and-true (fits m.dl_vlan h.dl_vlan)) (and-true (fits m.dl_vlan_pcp h.dl_vlan_pcp)) refl (fit-unset fits (λ _. refl) (sets_nw m) (is_ip h.dl_type) r.nw_tos m.nw_tos h.nw_tos (sets_nw_same m.dl_type h.dl_type m.nw_tos p g.nw_tos)) refl (fit-unset fits_prefix (λ _. refl) (sets_nw m) (is_ip h.dl_type) r.nw_src m.nw_src h.nw_src (sets_nw_same m.dl_type h.dl_type m.nw_src p g.nw_src)) (fit-unset fits_prefix (λ _. refl) (sets_nw m) (is_ip h.dl_type) r.nw_dst m.nw_dst h.nw_dst (sets_nw_same m.dl_type h.dl_type m.nw_dst p g.nw_dst)) (fit-unset fits (λ _. refl) (sets_tp m) (has_ports h.dl_type h.nw_proto) r.tp_src m.tp_src h.tp_src (sets_tp_same m.dl_type m.nw_proto h.dl_type h.nw_proto m.tp_src p q g.tp_src g.tp_src_proto)) (fit-unset fits (λ _. refl) (sets_tp m) (has_ports h.dl_type h.nw_proto) r.tp_dst m.tp_dst h.tp_dst (sets_tp_same m.dl_type m.nw_proto h.dl_type h.nw_proto m.tp_dst p q g.tp_dst g.tp_dst_proto))
+    each-same (and-true (fits m.in_port h.in_port)) (fit-unset fits (λ _. refl) true true r.dl_src m.dl_src h.dl_src (inl refl)) (fit-unset fits (λ _. refl) true true r.dl_dst m.dl_dst h.dl_dst (inl refl)) (and-true (fits m.dl_vlan h.dl_vlan)) (and-true (fits m.dl_vlan_pcp h.dl_vlan_pcp)) refl (fit-unset fits (λ _. refl) (sets_nw m) (is_ip h.dl_type) r.nw_tos m.nw_tos h.nw_tos (sets_nw_same m.dl_type h.dl_type m.nw_tos p g.nw_tos)) refl (fit-unset fits_prefix (λ _. refl) (sets_nw m) (is_ip h.dl_type) r.nw_src m.nw_src h.nw_src (sets_nw_same m.dl_type h.dl_type m.nw_src p g.nw_src)) (fit-unset fits_prefix (λ _. refl) (sets_nw m) (is_ip h.dl_type) r.nw_dst m.nw_dst h.nw_dst (sets_nw_same m.dl_type h.dl_type m.nw_dst p g.nw_dst)) (fit-unset fits (λ _. refl) (sets_tp m) (has_tcp_udp h.dl_type h.nw_proto) r.tp_src m.tp_src h.tp_src (sets_tp_same m.dl_type m.nw_proto h.dl_type h.nw_proto m.tp_src p q g.tp_src g.tp_src_proto)) (fit-unset fits (λ _. refl) (sets_tp m) (has_tcp_udp h.dl_type h.nw_proto) r.tp_dst m.tp_dst h.tp_dst (sets_tp_same m.dl_type m.nw_proto h.dl_type h.nw_proto m.tp_dst p q g.tp_dst g.tp_dst_proto))
 
 pull_end : (r : RewriteOf) (m : MatchOf) (h : HeaderOf) →
     each (fits m.in_port (apply r h).in_port) (fits m.dl_src (apply r h).dl_src) (fits m.dl_dst (apply r h).dl_dst) (fits m.dl_vlan (apply r h).dl_vlan) (fits m.dl_vlan_pcp (apply r h).dl_vlan_pcp) (fits m.dl_type h.dl_type && true) (fits m.nw_tos (apply r h).nw_tos) (fits m.nw_proto h.nw_proto && true) (fits_prefix m.nw_src (apply r h).nw_src) (fits_prefix m.nw_dst (apply r h).nw_dst) (fits m.tp_src (apply r h).tp_src) (fits m.tp_dst (apply r h).tp_dst) ≡ holds m (apply r h)
@@ -89,7 +91,7 @@ nw-known t x m e g = elim (named_same t is_ip x e) [ inl p ↦ inl p | inr p ↦
 and_none : (a b : Bool) → b ≡ false → (a && b) ≡ false
 and_none a b e = rw e (and-false a)
 
-tp-known : {A : Type 0} (t u : Option ℕ) (x y : ℕ) (m : Option A) → fits t x ≡ true → fits u y ≡ true → Guards t m → Guards u m → ((names t is_ip && names u is_tcp_udp) ≡ has_ports x y) ⊎ (((names t is_ip && names u is_tcp_udp) ≡ false) × (m ≡ None))
+tp-known : {A : Type 0} (t u : Option ℕ) (x y : ℕ) (m : Option A) → fits t x ≡ true → fits u y ≡ true → Guards t m → Guards u m → ((names t is_ip && names u is_tcp_udp) ≡ has_tcp_udp x y) ⊎ (((names t is_ip && names u is_tcp_udp) ≡ false) × (m ≡ None))
 tp-known t u x y m e f g k =
     elim (named_same t is_ip x e) [
       | inr p ↦ inr (rw (names-none t is_ip p), guarded t m g p)
@@ -118,6 +120,6 @@ holds-image r m h g e =
       at_h = t.at_h;
       at_i = fit-set_in fits_prefix whole (λ _. refl) (λ x. itself (top_bits 32 x)) (sets_nw m) (is_ip h.dl_type) r.nw_src m.nw_src h.nw_src (nw-known m.dl_type h.dl_type m.nw_src t.at_f g.nw_src) t.at_i;
       at_j = fit-set_in fits_prefix whole (λ _. refl) (λ x. itself (top_bits 32 x)) (sets_nw m) (is_ip h.dl_type) r.nw_dst m.nw_dst h.nw_dst (nw-known m.dl_type h.dl_type m.nw_dst t.at_f g.nw_dst) t.at_j;
-      at_k = fit-set_in fits (λ v. v) (λ _. refl) itself (sets_tp m) (has_ports h.dl_type h.nw_proto) r.tp_src m.tp_src h.tp_src (tp-known m.dl_type m.nw_proto h.dl_type h.nw_proto m.tp_src t.at_f t.at_h g.tp_src g.tp_src_proto) t.at_k;
-      at_l = fit-set_in fits (λ v. v) (λ _. refl) itself (sets_tp m) (has_ports h.dl_type h.nw_proto) r.tp_dst m.tp_dst h.tp_dst (tp-known m.dl_type m.nw_proto h.dl_type h.nw_proto m.tp_dst t.at_f t.at_h g.tp_dst g.tp_dst_proto) t.at_l;
+      at_k = fit-set_in fits (λ v. v) (λ _. refl) itself (sets_tp m) (has_tcp_udp h.dl_type h.nw_proto) r.tp_src m.tp_src h.tp_src (tp-known m.dl_type m.nw_proto h.dl_type h.nw_proto m.tp_src t.at_f t.at_h g.tp_src g.tp_src_proto) t.at_k;
+      at_l = fit-set_in fits (λ v. v) (λ _. refl) itself (sets_tp m) (has_tcp_udp h.dl_type h.nw_proto) r.tp_dst m.tp_dst h.tp_dst (tp-known m.dl_type m.nw_proto h.dl_type h.nw_proto m.tp_dst t.at_f t.at_h g.tp_dst g.tp_dst_proto) t.at_l;
     })

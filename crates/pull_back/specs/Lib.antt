@@ -1,1 +1,3 @@
+pub mod Pulling
 pub mod Pulls
+pub mod Worked

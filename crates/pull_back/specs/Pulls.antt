@@ -5,7 +5,8 @@ use Rattle.of10_match.specs.Matching.{holds}
 use Rattle.of10_match.specs.Normal.{IsNormal}
 use Rattle.of10_match.specs.Ranges.{IsHeader}
 use Rattle.of10_actions.specs.Fields.{RewriteOf}
-use Rattle.of10_actions.specs.Rewriting.{apply, can_pull, pulled, image}
+use Rattle.of10_actions.specs.Rewriting.{apply}
+use Rattle.pull_back.specs.Pulling.{can_pull, pulled, image}
 
 -- a match that holds exactly the headers that m holds once they are rewritten; none where m holds no such header
 abbrev pub IsPullBack : RewriteOf → MatchOf → Option MatchOf → Type 0

@@ -1,15 +1,10 @@
 //! Which fields a rewrite sets, and what it makes of one field of a match.
 ghost use Rattle.std.specs.Prelude.{◌≡◌};
 ghost use Rattle.of10_match.specs.Matching.{fits_by, fits_prefix as fits_prefix_of};
-ghost use Rattle.of10_actions.specs.Rewriting.{is_tcp_udp, names, set_fits as set_fits_of, set_in as set_in_of, sets_nw as sets_nw_of, sets_tp as sets_tp_of, unset as unset_of, whole};
+ghost use Rattle.of10_actions.specs.Rewriting.{is_tcp_udp as is_tcp_udp_of};
+ghost use Rattle.pull_back.specs.Pulling.{names, set_fits as set_fits_of, set_in as set_in_of, sets_nw as sets_nw_of, sets_tp as sets_tp_of, unset as unset_of, whole};
 
-use of10_match::{Match, Prefix};
-
-const IPV4: u16 = 0x0800;
-
-const TCP: u8 = 6;
-
-const UDP: u8 = 17;
+use of10_match::{IPV4, Match, Prefix, TCP, UDP};
 
 /// Whether a rewrite sets nw fields of the headers of a match.
 pub(crate) fn sets_nw(m: &Match) -> bool
@@ -25,11 +20,11 @@ pub(crate) fn sets_nw(m: &Match) -> bool
 pub(crate) fn sets_tp(m: &Match) -> bool
     ensures { result ≡ sets_tp_of m.now }
 {
-    sets_nw(m) && has_ports(m.nw_proto)
+    sets_nw(m) && is_tcp_udp(m.nw_proto)
 }
 
-fn has_ports(nw_proto: Option<u8>) -> bool
-    ensures { result ≡ names nw_proto is_tcp_udp }
+fn is_tcp_udp(nw_proto: Option<u8>) -> bool
+    ensures { result ≡ names nw_proto is_tcp_udp_of }
 {
     match nw_proto {
         Some(nw_proto) => nw_proto == TCP || nw_proto == UDP,

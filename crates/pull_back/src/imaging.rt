@@ -1,7 +1,7 @@
 //! The image of a match under a rewrite.
 ghost use Rattle.std.specs.Prelude.{◌≡◌};
 ghost use Rattle.of10_match.specs.Normal.{IsNormal};
-ghost use Rattle.of10_actions.specs.Rewriting.{image as image_of};
+ghost use Rattle.pull_back.specs.Pulling.{image as image_of};
 ghost use Rattle.pull_back.specs.Pulls.{IsImage};
 
 use crate::fields::{address_in, set_in, sets_nw, sets_tp};

@@ -1,7 +1,7 @@
 //! The pull of a match through a rewrite.
 ghost use Rattle.std.specs.Prelude.{◌≡◌, None, IfSome, IsSome, ◌↔◌};
 ghost use Rattle.of10_match.specs.Normal.{IsNormal};
-ghost use Rattle.of10_actions.specs.Rewriting.{can_pull as can_pull_of, pull as pull_of, pulled as pulled_of};
+ghost use Rattle.pull_back.specs.Pulling.{can_pull as can_pull_of, pull as pull_of, pulled as pulled_of};
 ghost use Rattle.pull_back.specs.Pulls.{IsPullBack, Reaches};
 
 use crate::fields::{address_fits, set_fits, sets_nw, sets_tp, unset};

@@ -4,13 +4,14 @@ use Rattle.std.specs.Prelude.{◌==◌}
 use Rattle.std.specs.Cmp.Lexicographic.{pointwise, pointwise_decides}
 use Rattle.std.proofs.lemmas.Bool.Decides.{Decides-and, Decides-eqb, Decides-like}
 use Rattle.cv_io.specs.contracts.leaf.LeafPartialEq.TheImpl.{ghosts as derived_leaf}
+use Rattle.cv_io.specs.Leaves.{same_leaf}
 use Rattle.cv_io.specs.declared.leaf.Leaf.{Leaf}
 use Rattle.of10_match.specs.Same.{same_match}
 use Rattle.of10_match.proofs.Same.{match_decides}
 use Rattle.of10_actions.specs.contracts.action.ActionPartialEq.TheImpl.{ghosts as derived_action}
 use Rattle.of10_actions.specs.declared.action.Action.{Action}
 use Rattle.of10_actions.specs.declared.action.Action.TheVariants.{Output, SetVlanVid, SetVlanPcp, StripVlan, SetDlSrc, SetDlDst, SetNwSrc, SetNwDst, SetNwTos, SetTpSrc, SetTpDst, Enqueue}
-use Rattle.switch_meaning.specs.Same.{same_action, same_entry, same_leaf}
+use Rattle.switch_meaning.specs.Same.{same_action, same_entry}
 use Rattle.switch_meaning.specs.declared.entry.PhysEntry.{PhysEntry}
 use Rattle.switch_meaning.proofs.Items.{split_and}
 
@@ -46,7 +47,7 @@ action-self (Enqueue p n) = (Decides-and (p == p) (n == n) (Decides-eqb p p) (De
 action_decides : (a b : Action) → Decides (same_action a b) (a ≡ b)
 action_decides a b = (action-is a b, λ e. ap (same_action a) (sym e) ∙ action-self a)
 
-leaf_decides : (a b : Leaf) → Decides (same_leaf a b) (a ≡ b)
+pub leaf_decides : (a b : Leaf) → Decides (same_leaf a b) (a ≡ b)
 leaf_decides a b =
     Decides-like (same_leaf a b) (λ t. λ i. record { member = t.0 i; kind = t.1 i }) (λ e. (ap (λ (z : Leaf). z.member) e, ap (λ (z : Leaf). z.kind) e))
     (Decides-and (a.member == b.member) (a.kind == b.kind) (Decides-eqb a.member b.member) (Decides-eqb a.kind b.kind))

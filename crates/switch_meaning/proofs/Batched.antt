@@ -12,7 +12,7 @@ use Rattle.of10_match.proofs.Same.{match_decides}
 use Rattle.switch_meaning.specs.BatchLaw.{BatchGivesTable, FreshGivesTable, HasOneAKey, IsTableOf, OrderIsFree}
 use Rattle.switch_meaning.specs.Batches.{adding, by_key, deleting, difference, key_cmp, missing, put_by_key}
 use Rattle.switch_meaning.specs.Keys.{flow_of, same_key}
-use Rattle.switch_meaning.specs.MayUse.{IsIn, IsTop, here, priority_of, rank_of, there}
+use Rattle.switch_meaning.specs.MayUse.{IsTop, priority_of, rank_of}
 use Rattle.switch_meaning.specs.Same.{same_entry}
 use Rattle.switch_meaning.specs.Tables.{has_key, put_in, table_after, table_after_all, takes_out}
 use Rattle.switch_meaning.specs.declared.entry.Change.{Change}
@@ -22,7 +22,7 @@ use Rattle.switch_meaning.specs.declared.entry.PhysEntry.{PhysEntry}
 use Rattle.switch_meaning.proofs.Alike.{entry_decides}
 use Rattle.switch_meaning.proofs.Gate.{not_true}
 use Rattle.switch_meaning.proofs.Items.{all-in-map}
-use Rattle.switch_meaning.proofs.Members.{Comes, all-in, all-permuted, any-passes, filter-in, in-all, in-either, in-filter, in-left, in-map, in-one, in-permuted, in-right, distinct-filter, map-in, one-alike, passes-any, same-items}
+use Rattle.switch_meaning.proofs.Members.{Comes, IsIn, all-in, all-permuted, any-passes, filter-in, from-place, here, in-all, in-either, in-filter, in-left, in-map, in-one, in-permuted, in-right, distinct-filter, map-in, one-alike, passes-any, place, same-items, there}
 
 -- entries with one key
 abbrev same_flow : FlowEntry → FlowEntry → Bool
@@ -293,7 +293,7 @@ fresh-gives-table after one table adds second =
 
 pub order-is-free : OrderIsFree
 order-is-free table other p h None may = all-permuted _ table other p may
-order-is-free table other p h (Some e) may = record { stands = in-permuted table other e p may.stands; holds_it = may.holds_it; highest = by may.highest }
+order-is-free table other p h (Some e) may = record { stands = place e other (in-permuted table other e p (from-place e table may.stands)); holds_it = may.holds_it; highest = by may.highest }
   where
     by : IsTop rank_of table h e ⊎ IsTop priority_of table h e → IsTop rank_of other h e ⊎ IsTop priority_of other h e
     by (inl top) = inl (all-permuted _ table other p top)

@@ -4,17 +4,18 @@ use Rattle.std.specs.Prelude.{◌==◌, not, if◌then◌else◌, filter}
 use Rattle.std.specs.List.{AllByRecursion, list_any}
 use Rattle.std.specs.Ordering.{is_lt}
 use Rattle.of10_match.specs.Fields.{HeaderOf, MatchOf}
-use Rattle.of10_match.specs.Matching.{holds}
+use Rattle.of10_match.specs.Matching.{holds, is_one_header}
 use Rattle.switch_meaning.specs.BestLaw.{BestIsUsed, IsBest, IsBestEntry, IsGated, first, later}
-use Rattle.switch_meaning.specs.Keys.{ancestry_cmp, displaces, flow_of, one_per_key, same_key}
-use Rattle.switch_meaning.specs.MayUse.{IsIn, IsTop, IsUsable, MayUse, here, there, is_exact, priority_of, rank_of}
+use Rattle.cv_io.specs.Leaves.{ancestry_cmp}
+use Rattle.switch_meaning.specs.Keys.{displaces, flow_of, one_per_key, same_key}
+use Rattle.switch_meaning.specs.MayUse.{IsTop, IsUsable, MayUse, priority_of, rank_of}
 use Rattle.of10_match.specs.Same.{same_match}
 use Rattle.switch_meaning.specs.declared.entry.FlowEntry.{FlowEntry}
 use Rattle.switch_meaning.specs.declared.entry.PhysEntry.{PhysEntry}
 use Rattle.of10_match.proofs.Same.{match_decides}
 use Rattle.switch_meaning.proofs.Equal.{ancestry_cmp-self}
 use Rattle.switch_meaning.proofs.Items.{all-filter, all-in-map, fails, split_and}
-use Rattle.switch_meaning.proofs.Members.{in-all}
+use Rattle.switch_meaning.proofs.Members.{IsIn, from-place, here, in-all, there}
 
 -- the best item passes the test
 pub best-passes : {A : Type 0} {passes : A → Bool} {by : A → ℕ} {xs : List A} {x : A} → IsBest passes by xs x → passes x ≡ true
@@ -98,21 +99,21 @@ module _ (h : HeaderOf) where
   -- what is known of each entry of the table, where the best has this priority
   pub record Gated (n : ℕ) (e : FlowEntry) : Type 0 where
     pub priority : e.priority < 2 ^ 16
-    pub exact : is_exact e.m ≡ true → holds e.m h ≡ true → n ≤ e.priority
+    pub exact : is_one_header e.m ≡ true → holds e.m h ≡ true → n ≤ e.priority
 
   gated-map : (es : List PhysEntry) (b : PhysEntry) → IsBestEntry h es b → (xs : List PhysEntry) → AllByRecursion (IsGated h es) xs → AllByRecursion (Gated b.priority) (map flow_of xs)
   gated-map es b best [] a = tt
   gated-map es b best (x ∷ xs) a =
       (record { priority = a.0.priority; exact = λ t p. best-at (λ (d : PhysEntry). holds d.m h ≡ true → d.priority ≤ x.priority) best (a.0.exact t p) (best-passes best) }, gated-map es b best xs a.1)
 
-  by_rank : (b e : FlowEntry) → holds e.m h ≡ true → Gated b.priority e → e.priority < b.priority → (x y : Bool) → is_exact e.m ≡ x → (if y then 65536 else b.priority) ≤ (if x then 65536 else e.priority) → ⊥
+  by_rank : (b e : FlowEntry) → holds e.m h ≡ true → Gated b.priority e → e.priority < b.priority → (x y : Bool) → is_one_header e.m ≡ x → (if y then 65536 else b.priority) ≤ (if x then 65536 else e.priority) → ⊥
   by_rank b e p g lt true y t le = let n : b.priority ≤ e.priority = g.exact t p in omega arith
   by_rank b e p g lt false true t le = let n : e.priority < 2 ^ 16 = g.priority in omega arith
   by_rank b e p g lt false false t le = omega arith
 
   lower-used : {table : List FlowEntry} {b e : FlowEntry} → IsBestFlow table b → Gated b.priority e → IsUsable table h e → e.priority < b.priority → (IsTop rank_of table h e ⊎ IsTop priority_of table h e) → ⊥
   lower-used {b = b} {e = e} best g u lt (inl top) =
-      by_rank b e u.holds_it g lt (is_exact e.m) (is_exact b.m) refl (best-at (λ (d : FlowEntry). holds d.m h ≡ true → rank_of d ≤ rank_of e) best top (best-passes best))
+      by_rank b e u.holds_it g lt (is_one_header e.m) (is_one_header b.m) refl (best-at (λ (d : FlowEntry). holds d.m h ≡ true → rank_of d ≤ rank_of e) best top (best-passes best))
   lower-used {b = b} {e = e} best g u lt (inr top) =
       let le : b.priority ≤ e.priority = best-at (λ (d : FlowEntry). holds d.m h ≡ true → d.priority ≤ e.priority) best top (best-passes best) in omega arith
 
@@ -122,7 +123,7 @@ module _ (h : HeaderOf) where
 
   best-used : {table : List FlowEntry} {b : FlowEntry} → IsBestFlow table b → AllByRecursion (Gated b.priority) table → (used : Option FlowEntry) → MayUse table h used → used ≡ Some b
   best-used best g None none = let p = best-passes best in let q = best-at (λ (d : FlowEntry). holds d.m h ≡ false) best none in cc
-  best-used {b = b} best g (Some e) u = same-used best (in-all (Gated b.priority) u.stands g) u (in-best u.stands best u.holds_it)
+  best-used {table = table} {b = b} best g (Some e) u = let i = from-place e table u.stands in same-used best (in-all (Gated b.priority) i g) u (in-best i best u.holds_it)
 
 -- the law
 pub best-is-used : BestIsUsed

@@ -12,16 +12,15 @@ use Rattle.cv_io.specs.declared.leaf.Leaf.{Leaf}
 use Rattle.of10_match.proofs.ByteOrder.{by_bytes_total}
 use Rattle.switch_meaning.specs.BatchLaw.{HasNoTwins, HasOneAKey, InstalledHasOneAKey, SortedByKey}
 use Rattle.switch_meaning.specs.Batches.{by_key, key_cmp, put_by_key}
-use Rattle.switch_meaning.specs.Keys.{ancestry_cmp, displaces, leaf_cmp, one_per_key, passes_over, same_key}
-use Rattle.switch_meaning.specs.MayUse.{IsIn}
-use Rattle.switch_meaning.specs.Same.{same_leaf}
+use Rattle.cv_io.specs.Leaves.{ancestry_cmp, leaf_cmp, same_leaf}
+use Rattle.switch_meaning.specs.Keys.{displaces, one_per_key, passes_over, same_key}
 use Rattle.switch_meaning.specs.declared.entry.PhysEntry.{PhysEntry}
 use Rattle.switch_meaning.proofs.Batched.{by_key-permutes, key-flips}
 use Rattle.switch_meaning.proofs.Gate.{not_true}
 use Rattle.switch_meaning.proofs.Items.{fails, join_and}
-use Rattle.switch_meaning.proofs.Members.{distinct-filter, distinct-narrower, filter-in, passes-any}
+use Rattle.switch_meaning.proofs.Members.{IsIn, distinct-filter, distinct-narrower, filter-in, passes-any}
 
-key_total : IsTotalOrder key_cmp
+pub key_total : IsTotalOrder key_cmp
 key_total = then_total (on_total (λ (e : PhysEntry). e.priority) nat_cmp_total) (on_total (λ (e : PhysEntry). e.m) by_bytes_total)
 
 -- the entry does not come after the first of the list

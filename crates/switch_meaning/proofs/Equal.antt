@@ -4,7 +4,7 @@ use Rattle.std.specs.Cmp.{nat_cmp_is}
 use Rattle.std.specs.Ordering.{nat_cmp}
 use Rattle.std.specs.declared.cmp.Ordering.TheVariants.{Equal}
 use Rattle.cv_io.specs.declared.leaf.Leaf.{Leaf}
-use Rattle.switch_meaning.specs.Keys.{ancestry_cmp, leaf_cmp}
+use Rattle.cv_io.specs.Leaves.{ancestry_cmp, leaf_cmp}
 
 nat_cmp-self : (n : ℕ) → nat_cmp n n ≡ Equal
 nat_cmp-self n = sym (nat_cmp_is n n Equal refl)

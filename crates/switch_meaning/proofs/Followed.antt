@@ -14,7 +14,7 @@ use Rattle.switch_meaning.specs.declared.fired.Fired.{Fired}
 use Rattle.switch_meaning.specs.declared.fired.Seen.{Seen}
 use Rattle.switch_meaning.specs.declared.fired.Sent.{Sent}
 use Rattle.switch_meaning.specs.declared.wiring.Wiring.{Wiring}
-use Rattle.switch_meaning.proofs.Members.{in-all}
+use Rattle.switch_meaning.proofs.Members.{from-place, in-all}
 
 pub both_seen-groups : (a b c : Seen) → both_seen (both_seen a b) c ≡ both_seen a (both_seen b c)
 both_seen-groups a b c = λ i. record { outs = (append_assoc a.outs b.outs c.outs) i; copies = (append_assoc a.copies b.copies c.copies) i }
@@ -57,4 +57,4 @@ taken_up w choice turns way switch h old copied seen fired outs sent ne is made 
 
 -- the actions of an entry that a switch may use
 pub used-in_range : (table : List FlowEntry) (h : HeaderOf) (e : FlowEntry) → IsTableInRange table → MayUse table h (Some e) → AreInRange e.actions
-used-in_range table h e in_range may = in-all (λ (e : FlowEntry). AreInRange e.actions) may.stands (recursion_from_All (λ (e : FlowEntry). AreInRange e.actions) table in_range)
+used-in_range table h e in_range may = in-all (λ (e : FlowEntry). AreInRange e.actions) (from-place e table may.stands) (recursion_from_All (λ (e : FlowEntry). AreInRange e.actions) table in_range)

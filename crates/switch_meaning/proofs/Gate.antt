@@ -4,14 +4,13 @@ use Rattle.std.specs.Prelude.{◌==◌, ◌-◌, nat_lt, not, filter, is_some, i
 use Rattle.std.specs.List.{AllByRecursion, list_any}
 use Rattle.std.proofs.lemmas.Bool.{ltb-true, ltb-false}
 use Rattle.of10_match.specs.Fields.{HeaderOf, MatchOf}
-use Rattle.of10_match.specs.Matching.{asks, asks_prefix, covers, fits, is_longer, fits_prefix, holds, top_bits}
+use Rattle.of10_match.specs.Matching.{asks, asks_prefix, covers, fits, fits_prefix, holds, is_address, is_longer, is_one_header, top_bits}
 use Rattle.of10_match.specs.declared.header.Prefix.{Prefix}
 use Rattle.of10_match.proofs.Asking.{fits-asks, fits_prefix-asks}
 use Rattle.of10_match.proofs.FieldTests.{covers-fields, covers-intro, holds-fields, holds-intro}
 use Rattle.of10_match.proofs.Twelve.{each-fields}
 use Rattle.switch_meaning.specs.BestLaw.{BestIsInstalled, IsBestEntry, IsGated, first, later}
 use Rattle.switch_meaning.specs.Keys.{passes_over, passing}
-use Rattle.switch_meaning.specs.MayUse.{is_address, is_exact}
 use Rattle.switch_meaning.specs.declared.entry.PhysEntry.{PhysEntry}
 use Rattle.switch_meaning.proofs.BestUsed.{best-filter, best-is-used, best-passes, or_false}
 use Rattle.switch_meaning.proofs.Items.{all-filter, all-map, fails, join_and, split_and}
@@ -39,7 +38,7 @@ asks_prefix-named (Some p) (Some q) v n f e =
     asks-address p q v (eqb-true q.len 32 n) (eqb-true (top_bits q.len q.addr) (top_bits q.len v) f) (eqb-true (top_bits p.len p.addr) (top_bits p.len v) e)
 
 -- what holds the one header of an exact match covers it
-exact-covers : (m n : MatchOf) (h : HeaderOf) → is_exact n ≡ true → holds n h ≡ true → holds m h ≡ true → covers m n ≡ true
+exact-covers : (m n : MatchOf) (h : HeaderOf) → is_one_header n ≡ true → holds n h ≡ true → holds m h ≡ true → covers m n ≡ true
 exact-covers m n h x p q =
     let t = each-fields (is_some n.in_port) (is_some n.dl_src) (is_some n.dl_dst) (is_some n.dl_vlan) (is_some n.dl_vlan_pcp) (is_some n.dl_type) (is_some n.nw_tos) (is_some n.nw_proto) (is_address n.nw_src) (is_address n.nw_dst) (is_some n.tp_src) (is_some n.tp_dst) x in
     let f = holds-fields n h p in
@@ -109,7 +108,7 @@ module _ (h : HeaderOf) where
   lower-passes : (d b : PhysEntry) → holds b.m h ≡ true → (holds d.m h ≡ true → d.priority < b.priority) → passes_over d b ≡ false
   lower-passes d b p low =
       fails (passes_over d b) (λ e.
-      let s = split_and (is_exact b.m) (nat_lt b.priority d.priority && covers d.m b.m) e in
+      let s = split_and (is_one_header b.m) (nat_lt b.priority d.priority && covers d.m b.m) e in
       let t = split_and (nat_lt b.priority d.priority) (covers d.m b.m) s.1 in
       let up : b.priority < d.priority = ltb-true b.priority d.priority t.0 in
       let down : d.priority < b.priority = low (covers-holds d.m b.m h t.1 p) in
@@ -118,7 +117,7 @@ module _ (h : HeaderOf) where
   self-passes : (b : PhysEntry) → passes_over b b ≡ false
   self-passes b =
       fails (passes_over b b) (λ e.
-      let s = split_and (is_exact b.m) (nat_lt b.priority b.priority && covers b.m b.m) e in
+      let s = split_and (is_one_header b.m) (nat_lt b.priority b.priority && covers b.m b.m) e in
       let t = split_and (nat_lt b.priority b.priority) (covers b.m b.m) s.1 in
       let up : b.priority < b.priority = ltb-true b.priority b.priority t.0 in
       omega arith)
@@ -134,10 +133,10 @@ module _ (h : HeaderOf) where
       or_false (passes_over d b) (list_any (λ (d : PhysEntry). passes_over d b) es) (lower-passes d b (best-passes best) lt) (best-passing best)
 
   -- what does not pass an exact entry over is not above it
-  not-above : (d e : PhysEntry) → is_exact e.m ≡ true → holds e.m h ≡ true → passes_over d e ≡ false → holds d.m h ≡ true → d.priority ≤ e.priority
+  not-above : (d e : PhysEntry) → is_one_header e.m ≡ true → holds e.m h ≡ true → passes_over d e ≡ false → holds d.m h ≡ true → d.priority ≤ e.priority
   not-above d e x p n q =
       ltb-false e.priority d.priority (fails (nat_lt e.priority d.priority) (λ t.
-      let over : passes_over d e ≡ true = join_and (is_exact e.m) (nat_lt e.priority d.priority && covers d.m e.m) x (join_and (nat_lt e.priority d.priority) (covers d.m e.m) t (exact-covers d.m e.m h x p q)) in cc))
+      let over : passes_over d e ≡ true = join_and (is_one_header e.m) (nat_lt e.priority d.priority && covers d.m e.m) x (join_and (nat_lt e.priority d.priority) (covers d.m e.m) t (exact-covers d.m e.m h x p q)) in cc))
 
   passes-gated : (es : List PhysEntry) (e : PhysEntry) → not (list_any (λ (d : PhysEntry). passes_over d e) es) ≡ true → e.priority < 2 ^ 16 → IsGated h (passing es) e
   passes-gated es e keeps lt = record {

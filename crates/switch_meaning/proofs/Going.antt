@@ -5,14 +5,14 @@ use Rattle.std.specs.List.{AllByRecursion, cons_option}
 use Rattle.std.specs.Option.{option_and_then}
 use Rattle.std.proofs.Common.{inl, inr}
 use Rattle.of10_match.specs.Fields.{HeaderOf}
-use Rattle.of10_match.specs.declared.normal.TheConstants.{UNTAGGED}
+use Rattle.of10_match.specs.Numbers.{UNTAGGED}
 use Rattle.of10_actions.specs.Fields.{RewriteOf}
 use Rattle.of10_actions.specs.Rewriting.{apply, and_then, no_rewrite, Extends}
 use Rattle.of10_actions.specs.Effects.{EachExtends}
 use Rattle.of10_actions.specs.declared.action.Action.{Action}
 use Rattle.of10_actions.specs.declared.action.Action.TheVariants.{Output, SetVlanVid, StripVlan}
 use Rattle.of10_actions.specs.declared.effects.Out.{Out}
-use Rattle.of10_actions.specs.declared.port.TheConstants.{IN_PORT, CONTROLLER}
+use Rattle.of10_actions.specs.Numbers.{IN_PORT, CONTROLLER}
 use Rattle.of10_actions.proofs.Extending.{extends-onward, and_then-absorbs}
 use Rattle.switch_meaning.specs.Firing.{both_fired, copied, fire, sent, unsent}
 use Rattle.switch_meaning.specs.Placing.{going, retag, way_of, actions_from, actions_of, tells}

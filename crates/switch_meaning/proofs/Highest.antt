@@ -5,7 +5,8 @@ use Rattle.std.specs.List.{AllByRecursion}
 use Rattle.of10_match.specs.Fields.{HeaderOf}
 use Rattle.of10_match.specs.Matching.{holds}
 use Rattle.switch_meaning.specs.Choosing.{better, height_of, highest, is_above}
-use Rattle.switch_meaning.specs.MayUse.{IsIn, IsTop, MayUse, here, priority_of, rank_of, there}
+use Rattle.switch_meaning.specs.MayUse.{IsTop, MayUse, priority_of, rank_of}
+use Rattle.switch_meaning.proofs.Members.{IsIn, here, place, there}
 use Rattle.switch_meaning.specs.declared.entry.FlowEntry.{FlowEntry}
 use Rattle.switch_meaning.specs.declared.choosing.Reading.{Reading}
 use Rattle.switch_meaning.specs.declared.choosing.Reading.TheVariants.{ExactFirst, PriorityAlone}
@@ -84,7 +85,7 @@ stands_in h table e (inr p) = p
 
 may : (reading : Reading) (table : List FlowEntry) (h : HeaderOf) (r : Option FlowEntry) → Found reading h None table r → MayUse table h r
 may reading table h None f = f.1
-may reading table h (Some e) f = let s = stands_in h table e f.from in record { stands = s.0; holds_it = s.1; highest = by_reading reading table h e f.top }
+may reading table h (Some e) f = let s = stands_in h table e f.from in record { stands = place e table s.0; holds_it = s.1; highest = by_reading reading table h e f.top }
 
 -- so there is always something that a switch may use
 pub highest-may : (reading : Reading) (table : List FlowEntry) (h : HeaderOf) → MayUse table h (highest reading table h)

@@ -1,12 +1,16 @@
 -- What stands in a list.
-use Rattle.std.proofs.Common.{◌≡◌, ◌<◌, ◌⊎◌, inl, inr, Bool, true, false, ◌||◌, List, [], ◌∷◌, ◌++◌, length, refl, sym, subst, map, arith}
+use Rattle.std.proofs.Common.{◌≡◌, ℕ, zero, ◌<◌, ◌⊎◌, inl, inr, Bool, true, false, ◌||◌, List, [], ◌∷◌, ◌++◌, length, refl, sym, subst, map, arith}
 use Rattle.std.specs.Prelude.{filter, if◌then◌else◌, IsPermutation, suc}
-use Rattle.std.specs.List.{AllByRecursion, IsDistinct, list_any, Contains, remove}
+use Rattle.std.specs.List.{AllByRecursion, IsDistinct, list_any, Contains, remove, slice_index_or}
 use Rattle.std.proofs.lemmas.List.Elements.{recursion_from_All, All-from_recursion}
 use Rattle.std.proofs.lemmas.List.Sorted.{All-permutation, IsPermutation-cons, IsPermutation-refl, IsPermutation-remove, IsPermutation-sym, IsPermutation-trans}
 use Rattle.std.proofs.lemmas.Map.Keys.{IsDistinct-IsPermutation}
-use Rattle.switch_meaning.specs.MayUse.{IsIn, here, there}
 use Rattle.switch_meaning.proofs.Items.{all-filter}
+
+-- the item stands in the list
+pub data IsIn {A : Type 0} (x : A) : List A → Type 0 where
+  here : {xs : List A} → IsIn x (x ∷ xs)
+  there : {y : A} {xs : List A} → IsIn x xs → IsIn x (y ∷ xs)
 
 either-true : (a b : Bool) → (a || b) ≡ true → (a ≡ true) ⊎ (b ≡ true)
 either-true true b e = inl refl
@@ -112,10 +116,18 @@ module _ {A : Type 0} where
   passes-any p (here {xs = xs}) e = or-left (p _) (list_any p xs) e
   passes-any p (there {y = y} {xs = xs} i) e = or-right (p y) (list_any p xs) (passes-any p i e)
 
-  place : (x : A) (xs : List A) → IsIn x xs → Contains xs x
+  pub place : (x : A) (xs : List A) → IsIn x xs → Contains xs x
   place x [] i = no-items i
   place x (y ∷ xs) here = (0, omega arith, refl)
   place x (y ∷ xs) (there i) = let c = place x xs i in let lt : c.0 < length xs = c.1 in (suc c.0, omega arith, c.2)
+
+  at-place : (x : A) (xs : List A) (k : ℕ) → k < length xs → slice_index_or xs k x ≡ x → IsIn x xs
+  at-place x [] k lt e = absurd (omega arith)
+  at-place x (y ∷ xs) zero lt e = subst (λ (z : A). IsIn x (z ∷ xs)) (sym e) here
+  at-place x (y ∷ xs) (suc k) lt e = there (at-place x xs k (omega arith) e)
+
+  pub from-place : (x : A) (xs : List A) → Contains xs x → IsIn x xs
+  from-place x xs c = at-place x xs c.0 c.1 c.2
 
   module _ (E : A → A → Bool) (itself : (x : A) → E x x ≡ true) (flips : (x y : A) → E x y ≡ E y x) where
     apart-here : (x : A) (xs : List A) → IsIn x xs → AllByRecursion (λ (y : A). E x y ≡ false) xs → ⊥

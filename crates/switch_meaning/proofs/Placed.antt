@@ -11,7 +11,7 @@ use Rattle.of10_actions.specs.declared.action.Action.{Action}
 use Rattle.of10_actions.specs.declared.effects.Dest.{Dest}
 use Rattle.of10_actions.specs.declared.effects.Dest.TheVariants.{Port, Flood, Ingress, Tell}
 use Rattle.of10_actions.specs.declared.effects.Out.{Out}
-use Rattle.of10_actions.specs.declared.port.TheConstants.{IN_PORT, CONTROLLER, MAX}
+use Rattle.of10_actions.specs.Numbers.{IN_PORT, CONTROLLER, MAX}
 use Rattle.switch_meaning.specs.Firing.{fire}
 use Rattle.switch_meaning.specs.FiringLaw.{FiringGivesOuts, IsSoundWiring, StaysOn, said, sent_at, leaves_by, speaking}
 use Rattle.switch_meaning.specs.Placing.{actions_of, entry_of, ingress_of, is_silent, is_telling, match_written, entry_with, outs_written, tells, way_of, way_to, written_port}

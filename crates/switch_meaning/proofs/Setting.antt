@@ -3,7 +3,7 @@ use Rattle.std.proofs.Common.{◌≡◌, ℕ, Bool, true, false, Option, Some, N
 use Rattle.std.specs.Prelude.{◌==◌, if◌then◌else◌, option_map}
 use Rattle.of10_match.specs.Fields.{HeaderOf}
 use Rattle.of10_actions.specs.Fields.{RewriteOf}
-use Rattle.of10_actions.specs.Rewriting.{apply, set_to, is_ip, has_ports, no_rewrite, Covers, Extends}
+use Rattle.of10_actions.specs.Rewriting.{apply, set_to, is_ip, has_tcp_udp, no_rewrite, IsSetToo, Extends}
 use Rattle.of10_actions.specs.declared.action.Action.{Action}
 use Rattle.of10_actions.specs.declared.action.Action.TheVariants.{SetDlSrc, SetDlDst, SetNwSrc, SetNwDst, SetNwTos, SetTpSrc, SetTpDst}
 use Rattle.switch_meaning.specs.Firing.{fire}
@@ -18,7 +18,7 @@ set-twice false None v x e = refl
 set-twice false (Some w) v x e = refl
 
 -- a field that is set twice
-set-over : (b : Bool) (now want : Option ℕ) (x : ℕ) → Covers want now → set_to b want (set_to b now x) ≡ set_to b want x
+set-over : (b : Bool) (now want : Option ℕ) (x : ℕ) → IsSetToo want now → set_to b want (set_to b now x) ≡ set_to b want x
 set-over b None want x c = refl
 set-over b (Some v) None x c = absurd c
 set-over true (Some v) (Some w) x c = refl
@@ -57,14 +57,14 @@ fire-sets now want acts h c =
     ∙ (fire-set_unless SetNwSrc (λ o. record no_rewrite { nw_src = o }) (λ _ _. refl) (λ _ _ _. refl) (λ _. refl) now.nw_src want.nw_src a4 h2 (λ v e. λ i. record h2 { nw_src = set-twice (is_ip h.dl_type) now.nw_src v h.nw_src e i })
     ∙ (fire-set_unless SetNwDst (λ o. record no_rewrite { nw_dst = o }) (λ _ _. refl) (λ _ _ _. refl) (λ _. refl) now.nw_dst want.nw_dst a5 h3 (λ v e. λ i. record h3 { nw_dst = set-twice (is_ip h.dl_type) now.nw_dst v h.nw_dst e i })
     ∙ (fire-set_unless SetNwTos (λ o. record no_rewrite { nw_tos = o }) (λ _ _. refl) (λ _ _ _. refl) (λ _. refl) now.nw_tos want.nw_tos a6 h4 (λ v e. λ i. record h4 { nw_tos = set-twice (is_ip h.dl_type) now.nw_tos v h.nw_tos e i })
-    ∙ (fire-set_unless SetTpSrc (λ o. record no_rewrite { tp_src = o }) (λ _ _. refl) (λ _ _ _. refl) (λ _. refl) now.tp_src want.tp_src a7 h5 (λ v e. λ i. record h5 { tp_src = set-twice (has_ports h.dl_type h.nw_proto) now.tp_src v h.tp_src e i })
-    ∙ (fire-set_unless SetTpDst (λ o. record no_rewrite { tp_dst = o }) (λ _ _. refl) (λ _ _ _. refl) (λ _. refl) now.tp_dst want.tp_dst acts h6 (λ v e. λ i. record h6 { tp_dst = set-twice (has_ports h.dl_type h.nw_proto) now.tp_dst v h.tp_dst e i })
+    ∙ (fire-set_unless SetTpSrc (λ o. record no_rewrite { tp_src = o }) (λ _ _. refl) (λ _ _ _. refl) (λ _. refl) now.tp_src want.tp_src a7 h5 (λ v e. λ i. record h5 { tp_src = set-twice (has_tcp_udp h.dl_type h.nw_proto) now.tp_src v h.tp_src e i })
+    ∙ (fire-set_unless SetTpDst (λ o. record no_rewrite { tp_dst = o }) (λ _ _. refl) (λ _ _ _. refl) (λ _. refl) now.tp_dst want.tp_dst acts h6 (λ v e. λ i. record h6 { tp_dst = set-twice (has_tcp_udp h.dl_type h.nw_proto) now.tp_dst v h.tp_dst e i })
     ∙ ap (λ (k : HeaderOf). fire acts k) (λ i. record h {
       dl_src = set-over true now.dl_src want.dl_src h.dl_src c.dl_src i;
       dl_dst = set-over true now.dl_dst want.dl_dst h.dl_dst c.dl_dst i;
       nw_src = set-over (is_ip h.dl_type) now.nw_src want.nw_src h.nw_src c.nw_src i;
       nw_dst = set-over (is_ip h.dl_type) now.nw_dst want.nw_dst h.nw_dst c.nw_dst i;
       nw_tos = set-over (is_ip h.dl_type) now.nw_tos want.nw_tos h.nw_tos c.nw_tos i;
-      tp_src = set-over (has_ports h.dl_type h.nw_proto) now.tp_src want.tp_src h.tp_src c.tp_src i;
-      tp_dst = set-over (has_ports h.dl_type h.nw_proto) now.tp_dst want.tp_dst h.tp_dst c.tp_dst i;
+      tp_src = set-over (has_tcp_udp h.dl_type h.nw_proto) now.tp_src want.tp_src h.tp_src c.tp_src i;
+      tp_dst = set-over (has_tcp_udp h.dl_type h.nw_proto) now.tp_dst want.tp_dst h.tp_dst c.tp_dst i;
     }))))))))

@@ -7,7 +7,7 @@ use Rattle.of10_match.specs.Matching.{everything}
 use Rattle.switch_meaning.specs.Batches.{adding, by_key, deleting, difference, key_cmp}
 use Rattle.switch_meaning.specs.Keys.{flow_of, installed, same_key}
 use Rattle.switch_meaning.specs.MayUse.{MayUse}
-use Rattle.switch_meaning.specs.Same.{same_leaf}
+use Rattle.cv_io.specs.Leaves.{same_leaf}
 use Rattle.switch_meaning.specs.Tables.{table_after, table_after_all}
 use Rattle.switch_meaning.specs.declared.entry.Change.{Change}
 use Rattle.switch_meaning.specs.declared.entry.Change.TheVariants.{Delete}

@@ -2,9 +2,9 @@
 use Rattle.std.specs.Prelude.{◌≡◌, ℕ, ◌<◌, ◌≤◌, ◌^◌, Bool, true, Option, Some, List, ◌∷◌, map}
 use Rattle.std.specs.List.{AllByRecursion}
 use Rattle.of10_match.specs.Fields.{HeaderOf}
-use Rattle.of10_match.specs.Matching.{holds}
+use Rattle.of10_match.specs.Matching.{holds, is_one_header}
 use Rattle.switch_meaning.specs.Keys.{flow_of, installed, one_per_key}
-use Rattle.switch_meaning.specs.MayUse.{MayUse, is_exact}
+use Rattle.switch_meaning.specs.MayUse.{MayUse}
 use Rattle.switch_meaning.specs.declared.entry.FlowEntry.{FlowEntry}
 use Rattle.switch_meaning.specs.declared.entry.PhysEntry.{PhysEntry}
 
@@ -25,7 +25,7 @@ IsNotPassed h entries e = AllByRecursion (λ (d : PhysEntry). holds d.m h ≡ tr
 -- this is so where no entry names all twelve
 pub record IsGated (h : HeaderOf) (entries : List PhysEntry) (e : PhysEntry) : Type 0 where
   pub priority : e.priority < 2 ^ 16
-  pub exact : is_exact e.m ≡ true → holds e.m h ≡ true → IsNotPassed h entries e
+  pub exact : is_one_header e.m ≡ true → holds e.m h ≡ true → IsNotPassed h entries e
 
 -- of a table that has one entry for each key, with the smallest ancestry, both readings of rank give the best entry
 abbrev pub BestIsUsed : Type 0

@@ -1,12 +1,12 @@
 -- What a switch makes of a packet with the actions of an entry.
 use Rattle.std.specs.Prelude.{ℕ, ◌==◌, Option, Some, None, if◌then◌else◌, List, [], ◌∷◌, ◌++◌}
 use Rattle.of10_match.specs.Fields.{HeaderOf}
-use Rattle.of10_match.specs.declared.normal.TheConstants.{UNTAGGED}
+use Rattle.of10_match.specs.Numbers.{UNTAGGED}
 use Rattle.of10_actions.specs.Rewriting.{apply}
 use Rattle.of10_actions.specs.Effects.{set_by}
 use Rattle.of10_actions.specs.declared.action.Action.{Action}
 use Rattle.of10_actions.specs.declared.action.Action.TheVariants.{Output, SetVlanVid, SetVlanPcp, StripVlan, Enqueue}
-use Rattle.of10_actions.specs.declared.port.TheConstants.{IN_PORT, CONTROLLER}
+use Rattle.of10_actions.specs.Numbers.{IN_PORT, CONTROLLER}
 use Rattle.switch_meaning.specs.declared.entry.FlowEntry.{FlowEntry}
 use Rattle.switch_meaning.specs.declared.fired.Fired.{Fired}
 

@@ -8,7 +8,7 @@ use Rattle.of10_actions.specs.Effects.{EachExtends}
 use Rattle.of10_actions.specs.declared.effects.Dest.{Dest}
 use Rattle.of10_actions.specs.declared.effects.Dest.TheVariants.{Port, Flood, Ingress, Tell}
 use Rattle.of10_actions.specs.declared.effects.Out.{Out}
-use Rattle.of10_actions.specs.declared.port.TheConstants.{MAX}
+use Rattle.of10_actions.specs.Numbers.{MAX}
 use Rattle.switch_meaning.specs.Firing.{fire}
 use Rattle.switch_meaning.specs.Placing.{entry_of, is_silent, tells}
 use Rattle.switch_meaning.specs.Wirings.{outside_at}

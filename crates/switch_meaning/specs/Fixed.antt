@@ -2,8 +2,7 @@
 use Rattle.std.specs.Prelude.{ℕ, zero, suc, ◌<◌, All, IfSome, Bool, ◌==◌, ◌&&◌, not, Option, Some, if◌then◌else◌, List, [], ◌∷◌, ◌++◌, map, filter, flat_map, option_to_list, is_some, length}
 use Rattle.std.specs.List.{list_any}
 use Rattle.std.specs.Option.{option_and_then}
-use Rattle.of10_match.specs.Fields.{MatchOf}
-use Rattle.of10_match.specs.Matching.{everything}
+use Rattle.of10_match.specs.Matching.{at_port}
 use Rattle.of10_actions.specs.declared.action.Action.{Action}
 use Rattle.of10_actions.specs.declared.action.Action.TheVariants.{Output, StripVlan}
 use Rattle.switch_meaning.specs.Wirings.{same_spot, next_hop, far_end}
@@ -16,10 +15,6 @@ use Rattle.switch_meaning.specs.declared.wiring.Wiring.{Wiring}
 -- the tags of ports are numbers of VLANs
 abbrev pub AreTagsInRange : Wiring → Type 0
 AreTagsInRange w = All (λ (o : Outside). IfSome o.tag (λ t. t < 4096)) w.outside
-
--- the match of all packets that come by a port
-abbrev pub at_port : ℕ → MatchOf
-at_port p = record everything { in_port = Some p }
 
 -- packets that come by the port of a spread virtual switch go nowhere, unless another entry takes them
 abbrev pub guard : Outside → PhysEntry

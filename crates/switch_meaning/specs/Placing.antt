@@ -4,7 +4,7 @@ use Rattle.std.specs.List.{list_any}
 use Rattle.std.specs.Option.{option_and_then, option_eq}
 use Rattle.of10_match.specs.Fields.{MatchOf}
 use Rattle.of10_match.specs.Matching.{meet, everything}
-use Rattle.of10_match.specs.declared.normal.TheConstants.{UNTAGGED}
+use Rattle.of10_match.specs.Numbers.{UNTAGGED}
 use Rattle.of10_actions.specs.Fields.{RewriteOf}
 use Rattle.of10_actions.specs.Rewriting.{no_rewrite, and_then}
 use Rattle.of10_actions.specs.declared.action.Action.{Action}
@@ -12,7 +12,7 @@ use Rattle.of10_actions.specs.declared.action.Action.TheVariants.{Output, SetVla
 use Rattle.of10_actions.specs.declared.effects.Dest.{Dest}
 use Rattle.of10_actions.specs.declared.effects.Dest.TheVariants.{Port, Flood, Ingress, Tell}
 use Rattle.of10_actions.specs.declared.effects.Out.{Out}
-use Rattle.of10_actions.specs.declared.port.TheConstants.{IN_PORT, CONTROLLER}
+use Rattle.of10_actions.specs.Numbers.{IN_PORT, CONTROLLER}
 use Rattle.switch_meaning.specs.Same.{same_action}
 use Rattle.switch_meaning.specs.Wirings.{outside_at, next_hop}
 use Rattle.switch_meaning.specs.declared.entry.FlatRule.{FlatRule}

@@ -1,7 +1,7 @@
 -- Equality of entries as a test.
 use Rattle.std.specs.Prelude.{Bool, true, false, ◌==◌, ◌&&◌}
 use Rattle.std.specs.Cmp.Lexicographic.{pointwise}
-use Rattle.cv_io.specs.declared.leaf.Leaf.{Leaf}
+use Rattle.cv_io.specs.Leaves.{same_leaf}
 use Rattle.of10_match.specs.Same.{same_match}
 use Rattle.of10_actions.specs.declared.action.Action.{Action}
 use Rattle.of10_actions.specs.declared.action.Action.TheVariants.{Output, SetVlanVid, SetVlanPcp, StripVlan, SetDlSrc, SetDlDst, SetNwSrc, SetNwDst, SetNwTos, SetTpSrc, SetTpDst, Enqueue}
@@ -22,10 +22,6 @@ same_action (SetTpSrc v) (SetTpSrc w) = v == w
 same_action (SetTpDst v) (SetTpDst w) = v == w
 same_action (Enqueue p n) (Enqueue q m) = (p == q) && (n == m)
 same_action _ _ = false
-
--- two leaves are of one member and kind
-abbrev pub same_leaf : Leaf → Leaf → Bool
-same_leaf a b = (a.member == b.member) && (a.kind == b.kind)
 
 -- two entries are the same in every part
 abbrev pub same_entry : PhysEntry → PhysEntry → Bool

@@ -1,7 +1,7 @@
 -- FLOOD over three switches, computed.
 use Rattle.std.specs.Prelude.{◌≡◌, ℕ, true, false, Some, List, [], ◌∷◌, map, if◌then◌else◌, ◌==◌, find}
 use Rattle.of10_match.specs.Fields.{HeaderOf, MatchOf}
-use Rattle.of10_match.specs.Matching.{everything, holds}
+use Rattle.of10_match.specs.Matching.{at_port, everything, holds}
 use Rattle.of10_actions.specs.Rewriting.{no_rewrite}
 use Rattle.of10_actions.specs.declared.action.Action.{Action}
 use Rattle.of10_actions.specs.declared.action.Action.TheVariants.{Output, SetVlanVid, StripVlan}
@@ -46,17 +46,13 @@ in_a_row = record {
 abbrev pub first_site : Site
 first_site = record { v = 0; switch = 0; spread = true; whole = false }
 
--- packets that come by a port
-abbrev pub by_port : ℕ → MatchOf
-by_port p = record everything { in_port = Some p }
-
 -- packets that come by a port with a tag
 abbrev pub by_tag : ℕ → ℕ → MatchOf
 by_tag p tag = record everything { in_port = Some p; dl_vlan = Some tag }
 
 -- what comes by the virtual port 1 is sent to each other one
 abbrev pub flooding : FlatRule
-flooding = record { m = by_port 1; level = 128; outs = map (λ p. record { rewrite = no_rewrite; dest = Flood 0 p }) (2 ∷ 3 ∷ 4 ∷ []); ancestry = record { member = 0; kind = 3 } ∷ [] }
+flooding = record { m = at_port 1; level = 128; outs = map (λ p. record { rewrite = no_rewrite; dest = Flood 0 p }) (2 ∷ 3 ∷ 4 ∷ []); ancestry = record { member = 0; kind = 3 } ∷ [] }
 
 -- its actions at the first switch
 abbrev pub flooding_actions : List Action
@@ -83,14 +79,14 @@ at_goal in_port tag port = fixed (by_tag in_port tag) 65535 (StripVlan ∷ Outpu
 -- the fixed entries of the three switches
 abbrev pub TagsAreCarried : Type 0
 TagsAreCarried =
-    (map (guards in_a_row) (0 ∷ 1 ∷ 2 ∷ []) ≡ (fixed (by_port 1) 0 [] ∷ fixed (by_port 2) 0 [] ∷ []) ∷ (fixed (by_port 1) 0 [] ∷ []) ∷ (fixed (by_port 1) 0 [] ∷ []) ∷ [])
+    (map (guards in_a_row) (0 ∷ 1 ∷ 2 ∷ []) ≡ (fixed (at_port 1) 0 [] ∷ fixed (at_port 2) 0 [] ∷ []) ∷ (fixed (at_port 1) 0 [] ∷ []) ∷ (fixed (at_port 1) 0 [] ∷ []) ∷ [])
     × (transits in_a_row 0 ≡ at_goal 3 1 1 ∷ at_goal 3 3 2 ∷ [])
     × (transits in_a_row 1 ≡ onward 4 1 3 ∷ at_goal 3 2 1 ∷ at_goal 4 2 1 ∷ onward 4 3 3 ∷ onward 3 4 4 ∷ [])
     × (transits in_a_row 2 ≡ at_goal 3 4 1 ∷ [])
 
 -- of the four ports of the first switch two are no outside ports
 abbrev pub OthersAreDropped : Type 0
-OthersAreDropped = drops in_a_row 0 (1 ∷ 2 ∷ 3 ∷ 4 ∷ []) ≡ fixed (by_port 3) 65535 [] ∷ fixed (by_port 4) 65535 [] ∷ []
+OthersAreDropped = drops in_a_row 0 (1 ∷ 2 ∷ 3 ∷ 4 ∷ []) ≡ fixed (at_port 3) 65535 [] ∷ fixed (at_port 4) 65535 [] ∷ []
 
 -- the tables of the three switches
 abbrev pub tables_in_a_row : ℕ → List FlowEntry

@@ -1,21 +1,21 @@
 -- Two pairs that share a key, and the change from table to table, computed.
 use Rattle.std.specs.Prelude.{◌≡◌, ℕ, ◌+◌, ◌==◌, Some, List, [], ◌∷◌, ◌++◌, map, flat_map, if◌then◌else◌}
+use Rattle.of10_match.specs.Matching.{at_port}
 use Rattle.cv_io.specs.declared.leaf.Leaf.{Leaf}
 use Rattle.of10_match.specs.Fields.{MatchOf}
 use Rattle.of10_actions.specs.declared.action.Action.{Action}
 use Rattle.of10_actions.specs.declared.action.Action.TheVariants.{Output}
 use Rattle.switch_meaning.specs.Batches.{difference}
 use Rattle.switch_meaning.specs.Keys.{installed, one_per_key}
-use Rattle.switch_meaning.specs.WorkedFlood.{by_port}
 use Rattle.switch_meaning.specs.declared.entry.PhysEntry.{PhysEntry}
 
 -- nw_dst 10.0.0.0/24, by a port
 abbrev pub net : ℕ → MatchOf
-net p = record (by_port p) { dl_type = Some 0x0800; nw_dst = Some (record { addr = 0x0a000000; len = 24 }) }
+net p = record (at_port p) { dl_type = Some 0x0800; nw_dst = Some (record { addr = 0x0a000000; len = 24 }) }
 
 -- nw_dst 10.0.0.1/32, by a port
 abbrev pub host : ℕ → MatchOf
-host p = record (by_port p) { dl_type = Some 0x0800; nw_dst = Some (record { addr = 0x0a000001; len = 32 }) }
+host p = record (at_port p) { dl_type = Some 0x0800; nw_dst = Some (record { addr = 0x0a000001; len = 32 }) }
 
 -- the leaves of a monitor and of a router: of an entry by its serial number, or of a miss
 abbrev pub pair : ℕ → ℕ → List Leaf
@@ -37,7 +37,7 @@ of_net p = placed (net p) 9 (sent_to p 2) (pair 3 3) ∷ placed (host p) 11 (sen
 abbrev pub of_others : ℕ → List PhysEntry
 of_others p =
     placed (host p) 11 (sent_to p 2) (pair 4 3) ∷ placed (host p) 13 (sent_to p 3) (pair 4 4) ∷ placed (host p) 8 (Output 0xfffd 65535 ∷ []) (pair 4 1)
-    ∷ placed (net p) 6 (sent_to p 2) (pair 1 3) ∷ placed (host p) 8 (sent_to p 3) (pair 1 4) ∷ placed (by_port p) 3 (Output 0xfffd 65535 ∷ []) (pair 1 1) ∷ []
+    ∷ placed (net p) 6 (sent_to p 2) (pair 1 3) ∷ placed (host p) 8 (sent_to p 3) (pair 1 4) ∷ placed (at_port p) 3 (Output 0xfffd 65535 ∷ []) (pair 1 1) ∷ []
 
 -- of the nine pairs of a port six are installed; of the two with the key of /32 at 11 the one with the smaller ancestry
 abbrev pub SixAreInstalled : Type 0
@@ -64,11 +64,11 @@ one_packet = record {
 
 -- an entry for one packet, beside one for all packets of its port
 abbrev pub beside : ℕ → List PhysEntry
-beside priority = placed one_packet 8 [] [] ∷ placed (by_port 1) priority [] [] ∷ []
+beside priority = placed one_packet 8 [] [] ∷ placed (at_port 1) priority [] [] ∷ []
 
 -- a greater priority passes it over; the same one does not
 abbrev pub ExactIsPassedOver : Type 0
-ExactIsPassedOver = (installed (beside 9) ≡ placed (by_port 1) 9 [] [] ∷ []) × (installed (beside 8) ≡ beside 8)
+ExactIsPassedOver = (installed (beside 9) ≡ placed (at_port 1) 9 [] [] ∷ []) × (installed (beside 8) ≡ beside 8)
 
 -- the four ports
 abbrev pub ports : List ℕ
@@ -92,7 +92,7 @@ NetGoes =
 
 -- a member's entry at a level
 abbrev pub at_level : ℕ → ℕ → PhysEntry
-at_level serial level = placed (by_port 1) (level + 1) (Output 2 0 ∷ []) (record { member = 0; kind = 2 + serial } ∷ [])
+at_level serial level = placed (at_port 1) (level + 1) (Output 2 0 ∷ []) (record { member = 0; kind = 2 + serial } ∷ [])
 
 -- three entries get new levels, and a fourth comes
 abbrev pub LevelsMove : Type 0

@@ -2,11 +2,11 @@
 ghost use Rattle.std.specs.Prelude.{◌≡◌};
 ghost use Rattle.std.specs.Option.{option_copied};
 ghost use Rattle.switch_meaning.specs.Choosing.{better as better_of, height_of, highest};
-ghost use Rattle.switch_meaning.specs.MayUse.{MayUse, is_address as is_address_of, is_exact as is_exact_of};
+ghost use Rattle.switch_meaning.specs.MayUse.{MayUse};
 
 use crate::entry::FlowEntry;
 use cv_io::List;
-use of10_match::{Header, Match, Prefix};
+use of10_match::{Header, rank};
 
 /// How a switch ranks the entries that hold a packet.
 #[derive(Clone, Copy, PartialEq, Eq, Debug)]
@@ -62,40 +62,7 @@ fn height(entry: &FlowEntry, reading: Reading) -> u32
     ensures { result ≡ height_of reading entry.now }
 {
     match reading {
-        Reading::ExactFirst => {
-            if is_exact(&entry.m) {
-                65536
-            } else {
-                u32::from(entry.priority)
-            }
-        }
+        Reading::ExactFirst => rank(entry.m.is_one_header(), entry.priority),
         Reading::PriorityAlone => u32::from(entry.priority),
-    }
-}
-
-/// Whether the match names all twelve fields, with whole addresses.
-pub fn is_exact(m: &Match) -> bool
-    ensures { result ≡ is_exact_of m.now }
-{
-    m.in_port.is_some()
-        && m.dl_src.is_some()
-        && m.dl_dst.is_some()
-        && m.dl_vlan.is_some()
-        && m.dl_vlan_pcp.is_some()
-        && m.dl_type.is_some()
-        && m.nw_tos.is_some()
-        && m.nw_proto.is_some()
-        && is_address(m.nw_src)
-        && is_address(m.nw_dst)
-        && m.tp_src.is_some()
-        && m.tp_dst.is_some()
-}
-
-fn is_address(prefix: Option<Prefix>) -> bool
-    ensures { result ≡ is_address_of prefix }
-{
-    match prefix {
-        Some(prefix) => prefix.len == 32,
-        None => false,
     }
 }

@@ -77,6 +77,16 @@ impl PhysEntry {
     }
 }
 
+impl Duplicate for FlowEntry {
+    fn copy(&self) -> Result<FlowEntry, Memory> {
+        Ok(FlowEntry {
+            m: self.m,
+            priority: self.priority,
+            actions: self.actions.copy()?,
+        })
+    }
+}
+
 impl Duplicate for PhysEntry {
     fn copy(&self) -> Result<PhysEntry, Memory> {
         Ok(PhysEntry {

@@ -1,7 +1,7 @@
 //! The entries that are put on a switch whatever the tables of members have.
 ghost use Rattle.std.specs.Prelude.{◌≡◌, ◌<◌, ◌==◌, ◌++◌, [], ◌∷◌, IfOk, OnOk, IfSome, ℕ, filter, map, not};
 ghost use Rattle.std.specs.List.{list_any};
-ghost use Rattle.switch_meaning.specs.Fixed.{AreTagsInRange, arrivals, at_port as at_port_of, drop_entry as drop_entry_of, drops as drops_of, ends_at as ends_at_of, fixed_entries as fixed_entries_of, guard as guard_of, guards as guards_of, is_guarded as is_guarded_of, is_outside as is_outside_of, passes as passes_of, step as step_of, transit as transit_of, transit_actions as transit_actions_of, transits as transits_of, transits_to as transits_to_of};
+ghost use Rattle.switch_meaning.specs.Fixed.{AreTagsInRange, arrivals, drop_entry as drop_entry_of, drops as drops_of, ends_at as ends_at_of, fixed_entries as fixed_entries_of, guard as guard_of, guards as guards_of, is_guarded as is_guarded_of, is_outside as is_outside_of, passes as passes_of, step as step_of, transit as transit_of, transit_actions as transit_actions_of, transits as transits_of, transits_to as transits_to_of};
 ghost use Rattle.switch_meaning.specs.Wirings.{same_spot as same_spot_of};
 ghost use Rattle.switch_meaning.specs.declared.wiring.Spot.{Spot};
 
@@ -61,20 +61,10 @@ fn guard(alloc: Global, o: &Outside) -> PhysEntry
     ensures { result ≡ guard_of o.now }
 {
     PhysEntry {
-        m: at_port(o.at.port),
+        m: Match::at_port(o.at.port),
         priority: 0,
         actions: List::new(alloc),
         ancestry: List::new(alloc),
-    }
-}
-
-/// The match of all packets that come by a port.
-fn at_port(port: u16) -> Match
-    ensures { result ≡ at_port_of port }
-{
-    Match {
-        in_port: Some(port),
-        ..Match::everything()
     }
 }
 
@@ -144,7 +134,7 @@ fn add_transit(
     entries.push(PhysEntry {
         m: Match {
             dl_vlan: Some(tag),
-            ..at_port(spot.port)
+            ..Match::at_port(spot.port)
         },
         priority: 65535,
         actions: transit_actions(alloc, wiring, spot.switch, goal)?,
@@ -264,7 +254,7 @@ fn add_drop(
         return Ok(());
     }
     entries.push(PhysEntry {
-        m: at_port(port),
+        m: Match::at_port(port),
         priority: 65535,
         actions: List::new(alloc),
         ancestry: List::new(alloc),

@@ -4,7 +4,6 @@ ghost use Rattle.std.specs.List.{list_any};
 ghost use Rattle.switch_meaning.specs.Keys.{displaces as displaces_of, installed as installed_of, one_per_key as one_per_key_of, passes_over as passes_over_of, passing as passing_of};
 ghost use Rattle.switch_meaning.specs.declared.entry.PhysEntry.{PhysEntry};
 
-use crate::choosing::is_exact;
 use crate::entry::PhysEntry;
 use crate::push::push_if;
 use cv_io::{List, Memory};
@@ -55,7 +54,7 @@ fn is_passed(entries: &List<PhysEntry>, entry: &PhysEntry) -> bool
 fn passes_over(first: &PhysEntry, second: &PhysEntry) -> bool
     ensures { result ≡ passes_over_of first.now second.now }
 {
-    is_exact(&second.m) && second.priority < first.priority && first.m.covers(&second.m)
+    second.m.is_one_header() && second.priority < first.priority && first.m.covers(&second.m)
 }
 
 /// Whether an entry of the same key has a smaller ancestry.

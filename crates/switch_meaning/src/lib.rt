@@ -20,8 +20,8 @@ pub mod table;
 pub mod wiring;
 pub mod worked;
 
-pub use batching::difference;
-pub use choosing::{Reading, is_exact, usable};
+pub use batching::{difference, is_same};
+pub use choosing::{Reading, usable};
 pub use entry::{Change, Difference, FlatRule, FlowEntry, PhysEntry, Site};
 pub use fired::{Copied, Fired, Left, Seen, Sent};
 pub use firing::fire;
@@ -29,7 +29,7 @@ pub use fixed::{drops, fixed_entries, guards, transits};
 pub use following::Switches;
 pub use keys::{installed, one_per_key};
 pub use placing::{Way, place};
-pub use ranges::{are_in_range, are_tables_in_range, are_tags_in_range};
+pub use ranges::{are_tables_in_range, are_tags_in_range};
 pub use table::table_after;
 pub use wiring::{Cable, NextHop, Outside, Spot, Wiring};
 

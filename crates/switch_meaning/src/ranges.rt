@@ -1,13 +1,12 @@
 //! Tests that the numbers of actions and of tags are in their ranges.
 ghost use Rattle.std.specs.Prelude.{◌<◌, ◌↔◌, IfSome, IsTrue};
-ghost use Rattle.of10_actions.specs.Actions.{AreInRange, IsInRange};
 ghost use Rattle.switch_meaning.specs.Fixed.{AreTagsInRange};
 ghost use Rattle.switch_meaning.specs.Tables.{AreTablesInRange, IsTableInRange};
 
 use crate::entry::FlowEntry;
 use crate::wiring::Wiring;
 use cv_io::List;
-use of10_actions::Action;
+use of10_actions::are_in_range;
 
 /// Whether the numbers of all actions of all tables are in their ranges.
 pub fn are_tables_in_range(tables: &List<List<FlowEntry>>) -> bool
@@ -27,26 +26,6 @@ pub fn is_table_in_range(table: &List<FlowEntry>) -> bool
         .as_slice()
         .iter()
         .all(|entry| are_in_range(&entry.actions))
-}
-
-/// Whether the numbers of all actions are in their ranges.
-pub fn are_in_range(actions: &List<Action>) -> bool
-    ensures { IsTrue result ↔ AreInRange actions.now }
-{
-    actions.as_slice().iter().all(|action| is_in_range(action))
-}
-
-fn is_in_range(action: &Action) -> bool
-    ensures { IsTrue result ↔ IsInRange action.now }
-{
-    match *action {
-        Action::SetVlanVid { vid } => vid < 4096,
-        Action::SetVlanPcp { pcp } => pcp < 8,
-        Action::SetDlSrc { address } => address < 1 << 48,
-        Action::SetDlDst { address } => address < 1 << 48,
-        Action::SetNwTos { tos } => tos % 4 == 0,
-        _ => true,
-    }
 }
 
 /// Whether the tags of ports are numbers of VLANs.

@@ -2,7 +2,7 @@
 ghost use Rattle.std.specs.Prelude.{◌≡◌};
 ghost use Rattle.switch_meaning.specs.Wirings.{far_end as far_end_of, next_hop as next_hop_of, outside_at as outside_at_of};
 
-use cv_io::List;
+use cv_io::{Duplicate, List, Memory};
 
 /// A port of a physical switch.
 #[derive(Clone, Copy, PartialEq, Eq, Debug)]
@@ -44,6 +44,34 @@ pub struct Wiring {
     pub outside: List<Outside>,
     pub cables: List<Cable>,
     pub next_hops: List<NextHop>,
+}
+
+impl Duplicate for Outside {
+    fn copy(&self) -> Result<Outside, Memory> {
+        Ok(*self)
+    }
+}
+
+impl Duplicate for Cable {
+    fn copy(&self) -> Result<Cable, Memory> {
+        Ok(*self)
+    }
+}
+
+impl Duplicate for NextHop {
+    fn copy(&self) -> Result<NextHop, Memory> {
+        Ok(*self)
+    }
+}
+
+impl Duplicate for Wiring {
+    fn copy(&self) -> Result<Wiring, Memory> {
+        Ok(Wiring {
+            outside: self.outside.copy()?,
+            cables: self.cables.copy()?,
+            next_hops: self.next_hops.copy()?,
+        })
+    }
 }
 
 impl Wiring {

@@ -1,5 +1,5 @@
 use Rattle.std.proofs.Common.{◌≡◌, ◌++◌, length, take, drop}
-use Rattle.level_map.specs.Places.{numbered}
+use Rattle.level_map.specs.InsidePlaces.{numbered}
 use Rattle.level_map.proofs.sorted.renumber.Given as goal
 
 abbrev pub invariant-loop-i : goal.invariant-loop-i

@@ -1,7 +1,7 @@
 use Rattle.std.proofs.Common.{◌<◌, ◌+◌, length, Some, option_copied, sym, ap, subst, ◌∙◌}
 use Rattle.std.specs.List.{list_any}
 use Rattle.member_table.specs.Entries.{has_serial}
-use Rattle.member_table.specs.Orders.{OrderOf}
+use Rattle.member_table.specs.InsideOrders.{OrderOf}
 use Rattle.member_table.proofs.Copies.{IsCopiedTo, fresh_before, copied_next, held_at}
 use Rattle.member_table.proofs.copy.copied.Goals as goal
 use Rattle.member_table.proofs.copy.copied.Goals.{in-Some+in_ok-copy+in-Some-1, in-Some+in_ok-copy+in-None-1, in_default}

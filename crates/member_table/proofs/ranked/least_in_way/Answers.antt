@@ -1,5 +1,5 @@
 use Rattle.std.proofs.Common.{refl, sym, ◌∙◌, ap, subst, subst₂, Bool, take, List, take_all, Option, Some, ℕ}
-use Rattle.member_table.specs.Ranking.{IsLeastOf, is_in_way}
+use Rattle.member_table.specs.InsideRanking.{IsLeastOf, is_in_way}
 use Rattle.member_table.specs.declared.ranked.Ranked.{Ranked}
 use Rattle.member_table.proofs.Lists.{take_pushed}
 use Rattle.member_table.proofs.Least.{least_fails, least_passes}

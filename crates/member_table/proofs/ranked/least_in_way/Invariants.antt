@@ -1,5 +1,5 @@
 use Rattle.std.proofs.Common.{take}
-use Rattle.member_table.specs.Ranking.{IsLeastOf, is_in_way}
+use Rattle.member_table.specs.InsideRanking.{IsLeastOf, is_in_way}
 use Rattle.member_table.proofs.ranked.least_in_way.Given as goal
 
 abbrev pub invariant-loop-item : goal.invariant-loop-item

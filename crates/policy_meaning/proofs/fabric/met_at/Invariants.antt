@@ -1,6 +1,7 @@
 use Rattle.std.proofs.Common.{◌≡◌, take}
+use Rattle.of10_match.specs.Matching.{at_port}
 use Rattle.std.specs.Prelude.{filter_map}
-use Rattle.policy_meaning.specs.LeafRules.{at_port, rule_met}
+use Rattle.policy_meaning.specs.LeafRules.{rule_met}
 use Rattle.policy_meaning.proofs.fabric.met_at.Given as goal
 
 abbrev pub invariant-loop-rule : goal.invariant-loop-rule

@@ -1,6 +1,6 @@
 use Rattle.std.proofs.Common.{true, ◌<◌, ◌^◌, rules}
 use Rattle.of10_match.specs.Ranges.{IsPrefix, IsTos}
-use Rattle.of10_actions.specs.Rewriting.{whole}
+use Rattle.pull_back.specs.Pulling.{whole}
 use Rattle.pull_back.proofs.Exactness.{known, tos, whole-prefix}
 use Rattle.pull_back.proofs.imaging.known_after.Goals as goal
 

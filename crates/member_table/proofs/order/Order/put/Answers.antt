@@ -3,7 +3,7 @@ use Rattle.std.specs.List.{list_any}
 use Rattle.std.specs.Option.{option_and_then}
 use Rattle.indexmap.specs.IndexMap.{get}
 use Rattle.member_table.specs.Entries.{has_serial, identity_of, is_at, put, same_identity}
-use Rattle.member_table.specs.Orders.{IsInStep, listed}
+use Rattle.member_table.specs.InsideOrders.{IsInStep, listed}
 use Rattle.member_table.proofs.Indexed.{in_step_put, replaced_is}
 use Rattle.member_table.proofs.order.Order.put.Goals as goal
 

@@ -2,7 +2,7 @@ use Rattle.std.proofs.Common.{◌≡◌, ◌∙◌, sym, ap, subst, not, filter,
 use Rattle.std.specs.Map.{lookup}
 use Rattle.indexmap.specs.IndexMap.{get}
 use Rattle.member_table.specs.Entries.{has_serial, same_identity}
-use Rattle.member_table.specs.Orders.{IsInStep, listed}
+use Rattle.member_table.specs.InsideOrders.{IsInStep, listed}
 use Rattle.member_table.specs.declared.entry.Entry.{Entry}
 use Rattle.member_table.proofs.Indexed.{in_step_remove}
 use Rattle.member_table.proofs.Lists.{any_find, filter-none}

@@ -1,7 +1,7 @@
 use Rattle.std.proofs.Common.{◌≡◌, ℕ, List, sym, subst, nat_eq}
 use Rattle.std.specs.Map.{lookup}
 use Rattle.member_table.specs.Entries.{same_identity}
-use Rattle.member_table.specs.Orders.{IsInStep}
+use Rattle.member_table.specs.InsideOrders.{IsInStep}
 use Rattle.member_table.specs.declared.entry.Entry.{Entry}
 use Rattle.member_table.specs.declared.entry.Identity.{Identity}
 use Rattle.member_table.proofs.order.Order.reserve.Goals as goal

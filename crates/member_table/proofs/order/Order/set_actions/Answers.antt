@@ -2,7 +2,7 @@ use Rattle.std.proofs.Common.{◌∙◌, sym, ap, map, refl, nat_eq, if◌then�
 use Rattle.std.specs.List.{list_any}
 use Rattle.indexmap.specs.IndexMap.{get}
 use Rattle.member_table.specs.Entries.{has_serial, same_identity}
-use Rattle.member_table.specs.Orders.{listed}
+use Rattle.member_table.specs.InsideOrders.{listed}
 use Rattle.member_table.specs.declared.entry.Entry.{Entry}
 use Rattle.member_table.proofs.Indexed.{in_step_set_at, is_listed, unlisted}
 use Rattle.member_table.proofs.Lists.{map-none}

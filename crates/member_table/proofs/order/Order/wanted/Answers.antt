@@ -3,7 +3,7 @@ use Rattle.std.specs.Option.{option_map_or}
 use Rattle.indexmap.specs.IndexMap.{get}
 use Rattle.member_table.specs.Entries.{has_serial, same_identity}
 use Rattle.member_table.specs.Timeouts.{serials_of}
-use Rattle.member_table.specs.Wanting.{is_wanted}
+use Rattle.member_table.specs.InsideWanting.{is_wanted}
 use Rattle.member_table.specs.declared.entry.Entry.{Entry}
 use Rattle.member_table.proofs.Indexed.{wanted_numbers}
 use Rattle.member_table.proofs.order.Order.wanted.Goals as goal

@@ -1,6 +1,6 @@
 use Rattle.std.proofs.Common.{◌≡◌, ap, sym, ◌∙◌, subst, Option, Some, None, MatchOption, find, false, Bor, option_copied}
 use Rattle.std.specs.List.{list_any}
-use Rattle.member_table.specs.Ranking.{IsTop, holds_it}
+use Rattle.member_table.specs.InsideRanking.{IsTop, holds_it}
 use Rattle.member_table.specs.declared.ranked.Ranked.{Ranked}
 use Rattle.member_table.proofs.Falling.{top_find}
 use Rattle.member_table.proofs.ranks.Ranks.highest.Goals as goal

@@ -2,7 +2,7 @@ use Rattle.std.proofs.Common.{◌≡◌, ◌≤◌, ◌<◌, ◌+◌, ◌-◌, �
 use Rattle.std.specs.List.{list_any, AllByRecursion}
 use Rattle.of10_match.specs.Matching.{overlaps}
 use Rattle.member_table.specs.Entries.{is_near, same_identity}
-use Rattle.member_table.specs.Ranking.{IsLeastOf, is_in_way}
+use Rattle.member_table.specs.InsideRanking.{IsLeastOf, is_in_way}
 use Rattle.member_table.specs.declared.entry.Identity.{Identity}
 use Rattle.member_table.specs.declared.ranked.Ranked.{Ranked}
 use Rattle.member_table.proofs.Falling.{in_order, any_between, none_each, each_weaker}

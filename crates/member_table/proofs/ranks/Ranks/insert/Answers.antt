@@ -1,6 +1,6 @@
 use Rattle.std.proofs.Common.{◌≡◌, ◌≤◌, ◌<◌, ℕ, ◌∙◌, ap, subst₂, is_ok, if◌then◌else◌, List, subst, sym, take, drop, insert}
 use Rattle.std.specs.List.{AllByRecursion}
-use Rattle.member_table.specs.Ranking.{RanksFall}
+use Rattle.member_table.specs.InsideRanking.{RanksFall}
 use Rattle.member_table.specs.declared.ranked.Ranked.{Ranked}
 use Rattle.member_table.proofs.Falling.{fall_insert}
 use Rattle.member_table.proofs.ranks.Ranks.insert.Goals as goal

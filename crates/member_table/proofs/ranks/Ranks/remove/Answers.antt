@@ -4,7 +4,7 @@ use Rattle.std.proofs.lemmas.List.{take-append-drop}
 use Rattle.std.proofs.lemmas.List.Folds.{list_any-append}
 use Rattle.std.proofs.lemmas.List.Sums.{sum_by-remove}
 use Rattle.std.proofs.lemmas.List.Quantifiers.{position-Some}
-use Rattle.member_table.specs.Ranking.{AddsTo, RanksFall, same_ranked}
+use Rattle.member_table.specs.InsideRanking.{AddsTo, RanksFall, same_ranked}
 use Rattle.member_table.specs.declared.ranked.Ranked.{Ranked}
 use Rattle.member_table.proofs.Lists.{position-any}
 use Rattle.member_table.proofs.SameRanked.{ranked_decides}

@@ -1,6 +1,6 @@
 use Rattle.std.proofs.Common.{◌∙◌, ◌==◌, ◌&&◌, sym, ap, map, Some, option_map, nat_lt}
 use Rattle.member_table.specs.Best.{best_entry}
-use Rattle.member_table.specs.Ranking.{holds_it, ranked_of}
+use Rattle.member_table.specs.InsideRanking.{holds_it, ranked_of}
 use Rattle.member_table.specs.declared.ranked.Ranked.{Ranked}
 use Rattle.member_table.proofs.Bests.{best_is, best_none}
 use Rattle.member_table.proofs.Counts.{same_any}

@@ -34,14 +34,15 @@ put-requires c =
     let old = c.args.self.now in
     let new = c.in-Some.entry in
     let S : Option Entry → Type 0 = λ o. IfSome o (CanAdd old c.args.change.removed) in
-    let can = subst S c.in-Some.is c.requires in
+    let can = subst S c.in-Some.is c.requires.added in
     let place = c.replaced-place.ensures ∙ ap (λ o. replaced o old.table.entries) c.in-Some.is in
     let table = c.modify_all.ensures.table ∙ ap (altered c.args.change.modified) (c.remove_all.ensures.table ∙ ap (λ p. emptied c.args.change.removed p old.table) place) in
     let room = c.modify_all.ensures.room ∙ c.remove_all.ensures.room in
     let R : ℕ → Type 0 = λ n. 0 < n in
-    let N : ℕ → Type 0 = λ n. n + 1 < 2 ^ 64 in
+    let N : ℕ → Type 0 = λ n. n + 2 < 2 ^ 64 in
     record {
       serial = can.serial ∙ sym (ap (λ t. t.next) table);
+      written = can.written;
       more = subst N (sym (ap (λ t. t.next) table)) can.more;
       apart = ap (λ t. list_any (is_blocked new) t.entries) table ∙ (blocked_changed new c.args.change.modified (filter (stays c.args.change.removed (replaced (Some new) old.table.entries)) old.table.entries)
           ∙ (blocked_staying new (stays c.args.change.removed (replaced (Some new) old.table.entries)) old.table.entries ∙ can.apart));

@@ -1,7 +1,7 @@
 use Rattle.std.proofs.Common.{◌≡◌, ◌∙◌, sym, ap, is_some, true, subst}
 use Rattle.std.specs.List.{list_any}
 use Rattle.member_table.specs.Entries.{has_serial}
-use Rattle.member_table.specs.Ranking.{AddsTo, same_ranked}
+use Rattle.member_table.specs.InsideRanking.{AddsTo, same_ranked}
 use Rattle.member_table.specs.declared.ranked.Ranked.{Ranked}
 use Rattle.member_table.proofs.Lists.{any_find}
 use Rattle.member_table.proofs.Kept.{kept_drop, kept_none, found_ranked}

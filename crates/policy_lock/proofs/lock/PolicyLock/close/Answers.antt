@@ -57,7 +57,7 @@ returns-clause-closed g c = let mg = g.M.Machine in let k = c.loop-seat.keeper i
     let r = closes mg g.row.M-State.coded record { id = c.self.inside.table.shared.table_id; start = mg.meaning c.self.inside.table.shared.key.value } _ _ _ k.me.0 c.args.seats c.close_with-closed.ensures.values.2 inv.1 inv.2 are (search rules)
     (subst (λ l. All (λ s. s.lock ≡ l.id) c.args.seats) (sym c.self.view_is) c.requires) in
     let x = ap (opt_or r.0) (some-injective _ _ (sym r.1 ∙ c.take.ensures.value) ∙ c.in-Some-take.is) in
-    subst (λ l. IsClosed mg l.start c.args.seats c.in-Some-take.locked.machine) c.self.view_is (subst (λ z. IsClosed mg (mg.meaning c.self.inside.table.shared.key.value) c.args.seats z.machine) x r.2)
+    subst (λ q. IsClosed mg c.args.self.start c.args.seats q.machine) (sym c.into_inner-machine.ensures) (subst (λ l. IsClosed mg l.start c.args.seats c.in-Some-take.locked.boxed.value.machine) c.self.view_is (subst (λ z. IsClosed mg (mg.meaning c.self.inside.table.shared.key.value) c.args.seats z.boxed.value.machine) x r.2))
 
 pub returns-clause-began : goal.returns-clause-began
 returns-clause-began g c = let mg = g.M.Machine in let k = c.loop-seat.keeper in let inv = c.loop-seat.invariant in

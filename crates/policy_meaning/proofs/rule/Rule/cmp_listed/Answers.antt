@@ -5,7 +5,7 @@ use Rattle.std.specs.Ordering.{nat_cmp, ordering_then}
 use Rattle.std.specs.declared.cmp.Ordering.{Ordering}
 use Rattle.std.specs.declared.cmp.Ordering.TheVariants.{Equal, Greater, Less}
 use Rattle.of10_match.specs.Order.{by_bytes}
-use Rattle.policy_meaning.specs.Order.{by_leaf}
+use Rattle.cv_io.specs.Leaves.{leaf_cmp}
 use Rattle.policy_meaning.proofs.rule.Rule.cmp_listed.Goals as goal
 
 -- what the first two decide, a third does not change
@@ -20,6 +20,6 @@ pub returns-in_default : goal.returns-in_default
 returns-in_default c =
     let a = c.args.self.now in
     let b = c.args.other.now in
-    let leaves : c.cmp-leaves.result ≡ slice_cmp by_leaf a.ancestry b.ancestry = search rules in
+    let leaves : c.cmp-leaves.result ≡ slice_cmp leaf_cmp a.ancestry b.ancestry = search rules in
     let ports : c.cmp-ports.result ≡ option_cmp nat_cmp a.m.in_port b.m.in_port = search rules in
-    decided (slice_cmp by_leaf a.ancestry b.ancestry) (option_cmp nat_cmp a.m.in_port b.m.in_port) (by_bytes a.m b.m) c.then.result (rw (← leaves, ← ports) c.then.ensures) c.in_default.not-Equal
+    decided (slice_cmp leaf_cmp a.ancestry b.ancestry) (option_cmp nat_cmp a.m.in_port b.m.in_port) (by_bytes a.m b.m) c.then.result (rw (← leaves, ← ports) c.then.ensures) c.in_default.not-Equal

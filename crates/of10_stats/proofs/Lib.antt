@@ -1,0 +1,11 @@
+pub mod Items
+pub mod Lengths
+pub mod Texts
+pub mod Greedy
+pub mod Whole
+pub mod SpelledItems
+pub mod Spelled
+pub mod FoundItems
+pub mod Found
+pub mod Sent
+pub mod Writable

@@ -1,0 +1,9 @@
+pub mod Places
+pub mod Fields
+pub mod Layers
+pub mod PlainAfter
+pub mod PacketAfter
+pub mod HeaderAfter
+pub mod BytesAfter
+pub mod Sums
+pub mod HeaderSum
