@@ -1,7 +1,10 @@
 //! The table that a switch is to have, from scratch.
-ghost use Rattle.std.specs.Prelude.{◌≡◌, ◌<◌, ◌^◌, ◌++◌, IfOk, OnOk, Some, length, slice_get};
+ghost use Rattle.std.specs.Prelude.{◌≡◌, ◌<◌, ◌^◌, ◌++◌, IfOk, OnOk, Some, flat_map, length, slice_get};
+ghost use Rattle.std.specs.List.{AllByRecursion, enumerate_from};
 ghost use Rattle.agreement.specs.Entries as spec;
 ghost use Rattle.agreement.specs.Fitting.{IsFittingSetting};
+ghost use Rattle.agreement.specs.Lengths.{AddFits, HasLimits};
+ghost use Rattle.agreement.specs.Premises.{IsSoundSetting};
 
 use crate::entries::{placed, stands_on};
 use crate::state::Setting;
@@ -71,16 +74,28 @@ fn dropping(alloc: Global, setting: &Setting, switch: u32) -> Result<List<PhysEn
     }
 }
 
-/// The entries that are put on a switch: those of each virtual switch, and those that don't hang on
-/// tables. [`Setting::fits`] tests what is asked of the setting.
-pub fn entries_of(alloc: Global, setting: &Setting, switch: u32) -> Result<List<PhysEntry>, Memory>
+/// The entries of the virtual switches on a switch.
+fn virtual_entries(alloc: Global, setting: &Setting, switch: u32) -> Result<List<PhysEntry>, Memory>
     requires { IsFittingSetting setting.now }
-    ensures { IfOk result (λ entries. entries ≡ spec.entries_of setting.now switch) }
+    ensures { IfOk result (λ entries. entries ≡
+        flat_map (spec.entries_for setting.now switch) (enumerate_from 0 setting.now.network.switches)) }
 {
     let mut entries = List::new(alloc);
     for (v, x) in setting.network.switches.as_slice().iter().enumerate() {
         add_entries_for(alloc, &mut entries, setting, switch, v as u32, x)?;
     }
+    Ok(entries)
+}
+
+/// The entries that are put on a switch: those of each virtual switch, and those that don't hang on
+/// tables. [`Setting::fits`] tests what is asked of the setting. Within the limits of policies each
+/// entry's ADD has less than 65,536 bytes.
+pub fn entries_of(alloc: Global, setting: &Setting, switch: u32) -> Result<List<PhysEntry>, Memory>
+    requires { IsFittingSetting setting.now }
+    ensures from_scratch { IfOk result (λ entries. entries ≡ spec.entries_of setting.now switch) }
+    ensures short { IsSoundSetting setting.now → HasLimits setting.now → IfOk result (AllByRecursion AddFits) }
+{
+    let mut entries = virtual_entries(alloc, setting, switch)?;
     entries.append(fixed_entries(alloc, &setting.wiring, switch)?)?;
     entries.append(dropping(alloc, setting, switch)?)?;
     Ok(entries)
