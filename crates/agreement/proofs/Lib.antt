@@ -28,3 +28,4 @@ pub mod Twins
 pub mod FreeOrder
 pub mod Ways
 pub mod Followed
+pub mod WorkedStar

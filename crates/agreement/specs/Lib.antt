@@ -12,3 +12,4 @@ pub mod Ways
 pub mod Followed
 pub mod Law
 pub mod Worked
+pub mod WorkedStar

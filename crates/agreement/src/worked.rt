@@ -3,6 +3,8 @@ ghost use Rattle.agreement.specs.Worked.{AllPortsHaveEntries, EachPortHasEntries
 ghost use Rattle.agreement.specs.Worked.{RouterAgrees, RouterIsSeen, RouterIsSound};
 ghost use Rattle.agreement.specs.Worked.{SecondIsInstalled, SpreadAgrees, SpreadIsSound};
 ghost use Rattle.agreement.specs.Worked.{SplitAgrees, SplitIsSeen, SplitIsSound};
+ghost use Rattle.agreement.specs.WorkedStar.{BetweenInStar, FirstOfStar, SecondOfStar, ThirdOfStar};
+ghost use Rattle.agreement.specs.WorkedStar.{StarAgrees, StarIsFollowed, StarIsSeen, StarIsSound};
 
 /// The entries of a router, what is to be seen of packets, and that the law speaks of it.
 pub fn worked_router()
@@ -25,4 +27,17 @@ pub fn worked_spread()
     ensures installed { SecondIsInstalled }
     ensures sound { SpreadIsSound }
     ensures agrees { SpreadAgrees }
+{}
+
+/// Three members on one virtual switch over four switches in a star, with FLOOD, two ranks, two boxes, a hidden port
+/// and a rewrite.
+pub fn worked_star()
+    ensures first { FirstOfStar }
+    ensures second { SecondOfStar }
+    ensures third { ThirdOfStar }
+    ensures between { BetweenInStar }
+    ensures seen { StarIsSeen }
+    ensures followed { StarIsFollowed }
+    ensures sound { StarIsSound }
+    ensures agrees { StarAgrees }
 {}

@@ -11,7 +11,10 @@ returns-clause-short c good limits =
     let s = c.args.setting.now in
     let same : c.append-2.new.self ≡ spec.entries_of s c.args.switch =
     rw (
-      c.in_ok-append-2.ensures.appended, c.in_ok-dropping.ensures, c.in_ok-append.ensures.appended,
-      c.in_ok-fixed_entries.ensures, c.in_ok-entries.ensures
+      c.in_ok-append-2.ensures.appended,
+      c.in_ok-dropping.ensures,
+      c.in_ok-append.ensures.appended,
+      c.in_ok-fixed_entries.ensures,
+      c.in_ok-entries.ensures,
     ) (simp append_assoc) in
     subst (λ (entries : List PhysEntry). AllByRecursion AddFits entries) (sym same) (adds-fit s good limits c.args.switch).0
