@@ -13,3 +13,4 @@ pub mod Members
 pub mod Sorting
 pub mod Batched
 pub mod ByKey
+pub mod Counted

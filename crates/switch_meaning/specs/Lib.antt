@@ -15,3 +15,4 @@ pub mod WorkedKeys
 pub mod FiringLaw
 pub mod BestLaw
 pub mod BatchLaw
+pub mod Counts

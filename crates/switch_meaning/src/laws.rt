@@ -3,6 +3,7 @@ ghost use Rattle.std.specs.Prelude.{List};
 ghost use Rattle.switch_meaning.specs.BatchLaw.{BatchGivesTable, FreshGivesTable, InstalledHasOneAKey, OrderIsFree, SortedByKey};
 ghost use Rattle.switch_meaning.specs.BestLaw.{BestIsInstalled, BestIsUsed};
 ghost use Rattle.switch_meaning.specs.Choosing.{chosen, table_at};
+ghost use Rattle.switch_meaning.specs.Counts.{CountsAdd, CountsWithoutTotals, FoldingKeepsCounts};
 ghost use Rattle.switch_meaning.specs.Following.{IsAllowed};
 ghost use Rattle.switch_meaning.specs.FiringLaw.{FiringGivesOuts};
 ghost use Rattle.switch_meaning.specs.declared.choosing.Reading.{Reading};
@@ -36,4 +37,12 @@ pub fn batching()
     ensures any_order { OrderIsFree }
     ensures by_key { SortedByKey }
     ensures installed { InstalledHasOneAKey }
+{}
+
+/// The packets and bytes of a leaf are summed over the cookies that name it, each once. Sums that stand still at
+/// 2^64 - 1 hang neither on order nor on grouping, so cookies that are folded into totals may be forgotten.
+pub fn counting()
+    ensures whole { CountsWithoutTotals }
+    ensures folded { FoldingKeepsCounts }
+    ensures parts { CountsAdd }
 {}

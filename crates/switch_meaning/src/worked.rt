@@ -1,4 +1,5 @@
 //! Worked examples, each computed by the checker.
+ghost use Rattle.switch_meaning.specs.Counts.{ThreeAreCounted};
 ghost use Rattle.switch_meaning.specs.WorkedEntries.{BalancerIsPlaced, IngressIsWritten, OneCopyFirst, TableIsChanged, WholeIsPlaced};
 ghost use Rattle.switch_meaning.specs.WorkedFlood.{FloodIsFired, FloodIsFollowed, FloodIsPlaced, OthersAreDropped, TagsAreCarried};
 ghost use Rattle.switch_meaning.specs.WorkedKeys.{ExactIsPassedOver, LevelsMove, NetGoes, SixAreInstalled};
@@ -28,4 +29,9 @@ pub fn worked_keys()
     ensures exact_is_passed_over { ExactIsPassedOver }
     ensures net_goes { NetGoes }
     ensures levels_move { LevelsMove }
+{}
+
+/// Packets and bytes of a leaf, with and without totals.
+pub fn worked_counts()
+    ensures three_are_counted { ThreeAreCounted }
 {}
