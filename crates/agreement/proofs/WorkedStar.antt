@@ -1,5 +1,5 @@
 -- The setting with everything at once is sound.
-use Rattle.std.proofs.Common.{◌≡◌, ℕ, zero, suc, ◌+◌, ◌<◌, ◌⊎◌, inl, inr, true, false, ◌&&◌, ◌==◌, [], ◌∷◌, Some}
+use Rattle.std.proofs.Common.{◌≡◌, ℕ, zero, suc, ◌+◌, ◌<◌, ◌⊎◌, inl, inr, true, false, ◌&&◌, ◌==◌, Some}
 use Rattle.std.proofs.Common.{None, refl, ap, ◌∙◌, sym, subst, arith, eqb-true, lit≤}
 use Rattle.std.specs.Prelude.{◌≢◌, IfSome, is_some, slice_get}
 use Rattle.std.specs.List.{AllByRecursion}
@@ -70,7 +70,15 @@ sound-wiring = record {
 sound-teller : IsSoundTable teller
 sound-teller = record {
   apart = (tt, tt);
-  entries = (record { above = omega arith; below = omega arith; is_normal = normal-everything; builds = record { outs = (none-set, tt); tail = (tt, tt) } }, tt);
+  entries = (
+    record {
+      above = omega arith;
+      below = omega arith;
+      is_normal = normal-everything;
+      builds = record { outs = (none-set, tt); tail = (tt, tt) };
+    },
+    tt,
+  );
   room = omega arith;
   boxes = (normal-everything, tt);
   disjoint = (tt, tt);
@@ -78,12 +86,28 @@ sound-teller = record {
 }
 
 normal-address : IsNormal (to_net 0x01020304 32)
-normal-address = record { dl_vlan_pcp = tt; nw_tos = tt; nw_proto = tt; nw_src = tt; nw_dst = refl; tp_src = tt; tp_dst = tt }
+normal-address = record {
+  dl_vlan_pcp = tt;
+  nw_tos = tt;
+  nw_proto = tt;
+  nw_src = tt;
+  nw_dst = refl;
+  tp_src = tt;
+  tp_dst = tt;
+}
 
 sound-balancer : IsSoundTable second_balancer
 sound-balancer = record {
   apart = (tt, tt);
-  entries = (record { above = omega arith; below = omega arith; is_normal = normal-address; builds = record { outs = tt; tail = tt } }, tt);
+  entries = (
+    record {
+      above = omega arith;
+      below = omega arith;
+      is_normal = normal-address;
+      builds = record { outs = tt; tail = tt };
+    },
+    tt,
+  );
   room = omega arith;
   boxes = (normal-everything, tt);
   disjoint = (tt, tt);
@@ -91,17 +115,43 @@ sound-balancer = record {
 }
 
 normal-queries : IsNormal queries
-normal-queries = record { dl_vlan_pcp = tt; nw_tos = tt; nw_proto = refl; nw_src = tt; nw_dst = refl; tp_src = tt; tp_dst = refl }
+normal-queries = record {
+  dl_vlan_pcp = tt;
+  nw_tos = tt;
+  nw_proto = refl;
+  nw_src = tt;
+  nw_dst = refl;
+  tp_src = tt;
+  tp_dst = refl;
+}
 
 normal-box : (a : ℕ) → IsNormal (to_net a 8)
-normal-box a = record { dl_vlan_pcp = tt; nw_tos = tt; nw_proto = tt; nw_src = tt; nw_dst = refl; tp_src = tt; tp_dst = tt }
+normal-box a = record {
+  dl_vlan_pcp = tt;
+  nw_tos = tt;
+  nw_proto = tt;
+  nw_src = tt;
+  nw_dst = refl;
+  tp_src = tt;
+  tp_dst = tt;
+}
 
 two-ranks : ◌≡◌ {A = ℕ} 100 200 → ⊥
 two-ranks e = omega arith
 
 sound-flooder : IsSoundTable flooder
 sound-flooder = record {
-  apart = ((record { disjoint = λ t. absurd (two-ranks t); up = λ lt. omega arith; down = λ lt. omega arith }, tt), (tt, tt));
+  apart = (
+    (
+      record {
+        disjoint = λ t. absurd (two-ranks t);
+        up = λ lt. omega arith;
+        down = λ lt. omega arith;
+      },
+      tt,
+    ),
+    (tt, tt),
+  );
   entries = (
     record {
       above = omega arith;
@@ -184,7 +234,15 @@ across a b c d out up forth hop number down ends = record {
     number = omega arith;
     cable = up;
     onward = forth;
-    rest = inr (record { port = d; peer = record { switch = b; port = 9 }; hop = hop; number = number; cable = down; onward = ends; rest = refl });
+    rest = inr (record {
+      port = d;
+      peer = record { switch = b; port = 9 };
+      hop = hop;
+      number = number;
+      cable = down;
+      onward = ends;
+      rest = refl;
+    });
   });
   cables = omega arith;
   switches = omega arith;

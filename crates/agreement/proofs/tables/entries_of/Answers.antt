@@ -17,4 +17,5 @@ returns-clause-short c good limits =
       c.in_ok-fixed_entries.ensures,
       c.in_ok-entries.ensures,
     ) (simp append_assoc) in
-    subst (λ (entries : List PhysEntry). AllByRecursion AddFits entries) (sym same) (adds-fit s good limits c.args.switch).0
+    subst (λ (entries : List PhysEntry). AllByRecursion AddFits entries) (sym same)
+    (adds-fit s good limits c.args.switch).0
