@@ -7,9 +7,9 @@ use Rattle.agreement.proofs.WholeRules.{RuleKeeps}
 use Rattle.agreement.proofs.Guarded.{guard-is-best}
 use Rattle.agreement.proofs.ShowingSpread.{all-good, outs-go}
 use Rattle.agreement.proofs.RuleEntries.{Best, written}
-use Rattle.agreement.proofs.SwitchEntries.{all-fit, best-of-part, best-of-whole, ingress, keeps, part-best, whole-best}
+use Rattle.agreement.proofs.SwitchEntries.{best-of-part, best-of-whole, ingress, keeps, part-best, whole-best}
 use Rattle.agreement.specs.Premises.{GoesWithin, IsSoundSetting, outside_ports}
-use Rattle.std.proofs.Common.{◌≡◌, ℕ, suc, ◌⊎◌, arith, inl, inr, eqb-true, Bool, true, false, List, [], ◌∷◌, Option, Some, None, refl, ap, ◌∙◌, sym, subst, length, ◌&&◌}
+use Rattle.std.proofs.Common.{◌≡◌, ℕ, suc, ◌⊎◌, arith, inl, inr, eqb-true, Bool, true, false, List, [], ◌∷◌, Option, Some, None, refl, ap, ◌∙◌, sym, subst, length}
 use Rattle.std.specs.Prelude.{IfSome, ◌-◌, ◌==◌, filter, filter_map, if◌then◌else◌, is_some, not, slice_get}
 use Rattle.std.specs.List.{AllByRecursion, cons_option}
 use Rattle.std.proofs.lemmas.List.{append-nil}
@@ -51,11 +51,10 @@ use Rattle.switch_meaning.specs.declared.entry.PhysEntry.{PhysEntry}
 use Rattle.switch_meaning.specs.declared.fired.Fired.{Fired}
 use Rattle.switch_meaning.specs.declared.fired.Seen.{Seen}
 use Rattle.switch_meaning.specs.declared.wiring.Outside.{Outside}
-use Rattle.switch_meaning.proofs.Gate.{best-is-installed}
 use Rattle.switch_meaning.proofs.Placed.{firing-gives-outs}
 use Rattle.agreement.specs.declared.state.Setting.{Setting}
 use Rattle.agreement.specs.Agree.{AreInstalled}
-use Rattle.agreement.specs.Entries.{entries_of, flat, site_at, table_of}
+use Rattle.agreement.specs.Entries.{entries_of, flat, site_at}
 use Rattle.agreement.specs.Law.{Agreement}
 use Rattle.agreement.specs.Reach.{LeadsTo, at_once, lies, AreUp, IsSwitchOf, over}
 use Rattle.agreement.specs.Seeing.{Alike, comes_by, expected}
@@ -63,7 +62,6 @@ use Rattle.agreement.proofs.Levels.{all-name, enters-outside, has-outside}
 use Rattle.agreement.specs.Followed.{AreNumbered}
 use Rattle.agreement.proofs.NodeRules.{Names, node-numbered}
 use Rattle.agreement.proofs.Used.{all-speak, untagged-is, used}
-use Rattle.agreement.proofs.SameTables.{may-carried}
 use Rattle.agreement.proofs.Showing.{said-shows, fired-shows}
 use Rattle.agreement.proofs.ShowingWhole.{whole-shows}
 use Rattle.agreement.proofs.Within.{IsWithin, OutsWithin, switch-within, walk-leaves}

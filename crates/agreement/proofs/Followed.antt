@@ -1,5 +1,5 @@
 -- One entry of a rule, followed over the cables.
-use Rattle.std.proofs.Common.{◌≡◌, ℕ, Bool, true, false, List, [], ◌∷◌, ◌++◌, Option, Some, refl, ap, ◌∙◌, sym, subst, length, inl}
+use Rattle.std.proofs.Common.{◌≡◌, ℕ, Bool, true, false, List, [], ◌∷◌, Option, Some, refl, ap, ◌∙◌, sym, subst, length, inl}
 use Rattle.std.specs.Prelude.{if◌then◌else◌, filter_map, map, slice_get}
 use Rattle.std.proofs.lemmas.List.{append-nil}
 use Rattle.of10_match.specs.Fields.{HeaderOf}
@@ -31,7 +31,7 @@ use Rattle.agreement.specs.Entries.{site_at}
 use Rattle.agreement.specs.Followed.{IsForPort, OnePlacedEntry, outs_seen}
 use Rattle.agreement.specs.Premises.{IsSoundSetting}
 use Rattle.agreement.specs.Reach.{AreUp}
-use Rattle.agreement.specs.Seeing.{Alike, but_in_port, comes_by, left_at}
+use Rattle.agreement.specs.Seeing.{Alike, comes_by}
 use Rattle.agreement.proofs.RuleEntries.{written}
 use Rattle.agreement.proofs.Showing.{Shows, outs-show}
 use Rattle.agreement.proofs.ShowingSpread.{all-good, outs-go}

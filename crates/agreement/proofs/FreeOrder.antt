@@ -1,14 +1,13 @@
 -- What is installed, and what is written, of entries in another order.
-use Rattle.std.proofs.Common.{◌≡◌, ℕ, Bool, true, false, ◌&&◌, List, [], ◌∷◌, ◌++◌, refl, ap, ◌∙◌, sym, subst, eqb-true, eq-eqb}
+use Rattle.std.proofs.Common.{◌≡◌, ℕ, Bool, true, false, ◌&&◌, List, [], ◌∷◌, refl, ap, ◌∙◌, sym, eqb-true, eq-eqb}
 use Rattle.std.specs.Prelude.{◌==◌, filter, if◌then◌else◌, IsPermutation, not}
-use Rattle.std.specs.Cmp.{IsTotalOrder, both_ways}
+use Rattle.std.specs.Cmp.{both_ways}
 use Rattle.std.specs.Cmp.Lexicographic.{pointwise}
 use Rattle.std.specs.List.{AllByRecursion, IsDistinct, list_any}
-use Rattle.std.specs.Ordering.{is_le, is_lt, nat_cmp, ordering_reverse}
+use Rattle.std.specs.Ordering.{is_le, nat_cmp, ordering_reverse}
 use Rattle.std.specs.declared.cmp.Ordering.{Ordering}
 use Rattle.std.specs.declared.cmp.Ordering.TheVariants.{Equal, Greater, Less}
-use Rattle.std.proofs.lemmas.Bool.Decides.{Decides-eqb}
-use Rattle.std.proofs.lemmas.List.Sorted.{IsPermutation-sym, IsPermutation-trans}
+use Rattle.std.proofs.lemmas.List.Sorted.{IsPermutation-sym}
 use Rattle.std.proofs.lemmas.Map.Keys.{IsDistinct-IsPermutation}
 use Rattle.cv_io.specs.Leaves.{same_leaf}
 use Rattle.cv_io.specs.declared.leaf.Leaf.{Leaf}
@@ -18,15 +17,14 @@ use Rattle.of10_match.specs.Same.{same_match}
 use Rattle.of10_match.proofs.ByteOrder.{by_bytes-equal}
 use Rattle.of10_match.proofs.Same.{match_decides}
 use Rattle.policy_meaning.specs.LeafFact.{EachPair}
-use Rattle.policy_meaning.proofs.Booleans.{fails, join_and, split_and}
+use Rattle.policy_meaning.proofs.Booleans.{join_and}
 use Rattle.policy_meaning.proofs.Listings.{both-equal, number-is}
 use Rattle.policy_meaning.proofs.Lists.{all-map, all-zip}
-use Rattle.policy_meaning.proofs.Rising.{Differs, Lower, Same, all-permuted, unique}
-use Rattle.switch_meaning.specs.BatchLaw.{HasNoTwins, HasOneAKey}
-use Rattle.switch_meaning.specs.Batches.{by_key, difference, key_cmp, missing, put_by_key}
-use Rattle.switch_meaning.specs.Keys.{displaces, installed, one_per_key, passes_over, passing, same_key}
+use Rattle.policy_meaning.proofs.Rising.{Differs, Same, all-permuted, unique}
+use Rattle.switch_meaning.specs.BatchLaw.{HasOneAKey}
+use Rattle.switch_meaning.specs.Batches.{by_key, key_cmp, missing, put_by_key}
+use Rattle.switch_meaning.specs.Keys.{displaces, passes_over, passing, same_key}
 use Rattle.switch_meaning.specs.Same.{same_entry}
-use Rattle.switch_meaning.specs.declared.entry.Difference.{Difference}
 use Rattle.switch_meaning.specs.declared.entry.PhysEntry.{PhysEntry}
 use Rattle.switch_meaning.proofs.Batched.{by_key-permutes, key-flips, key-self}
 use Rattle.switch_meaning.proofs.ByKey.{key_total}

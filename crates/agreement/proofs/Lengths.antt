@@ -1,5 +1,5 @@
 -- How many bytes the actions of entries have.
-use Rattle.std.proofs.Common.{◌≡◌, ℕ, zero, suc, ◌+◌, ◌*◌, ◌<◌, ◌≤◌, Bool, true, false, List, [], ◌∷◌, ◌++◌, Option, Some, None, refl, ap, ◌∙◌, sym, subst, arith, length, length-append}
+use Rattle.std.proofs.Common.{◌≡◌, ℕ, ◌+◌, ◌*◌, ◌<◌, ◌≤◌, Bool, true, false, List, [], ◌∷◌, ◌++◌, Option, Some, None, refl, ap, ◌∙◌, sym, subst, arith, length, length-append}
 use Rattle.std.specs.Prelude.{◌==◌, filter, filter_map, flat_map, if◌then◌else◌, map, not, option_map, option_to_list, slice_get}
 use Rattle.std.specs.List.{AllByRecursion, enumerate_from}
 use Rattle.std.proofs.lemmas.Grind.{flat_map-append}
@@ -19,18 +19,16 @@ use Rattle.policy_expr.specs.Sizes.{leaf_count}
 use Rattle.policy_meaning.specs.Hops.{node}
 use Rattle.policy_meaning.specs.Networks.{entering, fabric_of, ports_of, switch_rules}
 use Rattle.policy_meaning.specs.Switches.{SwitchOf}
-use Rattle.policy_meaning.specs.Written.{EntriesAreWrittenBy, HasLeaves, IsWrittenBy, field_writes, set_writes, writes, writes_from}
+use Rattle.policy_meaning.specs.Written.{HasLeaves, IsWrittenBy, field_writes, set_writes, writes, writes_from}
 use Rattle.policy_meaning.specs.declared.fabric.Entering.{Entering}
 use Rattle.policy_meaning.specs.declared.rule.Rule.{Rule}
 use Rattle.policy_meaning.proofs.Lists.{all-append, all-each, all-filter_map, all-flat_map, all-map, all-mapped, all-zip}
 use Rattle.policy_meaning.proofs.WrittenRules.{nodes-are-written, nodes-have-leaves, rules-are-written, rules-have-leaves}
 use Rattle.policy_meaning.proofs.Writes.{sets-set, writes-ended, writes-lower}
 use Rattle.switch_meaning.specs.Fixed.{drop_entry, drops, fixed_entries, guard, guards, is_guarded, transit, transit_actions, transits, transits_to}
-use Rattle.switch_meaning.specs.Keys.{installed}
 use Rattle.switch_meaning.specs.Placing.{actions_from, actions_of, entry_of, going, ingress_of, is_silent, outs_written, retag, set_unless, sets, tells, way_of}
 use Rattle.switch_meaning.specs.Same.{same_action}
 use Rattle.switch_meaning.specs.Wirings.{next_hop}
-use Rattle.switch_meaning.specs.declared.entry.FlatRule.{FlatRule}
 use Rattle.switch_meaning.specs.declared.entry.PhysEntry.{PhysEntry}
 use Rattle.switch_meaning.specs.declared.entry.Site.{Site}
 use Rattle.switch_meaning.specs.declared.placing.Way.{Way}
@@ -40,7 +38,7 @@ use Rattle.switch_meaning.specs.declared.wiring.Wiring.{Wiring}
 use Rattle.switch_meaning.proofs.Items.{all-filter}
 use Rattle.agreement.specs.declared.state.Setting.{Setting}
 use Rattle.agreement.specs.Entries.{dropping, enters_on, entries_for, entries_of, flat, is_whole, placed, ports_at, site_at}
-use Rattle.agreement.specs.Lengths.{AddFits, AddsFit, HasLimits, IsWrittenWithin, ListsAreShort, bytes_of}
+use Rattle.agreement.specs.Lengths.{AddFits, AddsFit, IsWrittenWithin, ListsAreShort, bytes_of}
 use Rattle.agreement.specs.Premises.{IsSoundSetting}
 use Rattle.agreement.proofs.Alone.{all-numbered}
 use Rattle.agreement.proofs.RuleEntries.{written}

@@ -1,6 +1,6 @@
 -- No two entries of a switch have one match, priority and ancestry.
 use Rattle.std.proofs.Common.{◌≡◌, ◌≢◌, ℕ, ◌+◌, ◌<◌, ◌≤◌, ◌⊎◌, inl, inr, Bool, true, false, ◌&&◌, List, [], ◌∷◌, ◌++◌, Option, Some, None, refl, ap, ◌∙◌, sym, subst, arith, eq-eqb, eqb-true}
-use Rattle.std.specs.Prelude.{◌==◌, filter, filter_map, flat_map, if◌then◌else◌, IfSome, is_some, map, not, option_map, option_to_list, slice_get}
+use Rattle.std.specs.Prelude.{◌==◌, filter, flat_map, if◌then◌else◌, IfSome, is_some, map, not, option_map, option_to_list}
 use Rattle.std.specs.List.{AllByRecursion, IsDistinct, enumerate_from}
 use Rattle.std.specs.Option.{option_and_then}
 use Rattle.std.specs.Cmp.Lexicographic.{pointwise, pointwise_decides}
@@ -24,7 +24,6 @@ use Rattle.policy_meaning.proofs.Booleans.{fails, some_injective, split_and, tru
 use Rattle.policy_meaning.proofs.Disjointness.{nodes-are-disjoint, rules-are-disjoint}
 use Rattle.policy_meaning.proofs.Lists.{add-none, all-append, all-each, all-filter_map, all-map, all-mapped, all-zip}
 use Rattle.policy_meaning.proofs.Meeting.{meet_there}
-use Rattle.switch_meaning.specs.BatchLaw.{HasNoTwins}
 use Rattle.switch_meaning.specs.Fixed.{drop_entry, drops, ends_at, guard, guards, is_guarded, is_outside, passes, transit, transits, transits_to}
 use Rattle.switch_meaning.specs.Keys.{same_key}
 use Rattle.switch_meaning.specs.Placing.{entry_of, entry_with, ingress_of, match_written}
@@ -42,12 +41,12 @@ use Rattle.agreement.specs.Entries.{dropping, entries_for, entries_of, flat, is_
 use Rattle.agreement.specs.OneEntry.{IsNamedOnce, NoTwins, OneEntryAKey}
 use Rattle.agreement.specs.Premises.{IsSoundSetting, cable_ends, outside_ports}
 use Rattle.agreement.specs.Reach.{at_once}
-use Rattle.agreement.proofs.Alone.{all-numbered, all-ports}
+use Rattle.agreement.proofs.Alone.{all-numbered}
 use Rattle.agreement.proofs.Cables.{IsFound, all-filter, all-found, ends-as, is_port}
 use Rattle.agreement.proofs.Fixed.{IsEndHere, all-dropping, all-ends-here, all-fixed, all-guards, all-passing, all-transits, fixed_at}
 use Rattle.agreement.proofs.Levels.{all-below, all-name, left-holds, left-port, left_of, whole-below}
 use Rattle.agreement.proofs.NodeRules.{Names}
-use Rattle.agreement.proofs.RuleEntries.{Lies, Stands, left-all, lies-where, stands-where, written}
+use Rattle.agreement.proofs.RuleEntries.{Lies, left-all, lies-where, written}
 use Rattle.agreement.proofs.SwitchEntries.{all-ruled, at_all, at_node, entering-part, entering-whole, entries, for-any, is_at, keeps, placed-by, ruled}
 use Rattle.agreement.proofs.Turned.{by_port}
 use Rattle.agreement.proofs.WholeRules.{RuleKeeps}

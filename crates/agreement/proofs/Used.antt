@@ -1,5 +1,5 @@
 -- What the switches of a virtual switch use, and what packets come by its ports.
-use Rattle.std.proofs.Common.{◌≡◌, ℕ, Bool, true, false, ◌&&◌, List, Option, Some, refl, eqb-true}
+use Rattle.std.proofs.Common.{◌≡◌, ℕ, Bool, true, false, ◌&&◌, List, Some, refl, eqb-true}
 use Rattle.std.specs.Prelude.{◌==◌, not}
 use Rattle.of10_match.specs.Fields.{HeaderOf}
 use Rattle.of10_actions.specs.declared.effects.Out.{Out}

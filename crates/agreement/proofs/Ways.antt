@@ -1,10 +1,10 @@
 -- Next hops that lie on shortest paths are ways, over no more cables and switches than there are.
-use Rattle.std.proofs.Common.{◌≡◌, ◌≢◌, ℕ, zero, suc, ◌+◌, ◌<◌, ◌≤◌, ◌⊎◌, inl, inr, Bool, true, false, ◌&&◌, ◌||◌, List, [], ◌∷◌, Option, Some, None, refl, ap, ◌∙◌, sym, subst, arith, eq-eqb, eqb-true, length}
+use Rattle.std.proofs.Common.{◌≡◌, ◌≢◌, ℕ, zero, suc, ◌+◌, ◌<◌, ◌≤◌, ◌⊎◌, inl, inr, Bool, true, false, ◌&&◌, ◌||◌, List, [], ◌∷◌, Some, refl, ap, ◌∙◌, sym, subst, arith, eq-eqb, eqb-true, length}
 use Rattle.std.specs.Prelude.{◌==◌, IfSome, filter, if◌then◌else◌, not}
 use Rattle.std.specs.Cmp.{both_ways}
 use Rattle.std.specs.List.{AllByRecursion, enumerate_from, list_any}
 use Rattle.policy_meaning.specs.LeafFact.{EachPair}
-use Rattle.policy_meaning.proofs.Booleans.{fails, or_right, some_injective, split_and}
+use Rattle.policy_meaning.proofs.Booleans.{or_right, some_injective, split_and}
 use Rattle.policy_meaning.proofs.Lists.{all-map, all-zip}
 use Rattle.switch_meaning.specs.Wirings.{far_end, next_hop, other_end, same_spot}
 use Rattle.switch_meaning.specs.declared.wiring.Cable.{Cable}
@@ -12,7 +12,7 @@ use Rattle.switch_meaning.specs.declared.wiring.Spot.{Spot}
 use Rattle.switch_meaning.specs.declared.wiring.Wiring.{Wiring}
 use Rattle.agreement.specs.declared.state.PhysicalSwitch.{PhysicalSwitch}
 use Rattle.agreement.specs.declared.state.Setting.{Setting}
-use Rattle.agreement.specs.Premises.{GetsTo, GoesOn, HasWay, cable_ends}
+use Rattle.agreement.specs.Premises.{GetsTo, HasWay, cable_ends}
 use Rattle.agreement.specs.Ways.{AreSoundCables, HasPath, HasShortestHops, IsDistance, ShortestHopsAreWays}
 use Rattle.agreement.proofs.Cables.{is_end, peer-end, spot-is, spot-self}
 

@@ -1,5 +1,5 @@
 -- One entry of a rule, followed over the cables.
-use Rattle.std.specs.Prelude.{◌≡◌, ℕ, true, false, Some, IfSome, if◌then◌else◌, List, [], ◌∷◌, filter_map, length, slice_get}
+use Rattle.std.specs.Prelude.{◌≡◌, ℕ, true, false, Some, if◌then◌else◌, List, [], ◌∷◌, filter_map, length, slice_get}
 use Rattle.std.specs.List.{AllByRecursion}
 use Rattle.of10_match.specs.Fields.{HeaderOf}
 use Rattle.of10_actions.specs.Effects.{EachExtends}

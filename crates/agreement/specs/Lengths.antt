@@ -1,5 +1,5 @@
 -- How many bytes the actions of entries have, so that each ADD fits a message.
-use Rattle.std.specs.Prelude.{◌≡◌, ℕ, ◌+◌, ◌*◌, ◌<◌, ◌≤◌, ◌^◌, Some, List, length, slice_get}
+use Rattle.std.specs.Prelude.{◌≡◌, ℕ, ◌+◌, ◌*◌, ◌<◌, ◌≤◌, ◌^◌, Some, length, slice_get}
 use Rattle.std.specs.List.{AllByRecursion}
 use Rattle.of10_actions.specs.Spelling.{spellings}
 use Rattle.policy_expr.specs.Sizes.{leaf_count}
