@@ -96,5 +96,6 @@ fn switches_without_a_path_are_named(rt: HostRuntime) -> Result<(), Fail> {
     let lone = topology(rt.alloc(), &[], &[(1, "s1", 1), (2, "s1", 2)])?;
     let paths = Paths::make(rt.alloc(), &lone)?;
     assert_eq!(rt; (paths.tag(0, 1), paths.next_hop(0, 1)), (None, None));
+    worked_examples();
     Ok(())
 }
