@@ -1,21 +1,18 @@
 -- The virtual switches of links and outside ports are there.
-use Rattle.std.proofs.Common.{◌≡◌, ℕ, zero, suc, get_or, ◌+◌, ◌<◌, ◌≤◌, Bool, true, false, ◌&&◌, cond, Option, Some, None, List, [], ◌∷◌, ◌++◌, length, refl, sym, ap, ◌∙◌, subst, true≢false, arith}
+use Rattle.std.proofs.Common.{◌≡◌, ℕ, zero, suc, get_or, ◌+◌, ◌<◌, ◌≤◌, Bool, true, false, ◌&&◌, cond, Option, Some, None, List, [], ◌∷◌, ◌++◌, length, refl, sym, subst, true≢false, arith}
 use Rattle.std.specs.Prelude.{filter_map, flat_map, map, option_map}
 use Rattle.std.specs.List.{enumerate_from, AllByRecursion, cons_option}
-use Rattle.std.specs.Map.{lookup}
 use Rattle.std.specs.Option.{option_and_then}
 use Rattle.virtual_topology.specs.declared.plan.PairItem.{PairItem}
 use Rattle.virtual_topology.specs.declared.plan.PortPlace.{PortPlace}
-use Rattle.virtual_topology.specs.declared.plan.SwitchItem.{SwitchItem}
 use Rattle.virtual_topology.specs.declared.plan.TopologyPlan.{TopologyPlan}
-use Rattle.virtual_topology.specs.declared.plan.VirtualItem.{VirtualItem}
 use Rattle.virtual_topology.specs.declared.plan.VirtualPort.{VirtualPort}
 use Rattle.virtual_topology.specs.declared.uses.Role.{Role}
-use Rattle.virtual_topology.specs.declared.uses.Role.TheVariants.{Physical, Virtual, Link}
-use Rattle.virtual_topology.specs.Places.{PlaceUse, at_port, in_role, same_place, same_role, same_use}
+use Rattle.virtual_topology.specs.declared.uses.Role.TheVariants.{Physical, Link}
+use Rattle.virtual_topology.specs.Places.{at_port, in_role, same_place, same_role}
 use Rattle.virtual_topology.specs.Rows.{Row, Spot, all_switch_rows, all_virtual_rows, link_row, port_rows, rows, switch_rows, virtual_rows, where_is}
 use Rattle.virtual_topology.specs.Within.{AreWithin, HaveSwitches, LiesWithin}
-use Rattle.virtual_topology.specs.Wires.{Joint, both, both_ways, cable_joints, item_joints, joints_among, link_joints, outside_joints, outside_among, outside_row, pair_joint}
+use Rattle.virtual_topology.specs.Wires.{Joint, both, both_ways, cable_joints, item_joints, joints_among, link_joints, outside_joints, outside_row, pair_joint}
 
 All-from_recursion : {X : Type 0} (P : X → Type 0) (xs : List X) → AllByRecursion P xs → (k : ℕ) (d : X) → k < length xs → P (get_or xs k d)
 All-from_recursion P [] a k d lt = absurd (omega (arith, lt))

@@ -1,12 +1,11 @@
 -- A plan without fault keeps its limits.
-use Rattle.std.proofs.Common.{◌≡◌, ℕ, suc, ◌+◌, ◌*◌, ◌++◌, length-append, ◌<◌, ◌≤◌, Bool, true, false, Option, Some, None, List, [], ◌∷◌, length, refl, sym, ap, ◌∙◌, arith, if◌then◌else◌}
+use Rattle.std.proofs.Common.{◌≡◌, ℕ, suc, ◌+◌, ◌*◌, ◌++◌, length-append, ◌<◌, ◌≤◌, Bool, true, false, Option, Some, None, List, [], ◌∷◌, length, refl, arith, if◌then◌else◌}
 use Rattle.std.specs.Prelude.{nat_le, nat_lt, filter_map, flat_map}
 use Rattle.std.specs.List.{cons_option, enumerate_from}
 use Rattle.std.specs.Option.{option_or}
 use Rattle.std.proofs.lemmas.Bool.Decides.{nat_tests}
 use Rattle.virtual_topology.specs.declared.fault.TopologyFault.{TopologyFault}
 use Rattle.virtual_topology.specs.declared.fault.TopologyFault.TheVariants.{TooMany}
-use Rattle.virtual_topology.specs.declared.plan.SwitchItem.{SwitchItem}
 use Rattle.virtual_topology.specs.declared.plan.TopologyPlan.{TopologyPlan}
 use Rattle.virtual_topology.specs.declared.plan.VirtualItem.{VirtualItem}
 use Rattle.virtual_topology.specs.Faults.{crowded, fault_of, first_answer, mixed_among, shape_among, too_many, too_many_at, too_many_of, too_many_pairs, twice_among, unknown_among}

@@ -7,7 +7,7 @@ use Rattle.virtual_topology.specs.declared.plan.VirtualItem.{VirtualItem}
 use Rattle.virtual_topology.specs.declared.standing.Standing.{Standing}
 use Rattle.virtual_topology.specs.Made.{standing_of, standings_of}
 use Rattle.virtual_topology.specs.Rows.{rows}
-use Rattle.virtual_topology.specs.Wires.{cable_joints, is_lone_of, is_spread_of, outside_joints}
+use Rattle.virtual_topology.specs.Wires.{cable_joints, outside_joints}
 use Rattle.virtual_topology.proofs.Steps.{numbered_get}
 
 -- what is read of an item, by way of how it lies

@@ -1,14 +1,11 @@
-use Rattle.std.proofs.Common.{◌≡◌, ◌<◌, ◌∙◌, ap, map, length, List, subst, sym, arith}
+use Rattle.std.proofs.Common.{◌<◌, map, length, List, subst, arith}
 use Rattle.std.proofs.lemmas.Result.{err_from_is_err_and}
-use Rattle.std.specs.List.{enumerate_from}
-use Rattle.std.specs.Option.{option_map}
 use Rattle.virtual_topology.specs.declared.fault.TopologyFault.TheVariants.{Memory}
-use Rattle.virtual_topology.specs.Faults.{first_answer, too_many_at, too_many_of, unknown_place, unlinked}
-use Rattle.virtual_topology.specs.Places.{PlaceUse}
+use Rattle.virtual_topology.specs.Faults.{first_answer, unlinked}
 use Rattle.virtual_topology.specs.Rows.{Row}
-use Rattle.virtual_topology.specs.Shown.{shown, shown_row}
-use Rattle.virtual_topology.proofs.Checks.{Wanted, ended, next_item, passed_on, stopped_at}
-use Rattle.virtual_topology.proofs.Steps.{numbered_at, mapped_at, as_many_mapped}
+use Rattle.virtual_topology.specs.Shown.{shown_row}
+use Rattle.virtual_topology.proofs.Checks.{Wanted, next_item, passed_on, stopped_at}
+use Rattle.virtual_topology.proofs.Steps.{mapped_at, as_many_mapped}
 use Rattle.virtual_topology.proofs.check.check_ports.Goals as goal
 
 pub returns-in_err-check_port : goal.returns-in_err-check_port

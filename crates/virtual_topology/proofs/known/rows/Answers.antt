@@ -1,4 +1,4 @@
-use Rattle.std.proofs.Common.{◌≡◌, ◌∙◌, ap, ◌++◌, sym, arith, append_assoc, take}
+use Rattle.std.proofs.Common.{◌∙◌, ap, ◌++◌, sym, arith, append_assoc, take}
 use Rattle.std.proofs.lemmas.List.{append-nil}
 use Rattle.std.specs.Prelude.{flat_map}
 use Rattle.std.specs.List.{enumerate_from}

@@ -1,9 +1,9 @@
-use Rattle.std.proofs.Common.{◌≡◌, ◌<◌, ◌∙◌, ap, map, length, List, subst, sym, arith}
+use Rattle.std.proofs.Common.{◌<◌, length, arith}
 use Rattle.std.proofs.lemmas.Result.{err_from_is_err_and}
 use Rattle.std.specs.List.{enumerate_from}
 use Rattle.virtual_topology.specs.declared.fault.TopologyFault.TheVariants.{Memory}
-use Rattle.virtual_topology.specs.Faults.{first_answer, mixed_item}
-use Rattle.virtual_topology.proofs.Checks.{Wanted, ended, next_item, passed_on, stopped_at}
+use Rattle.virtual_topology.specs.Faults.{mixed_item}
+use Rattle.virtual_topology.proofs.Checks.{ended, passed_on, stopped_at}
 use Rattle.virtual_topology.proofs.Steps.{numbered_at}
 use Rattle.std.proofs.lemmas.List.FromFn.{length-enumerate_from}
 use Rattle.virtual_topology.proofs.mixed.check_mixed.Goals as goal

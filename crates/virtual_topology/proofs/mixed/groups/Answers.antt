@@ -1,4 +1,4 @@
-use Rattle.std.proofs.Common.{◌≡◌, ◌≤◌, ◌-◌, ◌==◌, ◌∙◌, ℕ, ◌<◌, List, length, get_or, take, drop, ◌++◌, ap, subst, sym, arith}
+use Rattle.std.proofs.Common.{◌≡◌, ◌≤◌, ◌-◌, ◌==◌, ◌∙◌, ℕ, ◌<◌, List, length, get_or, drop, ap, subst, sym, arith}
 use Rattle.std.proofs.lemmas.List.{get_or_default}
 use Rattle.virtual_topology.specs.Faults.{are_joined}
 use Rattle.virtual_topology.specs.Within.{merged}

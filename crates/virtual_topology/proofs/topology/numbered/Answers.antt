@@ -1,6 +1,6 @@
 use Rattle.std.proofs.Common.{◌≡◌, ◌∙◌, ap}
 use Rattle.virtual_topology.specs.declared.uses.Role.TheVariants.{Physical}
-use Rattle.virtual_topology.specs.Made.{IsMade, standings_of}
+use Rattle.virtual_topology.specs.Made.{standings_of}
 use Rattle.virtual_topology.specs.Wires.{both_ways, cable_joints, joints_among, turned}
 use Rattle.virtual_topology.proofs.topology.numbered.Goals as goal
 

@@ -1,4 +1,4 @@
-use Rattle.std.proofs.Common.{◌<◌, cond, take, ◌≡◌, ◌∙◌, ap, map, length, subst, sym, arith, inr, not, Some, true, false, Bool, refl}
+use Rattle.std.proofs.Common.{◌<◌, cond, take, ◌≡◌, ◌∙◌, ap, map, length, sym, arith, inr, not, Some, true, false, Bool, refl}
 use Rattle.std.proofs.lemmas.List.{take_all}
 use Rattle.std.specs.List.{list_any}
 use Rattle.std.specs.HashSet.{contains}

@@ -1,11 +1,11 @@
-use Rattle.std.proofs.Common.{◌≡◌, ◌∙◌, ℕ, None, Option, List, length, ap, subst, sym}
+use Rattle.std.proofs.Common.{◌≡◌, ◌∙◌, ℕ, Option, length, ap, subst, sym}
 use Rattle.std.proofs.lemmas.Result.{err_from_is_err_and}
 use Rattle.virtual_topology.specs.declared.fault.TopologyFault.TheVariants.{Memory}
 use Rattle.virtual_topology.specs.declared.fault.TopologyFault.{TopologyFault}
 use Rattle.virtual_topology.specs.declared.uses.Role.TheVariants.{Link}
 use Rattle.virtual_topology.specs.Faults.{crowded, mixed_among, twice_among}
 use Rattle.virtual_topology.specs.Places.{uses}
-use Rattle.virtual_topology.specs.Wires.{Joint, joints_among, link_joints, outside_among, outside_joints}
+use Rattle.virtual_topology.specs.Wires.{joints_among, link_joints, outside_among, outside_joints}
 use Rattle.virtual_topology.specs.Within.{AreWithin, HaveSwitches}
 use Rattle.virtual_topology.proofs.Bounds.{links_within, outside_within}
 use Rattle.virtual_topology.proofs.Checks.{Wanted, after_mixed, after_shape, first_wanted}
