@@ -15,7 +15,7 @@ returns-in_err-check_place c =
     let i = c.loop-place.place-index in
     let lt : i < length xs = omega (arith, as_many_mapped shown c.list-place-items.result.now, c.loop-place-test.true) in
     rw (p.1, p.2) (subst (λ (ys : List PlaceUse). Wanted Memory c.in_err-check_place.field-0.0 (first_answer (unknown_place c.args.known.now) ys)) c.list-place-items.ensures
-        (stopped_at Memory (unknown_place c.args.known.now) xs i (shown c.place-item.result) _ (next_item xs i _ lt (mapped_at shown c.list-place-items.result.now i c.place-item.result c.loop-place-test.true c.place-item.is)) c.in_err-check_place.ensures c.loop-place.invariant))
+    (stopped_at Memory (unknown_place c.args.known.now) xs i (shown c.place-item.result) _ (next_item xs i _ lt (mapped_at shown c.list-place-items.result.now i c.place-item.result c.loop-place-test.true c.place-item.is)) c.in_err-check_place.ensures c.loop-place.invariant))
 
 pub loop-place-preserved : goal.loop-place-preserved
 loop-place-preserved c =

@@ -3,4 +3,3 @@ use Rattle.virtual_topology.proofs.mixed.numbers.Given as goal
 
 abbrev pub invariant-loop-number : goal.invariant-loop-number
 invariant-loop-number l = (length l.numbers.items ≡ l.number) × ((k : ℕ) → k < l.number → get_or l.numbers.items k 0 ≡ k)
-

@@ -4,4 +4,3 @@ use Rattle.virtual_topology.proofs.wires.turned.Given as goal
 
 abbrev pub invariant-loop-joint : goal.invariant-loop-joint
 invariant-loop-joint l = l.turned.items ≡ turned (take l.joint-index l.joints)
-
