@@ -1,5 +1,5 @@
 -- Layers, distances and leads.
-use Rattle.std.proofs.Common.{◌≡◌, ℕ, suc, ◌+◌, ◌-◌, ◌<◌, ◌≤◌, ◌==◌, ◌&&◌, ◌||◌, Bool, true, false, cond, Option, Some, None, List, [], ◌∷◌, length, get_or, drop, refl, sym, ap, ◌∙◌, eqb-true, arith, if◌then◌else◌}
+use Rattle.std.proofs.Common.{◌≡◌, ℕ, suc, ◌+◌, ◌-◌, ◌<◌, ◌≤◌, ◌==◌, ◌&&◌, ◌||◌, Bool, true, false, Option, Some, None, List, [], ◌∷◌, length, get_or, drop, refl, sym, ap, ◌∙◌, eqb-true, arith, if◌then◌else◌}
 use Rattle.std.specs.Prelude.{filter_map, option_map}
 use Rattle.std.specs.List.{cons_option, list_any}
 use Rattle.std.proofs.lemmas.List.{drop_more}
@@ -53,5 +53,5 @@ pub hop_is : (plan : TopologyPlan) (from to : ℕ) → (from ≡ to → ⊥) →
     → option_map (λ (l : Lead). l.1) o ≡ hop_between plan from to
 hop_is plan from to ne distances row ways are within o e =
     ap (option_map (λ (l : Lead). l.1)) (e ∙ (ap nearest (leads_same (λ s. get_or distances s None) (λ s. distance plan s to) (length plan.switches) from row.each ways within)
-        ∙ ap (λ ws. nearest (filter_map (lead_by (λ s. distance plan s to) from) ws)) are))
+    ∙ ap (λ ws. nearest (filter_map (lead_by (λ s. distance plan s to) from) ws)) are))
     ∙ sym (ap (λ (b : Bool). if b then None else option_map (λ (l : Lead). l.1) (nearest (filter_map (lead_by (λ s. distance plan s to) from) (ways_of plan)))) (apart from to ne))

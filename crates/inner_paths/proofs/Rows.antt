@@ -31,7 +31,7 @@ table_more count k f table row t r = record {
     choose : (to : ℕ) → (to ≡ k) ⊎ (to < k) → IsRow count (f to) (get_or (table ++ row ∷ []) to [])
     choose to (inl same) =
         subst (λ n. IsRow count (f n) (get_or (table ++ row ∷ []) n [])) (sym same)
-            (subst (λ n. IsRow count (f k) (get_or (table ++ row ∷ []) n [])) t.whole (subst (IsRow count (f k)) (sym (last table row [])) r))
+        (subst (λ n. IsRow count (f k) (get_or (table ++ row ∷ []) n [])) t.whole (subst (IsRow count (f k)) (sym (last table row [])) r))
     choose to (inr below) = subst (IsRow count (f to)) (sym (kept table (row ∷ []) to [] (subst (λ n. to < n) (sym t.whole) below))) (t.each to below)
 
     by : (to : ℕ) → to ≤ k → IsRow count (f to) (get_or (table ++ row ∷ []) to [])

@@ -4,7 +4,7 @@ use Rattle.std.specs.Prelude.{filter_map, is_some}
 use Rattle.std.specs.List.{cons_option}
 use Rattle.std.specs.Map.{lookup}
 use Rattle.virtual_topology.specs.declared.plan.TopologyPlan.{TopologyPlan}
-use Rattle.virtual_topology.specs.Rows.{Spot, same_spot}
+use Rattle.virtual_topology.specs.Rows.{same_spot}
 use Rattle.virtual_topology.specs.Wires.{Joint, is_spread_of, outside_joints}
 use Rattle.inner_paths.specs.Tags.{place_of, tag_of, tag_row, tag_rows}
 

@@ -6,5 +6,4 @@ pub fn worked_examples()
     ensures hops { HopsLead }
     ensures tags { TagsCount }
     ensures cut { CutIsNamed }
-{
-}
+{}

@@ -1,13 +1,9 @@
-use Rattle.std.proofs.Common.{◌≡◌, ◌<◌, ◌∙◌, ℕ, None, Option, length, List, ap, subst, sym, arith}
+use Rattle.std.proofs.Common.{◌≡◌, ◌<◌, ◌∙◌, length, ap, subst, sym, arith}
 use Rattle.std.proofs.lemmas.Result.{err_from_is_err_and}
-use Rattle.std.proofs.lemmas.List.FromFn.{length-enumerate_from}
-use Rattle.std.specs.List.{enumerate_from, range_with_len}
-use Rattle.virtual_topology.specs.declared.plan.SwitchItem.{SwitchItem}
-use Rattle.virtual_topology.specs.Faults.{first_answer}
-use Rattle.virtual_topology.proofs.Checks.{Wanted, ended, passed_on, stopped_at}
-use Rattle.virtual_topology.proofs.Steps.{numbered_at}
+use Rattle.std.specs.List.{range_with_len}
+use Rattle.virtual_topology.proofs.Checks.{ended, passed_on, stopped_at}
 use Rattle.inner_paths.specs.declared.fault.PathFault.TheVariants.{Memory}
-use Rattle.inner_paths.specs.Cuts.{cut_between, cut_from, cut_of}
+use Rattle.inner_paths.specs.Cuts.{cut_of}
 use Rattle.virtual_topology.specs.declared.plan.TopologyPlan.{TopologyPlan}
 use Rattle.inner_paths.proofs.Rows.{range_at, range_long}
 use Rattle.inner_paths.proofs.cut.check_reach.Goals as goal
@@ -18,7 +14,7 @@ returns-in_err-check_virtual c =
     let n = length c.args.topology.now.virtuals in
     let all : c.len-count.result ≡ n = c.len-count.ensures ∙ ap (λ (plan : TopologyPlan). length plan.virtuals) c.plan.ensures.plan in
     rw (p.1, p.2) (stopped_at Memory (cut_of c.args.topology.now) (range_with_len 0 n) c.loop-v.v c.loop-v.v _
-        (range_at n c.loop-v.v (subst (λ k. c.loop-v.v < k) all c.loop-v-test.true)) c.in_err-check_virtual.ensures c.loop-v.invariant)
+    (range_at n c.loop-v.v (subst (λ k. c.loop-v.v < k) all c.loop-v-test.true)) c.in_err-check_virtual.ensures c.loop-v.invariant)
 
 pub loop-v-preserved : goal.loop-v-preserved
 loop-v-preserved c =

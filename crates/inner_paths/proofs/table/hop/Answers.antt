@@ -1,8 +1,4 @@
-use Rattle.std.proofs.Common.{◌≡◌, ◌∙◌, Option, Some, None, List, length, ap, sym}
-use Rattle.std.specs.Prelude.{filter_map}
-use Rattle.virtual_topology.specs.Wires.{Joint}
-use Rattle.inner_paths.specs.Distances.{distance, ways_of}
-use Rattle.inner_paths.specs.Hops.{Lead, lead_by, nearest}
+use Rattle.std.proofs.Common.{◌∙◌, Some, None, sym}
 use Rattle.inner_paths.proofs.Leads.{hop_is}
 use Rattle.inner_paths.proofs.table.hop.Goals as goal
 
@@ -14,4 +10,4 @@ returns-in_err-port c =
 pub returns : goal.returns
 returns c =
     hop_is c.args.topology.now c.args.from c.args.to c.if-from-to.false c.args.distances.now c.requires c.cable_ways.result.now c.cable_ways.ensures.ways c.cable_ways.ensures.within
-        (Some (c.in_ok-port.field-0-0, c.in_ok-port.port)) (sym c.in_ok-port.was ∙ c.nearest.ensures)
+    (Some (c.in_ok-port.field-0-0, c.in_ok-port.port)) (sym c.in_ok-port.was ∙ c.nearest.ensures)
