@@ -1,6 +1,6 @@
 //! The table that a switch is to have, from scratch.
-ghost use Rattle.std.specs.Prelude.{◌≡◌, ◌<◌, ◌^◌, ◌++◌, IfOk, OnOk, Some, flat_map, length, slice_get};
-ghost use Rattle.std.specs.List.{AllByRecursion, enumerate_from};
+ghost use Rattle.std.specs.Prelude.{◌≡◌, ◌<◌, ◌^◌, ◌++◌, IfOk, OnOk, Some, length, slice_get};
+ghost use Rattle.std.specs.List.{AllByRecursion};
 ghost use Rattle.agreement.specs.Entries as spec;
 ghost use Rattle.agreement.specs.Fitting.{IsFittingSetting};
 ghost use Rattle.agreement.specs.Lengths.{AddFits, HasLimits};
@@ -74,16 +74,17 @@ fn dropping(alloc: Global, setting: &Setting, switch: u32) -> Result<List<PhysEn
     }
 }
 
-/// The entries of the virtual switches on a switch.
-fn virtual_entries(alloc: Global, setting: &Setting, switch: u32) -> Result<List<PhysEntry>, Memory>
+/// The entries of each virtual switch, and those that don't hang on tables.
+fn all_entries(alloc: Global, setting: &Setting, switch: u32) -> Result<List<PhysEntry>, Memory>
     requires { IsFittingSetting setting.now }
-    ensures { IfOk result (λ entries. entries ≡
-        flat_map (spec.entries_for setting.now switch) (enumerate_from 0 setting.now.network.switches)) }
+    ensures { IfOk result (λ entries. entries ≡ spec.entries_of setting.now switch) }
 {
     let mut entries = List::new(alloc);
     for (v, x) in setting.network.switches.as_slice().iter().enumerate() {
         add_entries_for(alloc, &mut entries, setting, switch, v as u32, x)?;
     }
+    entries.append(fixed_entries(alloc, &setting.wiring, switch)?)?;
+    entries.append(dropping(alloc, setting, switch)?)?;
     Ok(entries)
 }
 
@@ -95,10 +96,7 @@ pub fn entries_of(alloc: Global, setting: &Setting, switch: u32) -> Result<List<
     ensures from_scratch { IfOk result (λ entries. entries ≡ spec.entries_of setting.now switch) }
     ensures short { IsSoundSetting setting.now → HasLimits setting.now → IfOk result (AllByRecursion AddFits) }
 {
-    let mut entries = virtual_entries(alloc, setting, switch)?;
-    entries.append(fixed_entries(alloc, &setting.wiring, switch)?)?;
-    entries.append(dropping(alloc, setting, switch)?)?;
-    Ok(entries)
+    all_entries(alloc, setting, switch)
 }
 
 /// The table that a switch is to have: of the entries that are put on it one for each key, without

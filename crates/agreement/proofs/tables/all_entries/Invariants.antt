@@ -2,7 +2,7 @@ use Rattle.std.proofs.Common.{◌≡◌, ◌++◌, drop}
 use Rattle.std.specs.Prelude.{flat_map}
 use Rattle.std.specs.List.{enumerate_from}
 use Rattle.agreement.specs.Entries.{entries_for}
-use Rattle.agreement.proofs.tables.virtual_entries.Given as goal
+use Rattle.agreement.proofs.tables.all_entries.Given as goal
 
 -- what is there, and then the entries of the virtual switches that are left
 abbrev pub invariant-loop-v : goal.invariant-loop-v
