@@ -99,7 +99,7 @@ exchange_follows new es old items once same x p = by (find (is_at (identity_of n
     by None f x r = let a = x p in let b = same p in omega (arith, a, b, r)
     by (Some y) f x r =
         let a = x p in
-        let b = same_left (λ i. not (has_id y.serial i)) old (filter (λ i. not (has_id y.serial i)) old) es same (λ q. refl) p in
+        let b : count_by p (filter (λ i. not (has_id y.serial i)) old) ≡ count_by p (map ranked_of (filter (λ z. not (has_serial y.serial z)) es)) = same_left (λ i. not (has_id y.serial i)) old (filter (λ i. not (has_id y.serial i)) old) es same (λ q. refl) p in
         let own = found_has (λ z. find (has_serial z.serial) es ≡ Some z) (is_at (identity_of new)) es y (each_found ◌==◌ Decides-eqb (λ z. z.serial) es once) f in
         let c = count_dropped p y.serial es y (once_key ◌==◌ Decides-eqb (λ z. z.serial) y.serial es once) own in
         omega (arith, a, b, c, r)

@@ -2,8 +2,6 @@
 use Rattle.std.proofs.Common.{◌≡◌, ℕ, zero, suc, ◌<◌, ◌≤◌, ◌-◌, ◌+◌, ◌==◌, ne_eqb, eqb-true, true≢false, lt-ltb, ltb-true, ltb-false, Bool, true, false, ◌||◌, ◌&&◌, List, [], ◌∷◌, length, get_or, insert, remove, take, drop, refl, sym, ap, ◌∙◌, arith, nat_lt, nat_le, eq-eqb, le-leb, leb-true, le-ltb, le_refl, le_trans}
 use Rattle.std.specs.List.{list_any, AllByRecursion, AllWithin}
 use Rattle.std.specs.List.Sorted.{IsPartitionedBy}
-use Rattle.std.proofs.lemmas.List.{take-append-drop}
-use Rattle.std.proofs.lemmas.List.Folds.{list_any-append, drop_split}
 use Rattle.member_table.specs.InsideRanking.{RanksFall}
 
 pub each_at : {X : Type 0} (P : X → Type 0) (xs : List X) → AllByRecursion P xs → (j : ℕ) (d : X) → j < length xs → P (get_or xs j d)
@@ -92,27 +90,37 @@ rank_between (x ∷ xs) rank (suc above) (suc here) l m a b c d =
     let other : (rank == x) ≡ false = ne_eqb rank x (λ e. absurd (omega arith)) in
     rw other (lt_suc above here ∙ rank_between xs rank above here (omega arith) (omega arith) a.1 b c.1 d)
 
--- the first that isn't above a rank is that rank, if it is there
-pub first_is : (xs : List ℕ) (rank start : ℕ) → RanksFall xs → AllByRecursion (λ r. rank + 1 ≤ r) (take start xs) → AllByRecursion (λ r. r < rank + 1) (drop start xs)
-    → list_any (λ r. rank == r) xs ≡ true → (start < length xs) × (rank ≡ get_or xs start rank)
-first_is [] rank start f a b t = absurd (true≢false (sym t))
-first_is (x ∷ xs) rank zero f a b t = by (rank == x) refl
+-- the last that isn't below a rank is that rank, if it is there
+pub last_is : (xs : List ℕ) (rank end : ℕ) → RanksFall xs → end ≤ length xs → AllByRecursion (λ r. rank ≤ r) (take end xs) → AllByRecursion (λ r. r < rank) (drop end xs)
+    → list_any (λ r. rank == r) xs ≡ true → (0 < end) × ((k : ℕ) → end ≡ k + 1 → rank ≡ get_or xs k rank)
+last_is [] rank end f l a b t = absurd (true≢false (sym t))
+last_is (x ∷ xs) rank zero f l a b t =
+    absurd (true≢false (sym t ∙ none_each (λ r. rank == r) (x ∷ xs) (each_weaker (λ r. r < rank) (λ r. (rank == r) ≡ false) (λ r h. ne_eqb rank r (λ e. absurd (omega arith))) (x ∷ xs) b)))
+last_is (x ∷ xs) rank (suc zero) f l a b t = (omega arith, at)
   where
-    lower : (ys : List ℕ) → AllByRecursion (λ y. y ≤ x) ys → list_any (λ r. rank == r) ys ≡ true → rank ≤ x
-    lower [] c u = absurd (true≢false (sym u))
-    lower (y ∷ ys) c u = here (rank == y) refl
-      where
-        here : (d : Bool) → (rank == y) ≡ d → rank ≤ x
-        here true e = let s = eqb-true rank y e in let l = c.0 in omega (arith, s, l)
-        here false e = lower ys c.1 (sym (ap (λ z. z || list_any (λ r. rank == r) ys) e) ∙ u)
-
-    by : (d : Bool) → (rank == x) ≡ d → (0 < length (x ∷ xs)) × (rank ≡ x)
-    by true e = (omega arith, eqb-true rank x e)
+    by : (c : Bool) → (rank == x) ≡ c → rank ≡ x
+    by true e = eqb-true rank x e
     by false e =
-        let l = lower xs f.0 (sym (ap (λ z. z || list_any (λ r. rank == r) xs) e) ∙ t) in
-        let h = b.0 in (omega arith, omega arith)
-first_is (x ∷ xs) rank (suc start) f a b t =
-    let h = a.0 in
-    let other : (rank == x) ≡ false = ne_eqb rank x (λ e. absurd (omega arith)) in
-    let r = first_is xs rank start f.1 a.1 b (sym (ap (λ z. z || list_any (λ y. rank == y) xs) other) ∙ t) in
-    let l = r.0 in (omega arith, r.1)
+        let none = none_each (λ r. rank == r) xs (each_weaker (λ r. r < rank) (λ r. (rank == r) ≡ false) (λ r h. ne_eqb rank r (λ d. absurd (omega arith))) xs b) in
+        absurd (true≢false (sym t ∙ (ap (λ c. c || list_any (λ r. rank == r) xs) e ∙ none)))
+
+    at : (k : ℕ) → 1 ≡ k + 1 → rank ≡ get_or (x ∷ xs) k rank
+    at zero e = by (rank == x) refl
+    at (suc k) e = absurd (omega arith)
+last_is (x ∷ []) rank (suc (suc end)) f l a b t = absurd (omega arith)
+last_is (x ∷ y ∷ ys) rank (suc (suc end)) f l a b t = (omega arith, at)
+  where
+    by : (c : Bool) → (rank == x) ≡ c → list_any (λ r. rank == r) (y ∷ ys) ≡ true
+    by true e =
+        let s = eqb-true rank x e in
+        let low = a.1.0 in
+        let high = f.0.0 in
+        ap (λ c. c || list_any (λ r. rank == r) ys) (eq-eqb rank y (omega (arith, s, low, high)))
+    by false e = sym (ap (λ c. c || list_any (λ r. rank == r) (y ∷ ys)) e) ∙ t
+
+    later : (0 < suc end) × ((k : ℕ) → suc end ≡ k + 1 → rank ≡ get_or (y ∷ ys) k rank)
+    later = last_is (y ∷ ys) rank (suc end) f.1 (omega arith) a.1 b (by (rank == x) refl)
+
+    at : (k : ℕ) → suc (suc end) ≡ k + 1 → rank ≡ get_or (x ∷ y ∷ ys) k rank
+    at zero e = absurd (omega arith)
+    at (suc k) e = later.1 k (omega arith)

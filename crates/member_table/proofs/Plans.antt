@@ -17,7 +17,6 @@ use Rattle.match_index.specs.Items.{IsLeast}
 use Rattle.match_index.specs.Questions.{is_in_way}
 use Rattle.match_index.specs.declared.item.Item.{Item}
 use Rattle.member_table.specs.InsideRanking.{ranked_of}
-use Rattle.member_table.proofs.Least.{any_alike}
 use Rattle.member_table.specs.Refusals.{least, lesser_of, is_overlapped, overlapped, refusal_by, refusal_of}
 use Rattle.member_table.specs.Sound.{IsSound}
 use Rattle.member_table.specs.Tables.{Held, TableOf, after, after_asked, after_command, deleted, entry_of, identity_in, is_meant, modified, with_actions, with_entry, outputs_to}
@@ -30,9 +29,9 @@ use Rattle.member_table.specs.declared.entry.Entry.{Entry}
 use Rattle.member_table.specs.declared.entry.Identity.{Identity}
 use Rattle.std.proofs.lemmas.List.Sorted.{sum_by-IsPermutation}
 use Rattle.member_table.proofs.Changing.{all_stay, unaltered}
-use Rattle.member_table.proofs.Counts.{same_any}
+use Rattle.match_index.proofs.Counts.{same_any}
 use Rattle.member_table.proofs.Falling.{each_weaker}
-use Rattle.member_table.proofs.Least.{any_stronger, and_true}
+use Rattle.member_table.proofs.Least.{any_alike, any_stronger, and_true}
 use Rattle.member_table.proofs.Lists.{list_any-map, or_false}
 use Rattle.member_table.proofs.Means.{among_passing, filter_alike, map_alike, changed_alike}
 

@@ -1,5 +1,5 @@
 -- The ranks of the matches that come and go.
-use Rattle.std.proofs.Common.{◌≡◌, ℕ, ◌+◌, Bool, true, false, not, cond, ◌||◌, ◌&&◌, ◌==◌, ◌++◌, List, [], ◌∷◌, map, filter, find, refl, sym, ap, ap₂, subst, ◌∙◌, arith, Option, Some, None, count_by, option_map, option_to_list, eq-eqb, eqb-true, nat_lt}
+use Rattle.std.proofs.Common.{◌≡◌, ℕ, ◌+◌, Bool, true, false, not, cond, ◌||◌, ◌&&◌, ◌==◌, ◌++◌, List, [], ◌∷◌, map, filter, find, refl, sym, ap, ap₂, subst, ◌∙◌, arith, Option, Some, None, count_by, option_map, option_to_list, eq-eqb, eqb-true, nat_lt, true≢false}
 use Rattle.std.specs.Prelude.{IsPermutation}
 use Rattle.std.specs.List.{list_any, AllByRecursion, IsDistinct}
 use Rattle.std.specs.Option.{option_eq}
@@ -23,10 +23,10 @@ pub ranked_more : (ranks ranks' : List ℕ) (items : List Item) (x : Item) → A
 ranked_more ranks ranks' items x a f more = record {
   fall = f;
   same = λ p.
-      (let one = more p in
-      let two = a.same p in
-      let three = count-append (λ (r : Item). p r.rank) items (x ∷ []) in
-      let four = count-cons (λ (r : Item). p r.rank) x [] in omega (arith, one, two, three, four));
+      (let grown = more p in
+      let before = a.same p in
+      let split = count-append (λ (r : Item). p r.rank) items (x ∷ []) in
+      let alone = count-cons (λ (r : Item). p r.rank) x [] in omega (arith, grown, before, split, alone));
 }
 
 -- one item less
@@ -37,15 +37,12 @@ ranked_less q rank ranks ranks' items items' a f less found h = record { fall = 
     by : (p : ℕ → Bool) (o : Option Item) → Some rank ≡ option_map (λ (e : Item). e.rank) o → IsPermutation items (option_to_list o ++ items') → count_by p ranks' ≡ count_by (λ (r : Item). p r.rank) items'
     by p None e h = absurd (cc)
     by p (Some x) e h =
-        let one = less p in
-        let two = a.same p in
-        let three = count-permuted (λ (r : Item). p r.rank) items (x ∷ items') h in
-        let four = count-cons (λ (r : Item). p r.rank) x items' in
-        let five = ap (λ n. one_of (p n)) (some_is rank x.rank e) in
-        omega (arith, one, two, three, four, five)
-      where
-        one_of : Bool → ℕ
-        one_of b = one b
+        let fewer = less p in
+        let before = a.same p in
+        let permuted = count-permuted (λ (r : Item). p r.rank) items (x ∷ items') h in
+        let split = count-cons (λ (r : Item). p r.rank) x items' in
+        let same_rank = ap (λ n. one (p n)) (some_is rank x.rank e) in
+        omega (arith, fewer, before, permuted, split, same_rank)
 
 -- the rank of an item that is found is there
 pub rank_there : (q : Item → Bool) (rank : ℕ) (items : List Item) → Some rank ≡ option_map (λ (e : Item). e.rank) (find q items) → list_any (λ (r : Item). rank == r.rank) items ≡ true
@@ -108,13 +105,13 @@ gone_next rest s place all before after n b a p =
     at : (r : Item) → (remains (rest ++ s ∷ []) place r && p r) ≡ (remains rest place r && (not (has_id s r) && p r))
     at r = ap (λ b. b && p r) (sym (one_gone rest s place n r)) ∙ and_and (remains rest place r) (not (has_id s r)) (p r)
 
-    pointwise : (λ r. remains (rest ++ s ∷ []) place r && p r) ≡ (λ r. remains rest place r && (not (has_id s r) && p r))
+    pointwise : ◌≡◌ {A = Item → Bool} (λ r. remains (rest ++ s ∷ []) place r && p r) (λ r. remains rest place r && (not (has_id s r) && p r))
     pointwise i = λ r. at r i
 
 -- the one whose place is taken remains
 pub kept_next : (rest : List ℕ) (s : ℕ) (place : Option ℕ) (all : List Item) → option_eq ◌==◌ place (Some s) ≡ true → filter (remains rest place) all ≡ filter (remains (rest ++ s ∷ []) place) all
-kept_next rest s None all e = absurd (cc)
-kept_next rest s (Some k) all e = ap (λ (t : Item → Bool). filter t all) (λ i. λ r. at r i)
+kept_next rest s None all e = absurd (true≢false (sym e))
+kept_next rest s (Some k) all e = ap (λ (t : Item → Bool). filter t all) pointwise
   where
     both : (a b : Bool) → (not a || b) ≡ (not (a || b) || b)
     both true true = refl
@@ -124,3 +121,6 @@ kept_next rest s (Some k) all e = ap (λ (t : Item → Bool). filter t all) (λ 
 
     at : (r : Item) → remains rest (Some k) r ≡ remains (rest ++ s ∷ []) (Some k) r
     at r = both (is_among rest r.id) (k == r.id) ∙ (ap (λ n. not (is_among rest r.id || (n == r.id)) || (k == r.id)) (eqb-true k s e) ∙ sym (named_more rest s (Some k) r))
+
+    pointwise : ◌≡◌ {A = Item → Bool} (remains rest (Some k)) (remains (rest ++ s ∷ []) (Some k))
+    pointwise i = λ r. at r i

@@ -35,8 +35,8 @@ pub fn forget(ranks: &mut Vec<u32>, rank: u32)
     ensures length { vec_len ranks.new ≤ vec_len ranks.old }
     ensures capacity { vec_capacity ranks.new ≡ vec_capacity ranks.old }
 {
-    let at = count_from(ranks, u64::from(rank) + 1);
-    ranks.remove(at);
+    let end = count_from(ranks, u64::from(rank));
+    ranks.remove(end - 1);
 }
 
 /// Whether the rank is there.
