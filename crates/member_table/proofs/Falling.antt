@@ -108,7 +108,7 @@ last_is (x ∷ xs) rank (suc zero) f l a b t = (omega arith, at)
     at zero e = by (rank == x) refl
     at (suc k) e = absurd (omega arith)
 last_is (x ∷ []) rank (suc (suc end)) f l a b t = absurd (omega arith)
-last_is (x ∷ y ∷ ys) rank (suc (suc end)) f l a b t = (omega arith, at)
+last_is (x ∷ y ∷ ys) rank (suc (suc end)) f l a b t = (omega arith, at (last_is (y ∷ ys) rank (suc end) f.1 (omega arith) a.1 b (by (rank == x) refl)).1)
   where
     by : (c : Bool) → (rank == x) ≡ c → list_any (λ r. rank == r) (y ∷ ys) ≡ true
     by true e =
@@ -118,9 +118,6 @@ last_is (x ∷ y ∷ ys) rank (suc (suc end)) f l a b t = (omega arith, at)
         ap (λ c. c || list_any (λ r. rank == r) ys) (eq-eqb rank y (omega (arith, s, low, high)))
     by false e = sym (ap (λ c. c || list_any (λ r. rank == r) (y ∷ ys)) e) ∙ t
 
-    later : (0 < suc end) × ((k : ℕ) → suc end ≡ k + 1 → rank ≡ get_or (y ∷ ys) k rank)
-    later = last_is (y ∷ ys) rank (suc end) f.1 (omega arith) a.1 b (by (rank == x) refl)
-
-    at : (k : ℕ) → suc (suc end) ≡ k + 1 → rank ≡ get_or (x ∷ y ∷ ys) k rank
-    at zero e = absurd (omega arith)
-    at (suc k) e = later.1 k (omega arith)
+    at : ((k : ℕ) → suc end ≡ k + 1 → rank ≡ get_or (y ∷ ys) k rank) → (k : ℕ) → suc (suc end) ≡ k + 1 → rank ≡ get_or (x ∷ y ∷ ys) k rank
+    at later zero e = absurd (omega arith)
+    at later (suc k) e = later k (omega arith)

@@ -1,5 +1,5 @@
 -- The ranks of the matches that come and go.
-use Rattle.std.proofs.Common.{◌≡◌, ℕ, ◌+◌, Bool, true, false, not, cond, ◌||◌, ◌&&◌, ◌==◌, ◌++◌, List, [], ◌∷◌, map, filter, find, refl, sym, ap, ap₂, subst, ◌∙◌, arith, Option, Some, None, count_by, option_map, option_to_list, eq-eqb, eqb-true, nat_lt, true≢false}
+use Rattle.std.proofs.Common.{◌≡◌, ℕ, ◌+◌, Bool, true, false, not, cond, ◌||◌, ◌&&◌, ◌==◌, ◌++◌, List, [], ◌∷◌, map, filter, find, refl, sym, ap, ap₂, subst, ◌∙◌, arith, Option, Some, None, count_by, option_map, option_to_list, eq-eqb, eqb-true, nat_lt, true≢false, zero, suc, length, take, get_or, ◌<◌}
 use Rattle.std.specs.Prelude.{IsPermutation}
 use Rattle.std.specs.List.{list_any, AllByRecursion, IsDistinct}
 use Rattle.std.specs.Option.{option_eq}
@@ -12,7 +12,7 @@ use Rattle.member_table.specs.InsideRanking.{AddsTo, AreRanked, RanksFall, remai
 use Rattle.member_table.proofs.Changing.{not_number}
 use Rattle.member_table.proofs.Counts.{count-filter, same_filter, some_is}
 use Rattle.member_table.proofs.Least.{push_any}
-use Rattle.member_table.proofs.Lists.{IsOnce}
+use Rattle.member_table.proofs.Lists.{IsOnce, take_pushed}
 
 -- a test of ranks passes where it does on the items
 pub any_ranked : (p : ℕ → Bool) (ranks : List ℕ) (items : List Item) → AreRanked ranks items → list_any p ranks ≡ list_any (λ (r : Item). p r.rank) items
@@ -124,3 +124,37 @@ kept_next rest s (Some k) all e = ap (λ (t : Item → Bool). filter t all) poin
 
     pointwise : ◌≡◌ {A = Item → Bool} (remains rest (Some k)) (remains (rest ++ s ∷ []) (Some k))
     pointwise i = λ r. at r i
+
+take_next : (xs : List ℕ) (i d : ℕ) → i < length xs → take (i + 1) xs ≡ take i xs ++ get_or xs i d ∷ []
+take_next xs i d h = take_pushed xs i (get_or xs i d) h (got xs i d h)
+  where
+    got : (ys : List ℕ) (j e : ℕ) → j < length ys → get_or ys j e ≡ get_or ys j (get_or ys j e)
+    got [] j e h = absurd (omega arith)
+    got (y ∷ ys) zero e h = refl
+    got (y ∷ ys) (suc j) e h = same ys j e (get_or ys j e) (omega arith)
+      where
+        same : (zs : List ℕ) (k a b : ℕ) → k < length zs → get_or zs k a ≡ get_or zs k b
+        same [] k a b h = absurd (omega arith)
+        same (z ∷ zs) zero a b h = refl
+        same (z ∷ zs) (suc k) a b h = same zs k a b (omega arith)
+
+not_true : (b : Bool) → not b ≡ true → b ≡ false
+not_true true e = sym e
+not_true false e = refl
+
+not_false : (b : Bool) → not b ≡ false → b ≡ true
+not_false true e = refl
+not_false false e = sym e
+
+-- the next of the numbers goes
+pub goes_next : (serials : List ℕ) (i d : ℕ) (place : Option ℕ) (all before after : List Item) → i < length serials → not (option_eq ◌==◌ place (Some (get_or serials i d))) ≡ true
+    → SameItems (filter (remains (take i serials) place) all) before → SameItems (filter (λ r. not (has_id (get_or serials i d) r)) before) after → SameItems (filter (remains (take (i + 1) serials) place) all) after
+goes_next serials i d place all before after h n b a =
+    let S : List ℕ → Type 0 = λ ss. SameItems (filter (remains ss place) all) after in
+    subst S (sym (take_next serials i d h)) (gone_next (take i serials) (get_or serials i d) place all before after (not_true _ n) b a)
+
+-- or it is that of the place that is taken
+pub stays_next : (serials : List ℕ) (i d : ℕ) (place : Option ℕ) (all before : List Item) → i < length serials → not (option_eq ◌==◌ place (Some (get_or serials i d))) ≡ false
+    → SameItems (filter (remains (take i serials) place) all) before → SameItems (filter (remains (take (i + 1) serials) place) all) before
+stays_next serials i d place all before h n b p =
+    ap (λ ss. count_by p (filter (remains ss place) all)) (take_next serials i d h) ∙ (ap (count_by p) (sym (kept_next (take i serials) (get_or serials i d) place all (not_false _ n))) ∙ b p)

@@ -1,6 +1,7 @@
-use Rattle.std.proofs.Common.{◌≡◌, ◌∙◌, sym, subst, filter, not, false}
+use Rattle.std.proofs.Common.{◌≡◌, ◌∙◌, sym, subst, filter, not, false, Bool}
 use Rattle.std.specs.List.{list_any}
 use Rattle.match_index.specs.Items.{has_id}
+use Rattle.match_index.specs.declared.item.Item.{Item}
 use Rattle.match_index.proofs.Counts.{same_any}
 use Rattle.member_table.specs.InsideRanking.{RanksOf}
 use Rattle.member_table.proofs.Counts.{none_left}
@@ -14,7 +15,7 @@ insert-requires-clause-new_id c =
     let Q : RanksOf → Type 0 = λ o. list_any q o.items ≡ false in
     elim c.match-replaced.branch [
       | in-Some w ↦
-          let g = λ r. not (has_id w.in-Some.old.serial r) in
+          let g : Item → Bool = λ r. not (has_id w.in-Some.old.serial r) in
           subst Q (sym w.self-is) (sym (same_any (filter g items) w.remove.new.self.items w.remove.ensures.items q) ∙ none_left q g items c.requires.new_id)
       | in_default w ↦ subst Q (sym w.self-is) c.requires.new_id
     ]
