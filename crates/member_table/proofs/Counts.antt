@@ -1,5 +1,5 @@
 -- The ranking has the matches of the entries, each as often.
-use Rattle.std.proofs.Common.{◌≡◌, ℕ, ◌+◌, Bool, true, false, not, cond, ◌||◌, List, [], ◌∷◌, map, filter, find, refl, sym, ap, subst, ◌∙◌, arith, if◌then◌else◌, Option, Some, None, count_by, ◌==◌, ◌&&◌, ◌++◌, zero-add, option_to_list}
+use Rattle.std.proofs.Common.{◌≡◌, ℕ, ◌+◌, Bool, true, false, not, cond, List, [], ◌∷◌, map, filter, find, refl, sym, ap, subst, ◌∙◌, arith, Option, Some, None, count_by, ◌==◌, ◌&&◌, ◌++◌, zero-add, option_to_list}
 use Rattle.std.specs.Prelude.{IsPermutation}
 use Rattle.std.specs.List.{list_any, IsDistinct}
 use Rattle.std.proofs.lemmas.Bool.Decides.{Decides-eqb}
@@ -7,7 +7,7 @@ use Rattle.member_table.specs.Entries.{identity_of, has_serial, is_at, put}
 use Rattle.match_index.specs.InsideGroups.{SameItems}
 use Rattle.match_index.specs.Items.{has_id}
 use Rattle.match_index.specs.declared.item.Item.{Item}
-use Rattle.match_index.proofs.Counts.{one, count-cons, count-append, count-permuted, any_count, same_any}
+use Rattle.match_index.proofs.Counts.{one, count-cons, count-append, count-permuted}
 use Rattle.member_table.specs.InsideRanking.{ranked_of, Exchanges}
 use Rattle.member_table.specs.declared.entry.Entry.{Entry}
 use Rattle.member_table.proofs.Lists.{IsOnce, filter-none, found_has, or_false}

@@ -1,5 +1,5 @@
 -- Ranks, the highest first.
-use Rattle.std.proofs.Common.{◌≡◌, ℕ, zero, suc, ◌<◌, ◌≤◌, ◌-◌, ◌+◌, ◌==◌, ne_eqb, eqb-true, true≢false, lt-ltb, ltb-true, ltb-false, Bool, true, false, ◌||◌, ◌&&◌, List, [], ◌∷◌, length, get_or, insert, remove, take, drop, refl, sym, ap, ◌∙◌, arith, nat_lt, nat_le, eq-eqb, le-leb, leb-true, le-ltb, le_refl, le_trans}
+use Rattle.std.proofs.Common.{◌≡◌, ℕ, zero, suc, ◌<◌, ◌≤◌, ◌+◌, ◌==◌, ne_eqb, eqb-true, true≢false, lt-ltb, ltb-true, ltb-false, Bool, true, false, ◌||◌, List, [], ◌∷◌, length, get_or, insert, remove, take, drop, refl, sym, ap, ◌∙◌, arith, nat_lt, nat_le, eq-eqb, le-leb, leb-true, le-ltb, le_refl, le_trans}
 use Rattle.std.specs.List.{list_any, AllByRecursion, AllWithin}
 use Rattle.std.specs.List.Sorted.{IsPartitionedBy}
 use Rattle.member_table.specs.InsideRanking.{RanksFall}

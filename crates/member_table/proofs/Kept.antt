@@ -1,7 +1,6 @@
 -- A table is kept whole when its parts change together.
-use Rattle.std.proofs.Common.{◌≡◌, ℕ, ◌<◌, ◌≤◌, ◌+◌, ◌-◌, ◌^◌, ◌&&◌, Bool, true, false, not, List, [], ◌∷◌, map, filter, find, refl, sym, ap, ap₂, subst, ◌∙◌, arith, Some, None, count_by, option_map, is_some, ◌==◌, cond, zero-add}
+use Rattle.std.proofs.Common.{◌≡◌, ℕ, ◌<◌, ◌≤◌, ◌+◌, ◌-◌, ◌^◌, Bool, false, not, List, [], ◌∷◌, map, filter, find, refl, sym, ap, ap₂, subst, ◌∙◌, arith, None, count_by, is_some}
 use Rattle.std.specs.List.{list_any}
-use Rattle.std.proofs.lemmas.Bool.Decides.{Decides-eqb}
 use Rattle.member_table.specs.Entries.{identity_of, has_serial, is_at, put}
 use Rattle.member_table.specs.InsideOrders.{OrderOf}
 use Rattle.match_index.specs.InsideGroups.{SameItems}
@@ -12,7 +11,6 @@ use Rattle.member_table.specs.InsideKept.{IsKept}
 use Rattle.member_table.specs.Tables.{TableOf}
 use Rattle.member_table.specs.declared.entry.Entry.{Entry}
 use Rattle.member_table.proofs.Lists.{any_find, filter-none}
-use Rattle.member_table.proofs.Keyed.{once_key}
 use Rattle.member_table.proofs.Sounds.{sound_map, sound_filter, sound_put, is_blocked}
 use Rattle.member_table.proofs.Counts.{exchange_follows, same_left}
 

@@ -1,5 +1,5 @@
 -- The ranks of the matches that come and go.
-use Rattle.std.proofs.Common.{◌≡◌, ℕ, ◌+◌, Bool, true, false, not, cond, ◌||◌, ◌&&◌, ◌==◌, ◌++◌, List, [], ◌∷◌, map, filter, find, refl, sym, ap, ap₂, subst, ◌∙◌, arith, Option, Some, None, count_by, option_map, option_to_list, eq-eqb, eqb-true, nat_lt, true≢false, zero, suc, length, take, get_or, ◌<◌}
+use Rattle.std.proofs.Common.{◌≡◌, ℕ, ◌+◌, Bool, true, false, not, cond, ◌||◌, ◌&&◌, ◌==◌, ◌++◌, List, [], ◌∷◌, map, filter, find, refl, sym, ap, subst, ◌∙◌, arith, Option, Some, None, count_by, option_map, option_to_list, eq-eqb, eqb-true, nat_lt, true≢false, zero, suc, length, take, get_or, ◌<◌}
 use Rattle.std.specs.Prelude.{IsPermutation}
 use Rattle.std.specs.List.{list_any, AllByRecursion, IsDistinct}
 use Rattle.std.specs.Option.{option_eq}
@@ -10,7 +10,7 @@ use Rattle.match_index.proofs.Counts.{one, any_count, count-append, count-cons, 
 use Rattle.member_table.specs.Changes.{is_among, is_number}
 use Rattle.member_table.specs.InsideRanking.{AddsTo, AreRanked, RanksFall, remains}
 use Rattle.member_table.proofs.Changing.{not_number}
-use Rattle.member_table.proofs.Counts.{count-filter, same_filter, some_is}
+use Rattle.member_table.proofs.Counts.{count-filter, some_is}
 use Rattle.member_table.proofs.Least.{push_any}
 use Rattle.member_table.proofs.Lists.{IsOnce, take_pushed}
 

@@ -6,8 +6,8 @@ ghost use Rattle.match_index.specs.Items.{IsLeast, IsTop, has_id};
 ghost use Rattle.match_index.specs.Questions.{is_holding, is_in_way};
 ghost use Rattle.member_table.specs.InsideRanking.{Exchanges, ranked_of, remains};
 
-use crate::entry::{Entry, Identity};
 use crate::descending::{add, forget, has};
+use crate::entry::{Entry, Identity};
 use cv_io::{Duplicate, Memory};
 use match_index::{Index, Item};
 use of10_match::Header;

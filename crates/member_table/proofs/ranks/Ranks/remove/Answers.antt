@@ -1,4 +1,4 @@
-use Rattle.std.proofs.Common.{◌∙◌, ◌==◌, sym, ap, subst, List, filter, find, not, option_map, is_some, count_by}
+use Rattle.std.proofs.Common.{◌∙◌, ◌==◌, sym, ap, subst, filter, find, not, option_map, count_by}
 use Rattle.match_index.specs.InsideGroups.{SameItems}
 use Rattle.match_index.specs.Items.{has_id}
 use Rattle.match_index.specs.declared.item.Item.{Item}

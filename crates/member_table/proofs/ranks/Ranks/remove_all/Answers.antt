@@ -1,4 +1,4 @@
-use Rattle.std.proofs.Common.{◌≤◌, ◌+◌, ◌∙◌, take, List, sym, ap, subst, count_by, le_refl, le_trans, filter, take_all, arith, ℕ}
+use Rattle.std.proofs.Common.{◌≤◌, ◌+◌, ◌∙◌, take, List, sym, ap, subst, count_by, le_refl, le_trans, filter, take_all, ℕ}
 use Rattle.match_index.specs.InsideGroups.{SameItems}
 use Rattle.member_table.specs.InsideRanking.{RanksOf, remains}
 use Rattle.member_table.proofs.Ranking.{all_remain, goes_next, stays_next}
@@ -17,17 +17,17 @@ loop-serial-preserved c =
     let kept = c.loop-serial.invariant.room in
     elim c.if-ne.branch [
       | then-ne w ↦ record {
-          items =
-              (let S : RanksOf → Type 0 = λ o. SameItems (filter (remains (take (i + 1) serials) c.args.place) all) o.items in
-              subst S (sym w.self-is) (goes_next serials i _ c.args.place all c.loop-serial.self.items w.remove.new.self.items c.loop-serial-test.true (sym c.ne.ensures ∙ w.if-ne.true) c.loop-serial.invariant.items w.remove.ensures.items));
-          room = (let R : RanksOf → Type 0 = λ o. old ≤ o.room in subst R (sym w.self-is) (le_trans kept w.remove.ensures.room));
-        }
+        items =
+            (let S : RanksOf → Type 0 = λ o. SameItems (filter (remains (take (i + 1) serials) c.args.place) all) o.items in
+            subst S (sym w.self-is) (goes_next serials i _ c.args.place all c.loop-serial.self.items w.remove.new.self.items c.loop-serial-test.true (sym c.ne.ensures ∙ w.if-ne.true) c.loop-serial.invariant.items w.remove.ensures.items));
+        room = (let R : RanksOf → Type 0 = λ o. old ≤ o.room in subst R (sym w.self-is) (le_trans kept w.remove.ensures.room));
+      }
       | else-ne w ↦ record {
-          items =
-              (let S : RanksOf → Type 0 = λ o. SameItems (filter (remains (take (i + 1) serials) c.args.place) all) o.items in
-              subst S (sym w.self-is) (stays_next serials i _ c.args.place all c.loop-serial.self.items c.loop-serial-test.true (sym c.ne.ensures ∙ w.if-ne.false) c.loop-serial.invariant.items));
-          room = (let R : RanksOf → Type 0 = λ o. old ≤ o.room in subst R (sym w.self-is) kept);
-        }
+        items =
+            (let S : RanksOf → Type 0 = λ o. SameItems (filter (remains (take (i + 1) serials) c.args.place) all) o.items in
+            subst S (sym w.self-is) (stays_next serials i _ c.args.place all c.loop-serial.self.items c.loop-serial-test.true (sym c.ne.ensures ∙ w.if-ne.false) c.loop-serial.invariant.items));
+        room = (let R : RanksOf → Type 0 = λ o. old ≤ o.room in subst R (sym w.self-is) kept);
+      }
     ]
 
 pub returns-clause-items : goal.returns-clause-items
