@@ -1,5 +1,5 @@
 -- The entry of the highest rank that holds a header.
-use Rattle.std.proofs.Common.{◌≡◌, ℕ, ◌<◌, ◌≤◌, Bool, true, false, ◌||◌, ◌&&◌, ◌==◌, List, [], ◌∷◌, refl, sym, ap, ap₂, subst, ◌∙◌, arith, if◌then◌else◌, true≢false, Option, Some, None, IfSome, nat_lt, eqb-true, eq-eqb, ltb-false, lt-ltb, le-ltb}
+use Rattle.std.proofs.Common.{◌≡◌, ℕ, ◌<◌, ◌≤◌, Bool, true, false, ◌||◌, ◌&&◌, ◌==◌, List, [], ◌∷◌, map, refl, sym, ap, ap₂, subst, ◌∙◌, arith, if◌then◌else◌, true≢false, Option, Some, None, IfSome, nat_lt, eqb-true, eq-eqb, ltb-false, lt-ltb, le-ltb}
 use Rattle.std.specs.List.{list_any, AllByRecursion}
 use Rattle.of10_match.specs.Fields.{HeaderOf}
 use Rattle.of10_match.specs.Matching.{holds, overlaps, both}
@@ -8,8 +8,13 @@ use Rattle.member_table.specs.Best.{best_entry, higher}
 use Rattle.member_table.specs.Entries.{identity_of, is_near}
 use Rattle.member_table.specs.Sound.{AreApart, EachPair}
 use Rattle.member_table.specs.declared.entry.Entry.{Entry}
-use Rattle.member_table.proofs.Lists.{or_false}
-use Rattle.member_table.proofs.Least.{and_true}
+use Rattle.match_index.specs.Items.{IsFirst, is_before, same_item}
+use Rattle.match_index.specs.Questions.{is_holding}
+use Rattle.match_index.specs.declared.item.Item.{Item}
+use Rattle.match_index.proofs.Counts.{item_decides}
+use Rattle.member_table.specs.InsideRanking.{ranked_of}
+use Rattle.member_table.proofs.Lists.{list_any-map, or_false}
+use Rattle.member_table.proofs.Least.{and_true, any_stronger, any_weaker}
 
 -- two matches that hold one header overlap
 meet_there : (d e : Entry) (h : HeaderOf) → holds d.normal h ≡ true → holds e.normal h ≡ true → overlaps e.normal d.normal ≡ true
@@ -103,3 +108,27 @@ best_is h serial rank (e ∷ es) a any none =
 pub best_none : (h : HeaderOf) (es : List Entry) → list_any (λ e. holds e.normal h) es ≡ false → best_entry es h ≡ None
 best_none h [] n = refl
 best_none h (e ∷ es) n = let o = or_false (holds e.normal h) (list_any (λ x. holds x.normal h) es) n in rw o.0 (best_none h es o.1)
+
+-- what the ranking finds first is the best entry
+pub best_top : (h : HeaderOf) (top : Item) (items : List Item) (es : List Entry) → EachPair AreApart es → ((p : Item → Bool) → list_any p items ≡ list_any p (map ranked_of es))
+    → IsFirst (is_holding h) items top → IsBest (best_entry es h) top.id top.rank
+best_top h top items es apart same f = best_is h top.id top.rank es apart there none
+  where
+    passes : (e : Entry) → top ≡ ranked_of e → is_it h top.id top.rank e ≡ true
+    passes e s =
+        let a : holds e.normal h ≡ true = sym (ap (λ (x : Item). holds x.normal h) s) ∙ f.passes in
+        let b = eq-eqb e.serial top.id (sym (ap (λ (x : Item). x.id) s)) in
+        let c = eq-eqb e.rank top.rank (sym (ap (λ (x : Item). x.rank) s)) in
+        rw (a, b, c) refl
+
+    there : list_any (is_it h top.id top.rank) es ≡ true
+    there = any_weaker (λ e. same_item top (ranked_of e)) (is_it h top.id top.rank) (λ e t. passes e ((item_decides top (ranked_of e)).0 t)) es
+        (sym (list_any-map (same_item top) ranked_of es) ∙ (sym (same (same_item top)) ∙ f.there))
+
+    before : (e : Entry) → is_above h top.rank e ≡ true → (is_holding h (ranked_of e) && is_before (ranked_of e) top) ≡ true
+    before e t = let a = and_true (holds e.normal h) (nat_lt top.rank e.rank) t in rw (a.0, a.1) refl
+
+    none : list_any (is_above h top.rank) es ≡ false
+    none =
+        let p : Item → Bool = λ r. is_holding h r && is_before r top in
+        any_stronger (λ e. p (ranked_of e)) (is_above h top.rank) before es (sym (list_any-map p ranked_of es) ∙ (sym (same p) ∙ f.none_before))

@@ -32,7 +32,7 @@ same_some : (k s n : ℕ) → (k == s) ≡ false → (s == n) ≡ true → (b : 
 same_some k s n a b true t = absurd (true≢false (sym (eq-eqb k s (eqb-true k n t ∙ sym (eqb-true s n b))) ∙ a))
 same_some k s n a b false t = t
 
-not_number : (place : Option ℕ) (s n : ℕ) → option_eq ◌==◌ place (Some s) ≡ false → (s == n) ≡ true → is_number place n ≡ false
+pub not_number : (place : Option ℕ) (s n : ℕ) → option_eq ◌==◌ place (Some s) ≡ false → (s == n) ≡ true → is_number place n ≡ false
 not_number None s n a b = refl
 not_number (Some k) s n a b = same_some k s n a b (k == n) refl
 

@@ -4,9 +4,9 @@ pub mod Steps
 pub mod Indexed
 pub mod Falling
 pub mod Least
-pub mod SameRanked
 pub mod Sounds
 pub mod Counts
+pub mod Ranking
 pub mod Staying
 pub mod Kept
 pub mod Bests

@@ -1,5 +1,5 @@
 -- The first of a list that passes a test, and the list without it or with another in its place.
-use Rattle.std.proofs.Common.{◌≡◌, ℕ, zero, suc, ◌<◌, ◌+◌, Bool, true, false, not, cond, ◌||◌, List, [], ◌∷◌, ◌++◌, length, get_or, set, map, filter, find, remove, position, slice_get, Some, None, refl, sym, ap, ◌∙◌, arith, if◌then◌else◌, true≢false, ap₂, take, ◌-◌, swap_remove, length-append, length-set, suc-add, lt-ltb, is_some, option_map, subst, nat_lt, ltb-true, ◌≤◌}
+use Rattle.std.proofs.Common.{◌≡◌, ℕ, zero, suc, ◌<◌, ◌+◌, Bool, true, false, not, cond, ◌||◌, List, [], ◌∷◌, ◌++◌, length, get_or, set, map, filter, find, remove, position, slice_get, Option, Some, None, refl, sym, ap, ◌∙◌, arith, if◌then◌else◌, true≢false, ap₂, take, ◌-◌, swap_remove, length-append, length-set, suc-add, lt-ltb, is_some, option_map, subst, nat_lt, ltb-true, ◌≤◌}
 use Rattle.std.proofs.lemmas.List.{set-append_left}
 use Rattle.std.specs.List.{list_any, position_or_len, AllByRecursion}
 use Rattle.std.proofs.lemmas.List.Quantifiers.{position-Some}
@@ -218,3 +218,11 @@ slice_past [] zero h = refl
 slice_past [] (suc i) h = refl
 slice_past (x ∷ xs) zero h = absurd (omega arith)
 slice_past (x ∷ xs) (suc i) h = slice_past xs i (omega arith)
+
+-- where nothing is found, nothing passes
+pub none_mapped : {X Y : Type 0} (f : X → Y) (p : X → Bool) (xs : List X) → None ≡ option_map f (find p xs) → list_any p xs ≡ false
+none_mapped {X = X} {Y = Y} f p xs e = any_find p xs ∙ by (find p xs) e
+  where
+    by : (o : Option X) → None ≡ option_map f o → is_some o ≡ false
+    by None e = refl
+    by (Some x) e = absurd (cc)

@@ -11,7 +11,12 @@ use Rattle.of10_actions.specs.declared.action.Action.{Action}
 use Rattle.member_table.specs.Changes.{CanAdd, CanCommit, IsInRange, committed, is_among, is_number, stays, changed_by, replaced}
 use Rattle.member_table.specs.Entries.{identity_of, is_at, is_near, put}
 use Rattle.member_table.specs.Planning.{adding, addition, changing, change_asked, change_by_command, change_of, modification, removal, removing}
-use Rattle.member_table.specs.InsideRanking.{IsLeastOf, is_in_way, ranked_of}
+use Rattle.of10_match.specs.Matching.{overlaps}
+use Rattle.of10_match.specs.Same.{same_match}
+use Rattle.match_index.specs.Items.{IsLeast}
+use Rattle.match_index.specs.Questions.{is_in_way}
+use Rattle.match_index.specs.declared.item.Item.{Item}
+use Rattle.member_table.specs.InsideRanking.{ranked_of}
 use Rattle.member_table.specs.Refusals.{least, lesser_of, is_overlapped, overlapped, refusal_by, refusal_of}
 use Rattle.member_table.specs.Sound.{IsSound}
 use Rattle.member_table.specs.Tables.{Held, TableOf, after, after_asked, after_command, deleted, entry_of, identity_in, is_meant, modified, with_actions, with_entry, outputs_to}
@@ -22,12 +27,11 @@ use Rattle.of10_msgs.specs.declared.command.Command.{Command}
 use Rattle.of10_msgs.specs.declared.command.Command.TheVariants.{Add, Modify, ModifyStrict, Delete, DeleteStrict}
 use Rattle.member_table.specs.declared.entry.Entry.{Entry}
 use Rattle.member_table.specs.declared.entry.Identity.{Identity}
-use Rattle.member_table.specs.declared.ranked.Ranked.{Ranked}
 use Rattle.std.proofs.lemmas.List.Sorted.{sum_by-IsPermutation}
 use Rattle.member_table.proofs.Changing.{all_stay, unaltered}
-use Rattle.member_table.proofs.Counts.{same_any}
+use Rattle.match_index.proofs.Counts.{same_any}
 use Rattle.member_table.proofs.Falling.{each_weaker}
-use Rattle.member_table.proofs.Least.{any_stronger, and_true}
+use Rattle.member_table.proofs.Least.{any_alike, any_stronger, and_true}
 use Rattle.member_table.proofs.Lists.{list_any-map, or_false}
 use Rattle.member_table.proofs.Means.{among_passing, filter_alike, map_alike, changed_alike}
 
@@ -135,13 +139,26 @@ least_some s p (e ∷ es) a n =
         ap (λ o. Some (lesser_of e.serial o)) there ∙ ap Some (later e.serial (ltb-false e.serial s (sym (ap (λ b. b && nat_lt e.serial s) t) ∙ h)))
     by false t c q h m r = r (sym (ap (λ x. (x && (e.serial == s)) || list_any (λ z. p z && (z.serial == s)) es) t) ∙ a)
 
+same_in_way : (a b c : Bool) → (a && (b && not c)) ≡ ((a && b) && not (a && c))
+same_in_way true b c = refl
+same_in_way false b c = refl
+
 -- what the ranking finds in the way is what a new entry overlaps
-pub in_way_is : (k : Identity) (es : List Entry) (items : List Ranked) → ((p : Ranked → Bool) → list_any p items ≡ list_any p (map ranked_of es)) → (o : Option ℕ) → IsLeastOf (is_in_way k) items o → overlapped k es ≡ o
-in_way_is k es items same None m = ap least (nothing_passes (is_overlapped k) es (sym (list_any-map (is_in_way k) ranked_of es) ∙ (sym (same (is_in_way k)) ∙ m)))
-in_way_is k es items same (Some s) m =
-    least_some s (is_overlapped k) es
-    (sym (list_any-map (λ r. is_in_way k r && (r.serial == s)) ranked_of es) ∙ (sym (same (λ r. is_in_way k r && (r.serial == s))) ∙ m.0))
-    (sym (list_any-map (λ r. is_in_way k r && nat_lt r.serial s) ranked_of es) ∙ (sym (same (λ r. is_in_way k r && nat_lt r.serial s)) ∙ m.1))
+pub in_way_is : (k : Identity) (es : List Entry) (items : List Item) → ((p : Item → Bool) → list_any p items ≡ list_any p (map ranked_of es)) → (o : Option ℕ) → IsLeast (is_in_way k.rank k.normal) items o → overlapped k es ≡ o
+in_way_is k es items same o m = by o m
+  where
+    alike : (f : Item → Bool) (g : Entry → Bool) → ((e : Entry) → f (ranked_of e) ≡ g e) → list_any f items ≡ list_any g es
+    alike f g h = same f ∙ (list_any-map f ranked_of es ∙ any_alike (λ e. f (ranked_of e)) g h es)
+
+    over : (e : Entry) → is_in_way k.rank k.normal (ranked_of e) ≡ is_overlapped k e
+    over e = same_in_way (k.rank == e.rank) (overlaps k.normal e.normal) (same_match k.normal e.normal)
+
+    by : (o : Option ℕ) → IsLeast (is_in_way k.rank k.normal) items o → overlapped k es ≡ o
+    by None m = ap least (nothing_passes (is_overlapped k) es (sym (alike (is_in_way k.rank k.normal) (is_overlapped k) over) ∙ m))
+    by (Some s) m =
+        least_some s (is_overlapped k) es
+        (sym (alike (λ r. is_in_way k.rank k.normal r && (r.id == s)) (λ e. is_overlapped k e && (e.serial == s)) (λ e. ap (λ b. b && (e.serial == s)) (over e))) ∙ m.there)
+        (sym (alike (λ r. is_in_way k.rank k.normal r && nat_lt r.id s) (λ e. is_overlapped k e && nat_lt e.serial s) (λ e. ap (λ b. b && nat_lt e.serial s) (over e))) ∙ m.none_less)
 
 -- an entry that isn't refused overlaps none
 not_overlapped : (k : Identity) (t : TableOf) → refusal_of k t ≡ None → overlapped k t.entries ≡ None

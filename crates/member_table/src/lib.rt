@@ -6,6 +6,7 @@
 pub mod change;
 mod commit;
 mod copy;
+mod descending;
 mod due;
 pub mod entry;
 pub mod fault;
@@ -14,7 +15,6 @@ mod order;
 mod places;
 mod plan;
 pub mod rank;
-mod ranked;
 mod ranks;
 pub mod table;
 #[cfg(test)]

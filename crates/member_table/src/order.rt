@@ -170,13 +170,6 @@ impl Order {
         self.entries.get(&serial)
     }
 
-    /// Whether an entry has the serial number.
-    pub fn has(&self, serial: u64) -> bool
-        ensures { result ≡ list_any (has_serial serial) self.now.entries }
-    {
-        self.entries.contains_key(&serial)
-    }
-
     /// The entry of an identity.
     pub fn identical(&self, identity: &Identity) -> Option<&Entry>
         ensures { option_copied result ≡ find (is_at identity.now) self.now.entries }

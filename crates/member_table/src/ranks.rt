@@ -1,45 +1,48 @@
-//! The matches of a table's entries, found by their ranks.
-ghost use Rattle.std.specs.Prelude.{◌≡◌, ◌==◌, ◌<◌, ◌≤◌, ◌+◌, [], true, false, MatchOption, IfOk, OnOk, filter, option_map, vec_len, vec_capacity};
+//! The matches of a table's entries, found by what they hold and overlap.
+ghost use Rattle.std.specs.Prelude.{◌≡◌, ◌==◌, ◌<◌, ◌≤◌, ◌+◌, ◌++◌, ◌∷◌, [], not, false, IfOk, OnOk, filter, find, option_map};
 ghost use Rattle.std.specs.List.{list_any};
-ghost use Rattle.std.specs.Option.{ForSome};
-ghost use Rattle.member_table.specs.Entries.{has_serial};
-ghost use Rattle.member_table.specs.InsideRanking.{AddsTo, Exchanges, ranked_of, IsLeastOf, IsTop, holds_it, is_in_way, same_ranked};
+ghost use Rattle.match_index.specs.InsideGroups.{SameItems};
+ghost use Rattle.match_index.specs.Items.{IsLeast, IsTop, has_id};
+ghost use Rattle.match_index.specs.Questions.{is_holding, is_in_way};
+ghost use Rattle.member_table.specs.InsideRanking.{Exchanges, ranked_of, remains};
 
+use crate::descending::{add, forget, has};
 use crate::entry::{Entry, Identity};
-use crate::order::Order;
-use crate::places::place_of;
-use crate::ranked::{Ranked, count_from, first_that_holds, least_in_way};
-use cv_io::Memory;
+use cv_io::{Duplicate, Memory};
+use match_index::{Index, Item};
 use of10_match::Header;
 use std::alloc::Global;
 use std::marker::Model;
 
-/// The matches of a table's entries, the highest rank first. Those of one rank stand together, so a
-/// new entry is held against them alone, and a header against no more than it must. An insertion or a
-/// removal moves what stands behind it.
-#[derive(Drop, Debug)]
+/// What the ranking keeps of an entry: its rank and its match, under its serial number.
+pub fn item_of(entry: &Entry) -> Item
+    ensures { result ≡ ranked_of entry.now }
+{
+    Item {
+        id: entry.serial,
+        rank: entry.rank,
+        normal: entry.normal,
+    }
+}
+
+/// The matches of a table's entries under their serial numbers. An index finds those that hold a
+/// header or overlap a match; a list of the ranks alone tells which ranks there are.
+#[derive(Drop)]
 pub struct Ranks {
-    items: Vec<Ranked>,
+    index: Index,
+    /// The ranks of the matches, each as often, the highest first.
+    ranks: Vec<u32>,
 }
 
 impl Model for Ranks {
-    ghost use Rattle.std.specs.Prelude.{◌-◌, vec_len, vec_capacity};
-    ghost use Rattle.member_table.specs.InsideRanking.{RanksOf, RanksFall};
+    ghost use Rattle.std.specs.Prelude.{◌-◌, min, vec_len, vec_capacity};
+    ghost use Rattle.member_table.specs.InsideRanking.{AreRanked, RanksOf};
 
     ghost Value = { RanksOf };
 
-    ghost view = { λ a. record { items = a.items.items; room = vec_capacity a.items - vec_len a.items } };
+    ghost view = { λ a. record { items = a.index.items; room = min a.index.room (vec_capacity a.ranks - vec_len a.ranks) } };
 
-    ghost invariant = { λ a. RanksFall a.items.items };
-}
-
-/// Keeps what an order has the entries of.
-fn keep_items(items: &mut Vec<Ranked>, order: &Order)
-    ensures items { items.new.items ≡ filter (λ r. list_any (has_serial r.serial) order.now.entries) items.old.items }
-    ensures length { vec_len items.new ≤ vec_len items.old }
-    ensures capacity { vec_capacity items.new ≡ vec_capacity items.old }
-{
-    items.retain(|item| order.has(item.serial));
+    ghost invariant = { λ a. AreRanked a.ranks.items a.index.items };
 }
 
 impl Ranks {
@@ -47,7 +50,8 @@ impl Ranks {
         ensures { result.items ≡ [] }
     {
         Ranks {
-            items: Vec::new(alloc),
+            index: Index::new(alloc),
+            ranks: Vec::new(alloc),
         }
     }
 
@@ -56,7 +60,8 @@ impl Ranks {
         ensures { IfOk result (λ copied. copied.items ≡ self.now.items) }
     {
         Ok(Ranks {
-            items: Vec::from_slice(alloc, &self.items)?,
+            index: self.index.copy()?,
+            ranks: Vec::from_slice(alloc, &self.ranks)?,
         })
     }
 
@@ -66,75 +71,88 @@ impl Ranks {
         ensures room { OnOk result (more ≤ self.new.room) }
         ensures kept { self.old.room ≤ self.new.room }
     {
-        self.items.reserve(more)?;
+        self.index.reserve(more)?;
+        self.ranks.reserve(more)?;
         Ok(())
     }
 
-    /// Adds a match after those of its rank.
-    pub fn insert(&mut self, item: Ranked)
-        requires { 0 < self.old.room }
-        ensures items { AddsTo item self.old.items self.new.items }
+    /// Adds a match under a new serial number.
+    pub fn insert(&mut self, item: &Item)
+        requires room { 0 < self.old.room }
+        requires new_id { list_any (has_id item.now.id) self.old.items ≡ false }
+        ensures items { self.new.items ≡ self.old.items ++ item.now ∷ [] }
         ensures room { self.old.room ≤ self.new.room + 1 }
     {
-        let at = count_from(&self.items, u64::from(item.identity.rank));
-        self.items.insert(at, item).unwrap();
+        self.index.put(item.id, item.rank, &item.normal);
+        add(&mut self.ranks, item.rank);
     }
 
-    /// Takes a match out.
-    pub fn remove(&mut self, item: &Ranked)
-        requires { list_any (same_ranked item.now) self.old.items ≡ true }
-        ensures items { AddsTo item.now self.new.items self.old.items }
+    /// The rank of the match of a serial number.
+    fn rank(&self, serial: u64) -> Option<u32>
+        ensures { result ≡ option_map (λ e. e.rank) (find (has_id serial) self.now.items) }
+    {
+        match self.index.get(serial) {
+            Some(item) => Some(item.rank),
+            None => None,
+        }
+    }
+
+    /// Takes the match of a serial number out, where it is there.
+    pub fn remove(&mut self, serial: u64)
+        ensures items { SameItems (filter (λ r. not (has_id serial r)) self.old.items) self.new.items }
         ensures room { self.old.room ≤ self.new.room }
     {
-        let start = count_from(&self.items, u64::from(item.identity.rank) + 1);
-        if let Some(offset) = place_of(&self.items[start..], item) {
-            self.items.remove(start + offset);
+        // The proof learns that no two have one serial number.
+        let _ = self.index.len();
+        if let Some(rank) = self.rank(serial) {
+            self.index.remove(serial);
+            forget(&mut self.ranks, rank);
         }
     }
 
     /// Adds the match of an entry, and takes out that of the entry that it replaces.
-    pub fn exchange(&mut self, replaced: Option<Entry>, item: Ranked)
+    pub fn exchange(&mut self, replaced: Option<Entry>, item: &Item)
         requires room { 0 < self.old.room }
-        requires there { ForSome replaced (λ e. list_any (same_ranked (ranked_of e)) self.old.items ≡ true) }
-        ensures items { Exchanges (option_map ranked_of replaced) item self.old.items self.new.items }
+        requires new_id { list_any (has_id item.now.id) self.old.items ≡ false }
+        ensures items { Exchanges replaced item.now self.old.items self.new.items }
         ensures room { self.old.room ≤ self.new.room + 1 }
     {
         if let Some(old) = replaced {
-            self.remove(&Ranked::of(&old));
+            self.remove(old.serial);
         }
         self.insert(item);
     }
 
-    /// Keeps the matches of the entries that an order has.
-    pub fn keep(&mut self, order: &Order)
-        ensures items { self.new.items ≡ filter (λ r. list_any (has_serial r.serial) order.now.entries) self.old.items }
+    /// Takes out the matches of these serial numbers, but the one whose place is taken.
+    pub fn remove_all(&mut self, serials: &[u64], place: Option<u64>)
+        ensures items { SameItems (filter (remains serials.now place) self.old.items) self.new.items }
         ensures room { self.old.room ≤ self.new.room }
     {
-        keep_items(&mut self.items, order);
+        for serial in serials {
+            if place != Some(*serial) {
+                self.remove(*serial);
+            }
+        }
     }
 
     /// Whether a match has the rank.
     pub fn has(&self, rank: u32) -> bool
-        ensures { result ≡ list_any (λ r. rank == r.identity.rank) self.now.items }
+        ensures { result ≡ list_any (λ r. rank == r.rank) self.now.items }
     {
-        let rank = u64::from(rank);
-        count_from(&self.items, rank + 1) < count_from(&self.items, rank)
+        has(&self.ranks, rank)
     }
 
     /// The least serial number of a match that overlaps a new one of its rank and isn't the same.
     pub fn in_way(&self, new: &Identity) -> Option<u64>
-        ensures { IsLeastOf (is_in_way new.now) self.now.items result }
+        ensures { IsLeast (is_in_way new.now.rank new.now.normal) self.now.items result }
     {
-        let rank = u64::from(new.rank);
-        let start = count_from(&self.items, rank + 1);
-        let end = count_from(&self.items, rank);
-        least_in_way(&self.items[start..end], new)
+        self.index.first_in_way(new.rank, &new.normal)
     }
 
     /// The match of the highest rank that holds the header.
-    pub fn highest(&self, header: &Header) -> Option<&Ranked>
-        ensures { MatchOption result (list_any (holds_it header.now) self.now.items ≡ false) (λ top. IsTop (holds_it header.now) self.now.items top.now) }
+    pub fn highest(&self, header: &Header) -> Option<Item>
+        ensures { IsTop (is_holding header.now) self.now.items result }
     {
-        first_that_holds(&self.items, header)
+        self.index.best(header)
     }
 }

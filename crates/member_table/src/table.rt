@@ -6,8 +6,7 @@ ghost use Rattle.std.specs.Option.{option_copied};
 use crate::change::Modified;
 use crate::entry::Entry;
 use crate::order::Order;
-use crate::ranked::Ranked;
-use crate::ranks::Ranks;
+use crate::ranks::{Ranks, item_of};
 use cv_io::List;
 use of10_match::Header;
 use std::alloc::Global;
@@ -89,7 +88,7 @@ impl Table {
         ensures { result ≡ option_map (λ e. e.serial) (best_entry self.now.table.entries header.now) }
     {
         match self.ranks.highest(header) {
-            Some(top) => Some(top.serial),
+            Some(top) => Some(top.id),
             None => None,
         }
     }
@@ -109,7 +108,7 @@ impl Table {
     {
         match self.order.remove(serial) {
             Some(entry) => {
-                self.ranks.remove(&Ranked::of(&entry));
+                self.ranks.remove(entry.serial);
                 true
             }
             None => false,
@@ -130,8 +129,8 @@ impl Table {
         ensures table { self.new.table ≡ record self.old.table { entries = filter (stays serials place) self.old.table.entries } }
         ensures room { self.new.room ≡ self.old.room }
     {
+        self.ranks.remove_all(serials.as_slice(), place);
         self.order.remove_all(serials, place);
-        self.ranks.keep(&self.order);
     }
 
     /// Gives an entry other actions, where it is there.
@@ -150,9 +149,9 @@ impl Table {
         ensures table { self.new.table ≡ record self.old.table { entries = put_of entry self.old.table.entries; next = self.old.table.next + 1 } }
         ensures room { self.new.room + 1 ≡ self.old.room }
     {
-        let ranked = Ranked::of(&entry);
+        let item = item_of(&entry);
         let replaced = self.order.put(entry);
-        self.ranks.exchange(replaced, ranked);
+        self.ranks.exchange(replaced, &item);
         self.next += 1;
         self.room -= 1;
     }

@@ -5,7 +5,7 @@ use Rattle.member_table.specs.Refusals.{overlapped, refusal_by, refusal_of}
 use Rattle.member_table.specs.Tables.{TableOf}
 use Rattle.member_table.specs.declared.entry.Identity.{Identity}
 use Rattle.member_table.specs.declared.fault.TableFault.TheVariants.{Entries}
-use Rattle.member_table.proofs.Counts.{same_any}
+use Rattle.match_index.proofs.Counts.{same_any}
 use Rattle.member_table.proofs.Kept.{table_of}
 use Rattle.member_table.proofs.Lists.{any_find}
 use Rattle.member_table.proofs.Plans.{in_way_is}

@@ -1,22 +1,19 @@
-use Rattle.std.proofs.Common.{◌≡◌, ◌∙◌, sym, ap, is_some, true, subst}
+use Rattle.std.proofs.Common.{◌∙◌, ℕ, sym, ap, is_some, subst, eqb-true, filter, not}
+use Rattle.match_index.specs.InsideGroups.{SameItems}
+use Rattle.match_index.specs.Items.{has_id}
 use Rattle.std.specs.List.{list_any}
 use Rattle.member_table.specs.Entries.{has_serial}
-use Rattle.member_table.specs.InsideRanking.{AddsTo, same_ranked}
-use Rattle.member_table.specs.declared.ranked.Ranked.{Ranked}
-use Rattle.member_table.proofs.Lists.{any_find}
-use Rattle.member_table.proofs.Kept.{kept_drop, kept_none, found_ranked}
+use Rattle.member_table.proofs.Lists.{any_find, found_passes}
+use Rattle.member_table.proofs.Kept.{kept_filter, kept_none}
 use Rattle.member_table.proofs.table.Table.drop_serial.Goals as goal
-
-pub remove-requires-in-Some : goal.remove-requires-in-Some
-remove-requires-in-Some c =
-    let P : Ranked → Type 0 = λ r. list_any (same_ranked r) c.self.inside.ranks.items ≡ true in
-    subst P (sym c.of.ensures) (found_ranked (has_serial c.args.serial) c.self.inside.next c.self.inside.limit c.self.inside.room c.self.inside.order c.self.inside.ranks c.in-Some.entry c.self.invariant c.in-Some.ensures.removed)
 
 pub invariant_of-self : goal.invariant_of-self
 invariant_of-self c =
-    let A : Ranked → Type 0 = λ r. AddsTo r c.remove-in-Some.new.self.items c.self.inside.ranks.items in
-    kept_drop c.args.serial c.self.inside.next c.self.inside.limit c.self.inside.room c.self.inside.order _ c.self.inside.ranks _ c.in-Some.entry c.self.invariant c.remove.ensures.entries c.remove.ensures.room c.in-Some.ensures.removed
-    (subst A c.of.ensures c.remove-in-Some.ensures.items) c.remove-in-Some.ensures.room
+    let items = c.self.inside.ranks.items in
+    let own = eqb-true c.args.serial c.in-Some.entry.serial (found_passes (has_serial c.args.serial) c.self.inside.order.entries c.in-Some.entry (sym c.in-Some.ensures.removed)) in
+    let S : ℕ → Type 0 = λ s. SameItems (filter (λ r. not (has_id s r)) items) c.remove-in-Some.new.self.items in
+    kept_filter (λ r. not (has_id c.args.serial r)) c.self.inside.next c.self.inside.limit c.self.inside.room c.self.inside.order _ c.self.inside.ranks _ c.self.invariant c.remove.ensures.entries c.remove.ensures.room
+    (subst S (sym own) c.remove-in-Some.ensures.items) c.remove-in-Some.ensures.room
 
 pub invariant_of-self-in-None : goal.invariant_of-self-in-None
 invariant_of-self-in-None c = kept_none c.args.serial c.self.inside.next c.self.inside.limit c.self.inside.room c.self.inside.order _ c.self.inside.ranks c.self.invariant c.remove.ensures.entries c.remove.ensures.room c.in-None.ensures.removed
