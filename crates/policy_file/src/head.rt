@@ -1,0 +1,97 @@
+//! The top keys.
+use crate::fault::PolicyFault;
+use crate::keys::{ItemKind, Version};
+use crate::listed::version_of;
+use crate::section::Section;
+use crate::values::{address, number};
+use cv_io::{Memory, Text};
+use std::alloc::Global;
+use toml::{Table, Value};
+
+/// Where switches connect, if the file doesn't say.
+const LISTEN: &str = "127.0.0.1:6633";
+
+/// What the top keys say.
+#[derive(Drop)]
+pub(crate) struct Head {
+    pub(crate) version: Version,
+    pub(crate) hops: u32,
+    pub(crate) listen: Text,
+    pub(crate) standby: Option<Text>,
+    pub(crate) rounds: u32,
+}
+
+/// A number in a range; what stands if the key is absent.
+pub(crate) fn number_or(
+    table: &Table,
+    key: &str,
+    least: u32,
+    greatest: u32,
+    absent: u32,
+) -> Option<u32> {
+    match table.get(key) {
+        Some(value) => number(value, least, greatest),
+        None => Some(absent),
+    }
+}
+
+/// An address of the network; what stands if the key is absent.
+pub(crate) fn address_or(
+    alloc: Global,
+    table: &Table,
+    key: &str,
+    absent: &str,
+) -> Result<Option<Text>, Memory> {
+    match table.get(key) {
+        Some(value) => address(alloc, value),
+        None => crate::values::ascii(alloc, absent),
+    }
+}
+
+/// The address of a second proxy, if there is one: Some(None) where the key is absent.
+fn standby(alloc: Global, file: &Table) -> Result<Option<Option<Text>>, Memory> {
+    match file.get("standby") {
+        Some(value) => Ok(address(alloc, value)?.map(Some)),
+        None => Ok(Some(None)),
+    }
+}
+
+/// Whether a value is a list of tables.
+fn lists_tables(value: &Value) -> bool {
+    match value {
+        Value::Array(items) => items.iter().all(Value::is_table),
+        _ => false,
+    }
+}
+
+/// A top key of items lists tables, if it stands.
+fn check_kind(alloc: Global, file: &Table, kind: ItemKind) -> Result<(), PolicyFault> {
+    let listed = match file.get(kind.key()) {
+        Some(value) if !lists_tables(value) => None,
+        _ => Some(()),
+    };
+    Section::Top.found(alloc, kind.key(), listed)
+}
+
+/// The top keys, each looked at in the order of their bytes.
+pub(crate) fn read_head(alloc: Global, file: &Table) -> Result<Head, PolicyFault> {
+    let top = Section::Top;
+    check_kind(alloc, file, ItemKind::Cable)?;
+    let hops = top.found(alloc, "hops", number_or(file, "hops", 1, 4, 4))?;
+    check_kind(alloc, file, ItemKind::Link)?;
+    let listen = top.found(alloc, "listen", address_or(alloc, file, "listen", LISTEN)?)?;
+    check_kind(alloc, file, ItemKind::Member)?;
+    let rounds = number_or(file, "rounds", 1, 1_000_000, 1_000);
+    let rounds = top.found(alloc, "rounds", rounds)?;
+    let standby = top.found(alloc, "standby", standby(alloc, file)?)?;
+    check_kind(alloc, file, ItemKind::Switch)?;
+    let version = top.found(alloc, "version", version_of(file))?;
+    check_kind(alloc, file, ItemKind::Virtual)?;
+    Ok(Head {
+        version,
+        hops,
+        listen,
+        standby,
+        rounds,
+    })
+}

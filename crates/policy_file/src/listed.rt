@@ -1,0 +1,124 @@
+//! Keys that aren't listed, and keys that are missing.
+use crate::fault::PolicyFault;
+use crate::keys::{ITEM_KINDS, ItemKind, KeyRow, Version};
+use crate::section::Section;
+use std::alloc::Global;
+use toml::{Table, Value};
+
+/// The version that a file is in, if it names one.
+pub(crate) fn version_of(file: &Table) -> Option<Version> {
+    match file.get("version") {
+        Some(Value::Integer(1)) => Some(Version::One),
+        Some(Value::Integer(2)) => Some(Version::Two),
+        _ => None,
+    }
+}
+
+/// The items of a kind.
+pub(crate) fn items(file: &Table, kind: ItemKind) -> &[Value] {
+    match file.get(kind.key()) {
+        Some(Value::Array(items)) => items,
+        _ => &[],
+    }
+}
+
+/// Whether a key may stand in a version. Where the file names none, both versions' keys may.
+fn may_stand(row: &KeyRow, version: Option<Version>) -> bool {
+    match (row.only, version) {
+        (Some(only), Some(version)) => only == version,
+        _ => true,
+    }
+}
+
+fn is_listed(rows: &[KeyRow], version: Option<Version>, key: &str) -> bool {
+    rows.iter()
+        .any(|row| row.key == key && may_stand(row, version))
+}
+
+/// The keys of a section are listed.
+fn check_listed(
+    alloc: Global,
+    section: Section,
+    version: Option<Version>,
+    table: &Table,
+) -> Result<(), PolicyFault> {
+    for (key, _) in table.iter() {
+        if !is_listed(section.rows(), version, key.as_str()) {
+            return Err(PolicyFault::Key {
+                name: section.name(alloc, key.as_str())?,
+            });
+        }
+    }
+    Ok(())
+}
+
+/// A section has the keys that it has to have.
+fn check_needed(alloc: Global, section: Section, table: &Table) -> Result<(), PolicyFault> {
+    for row in section.rows() {
+        if row.needed && !table.contains_key(row.key) {
+            return Err(PolicyFault::Missing {
+                name: section.name(alloc, row.key)?,
+            });
+        }
+    }
+    Ok(())
+}
+
+/// The keys of an item are listed, if it is a table.
+fn check_item_listed(
+    alloc: Global,
+    section: Section,
+    version: Option<Version>,
+    value: &Value,
+) -> Result<(), PolicyFault> {
+    match value.as_table() {
+        Some(table) => check_listed(alloc, section, version, table),
+        None => Ok(()),
+    }
+}
+
+/// An item has the keys that it has to have, if it is a table.
+fn check_item_needed(alloc: Global, section: Section, value: &Value) -> Result<(), PolicyFault> {
+    match value.as_table() {
+        Some(table) => check_needed(alloc, section, table),
+        None => Ok(()),
+    }
+}
+
+fn check_items_listed(
+    alloc: Global,
+    kind: ItemKind,
+    version: Option<Version>,
+    items: &[Value],
+) -> Result<(), PolicyFault> {
+    for (number, value) in items.iter().enumerate() {
+        check_item_listed(alloc, Section::Item { kind, number }, version, value)?;
+    }
+    Ok(())
+}
+
+fn check_items_needed(alloc: Global, kind: ItemKind, items: &[Value]) -> Result<(), PolicyFault> {
+    for (number, value) in items.iter().enumerate() {
+        check_item_needed(alloc, Section::Item { kind, number }, value)?;
+    }
+    Ok(())
+}
+
+/// The keys of a file are listed.
+pub(crate) fn check_all_listed(alloc: Global, file: &Table) -> Result<(), PolicyFault> {
+    let version = version_of(file);
+    check_listed(alloc, Section::Top, version, file)?;
+    for kind in ITEM_KINDS {
+        check_items_listed(alloc, kind, version, items(file, kind))?;
+    }
+    Ok(())
+}
+
+/// A file has the keys that it has to have.
+pub(crate) fn check_all_needed(alloc: Global, file: &Table) -> Result<(), PolicyFault> {
+    check_needed(alloc, Section::Top, file)?;
+    for kind in ITEM_KINDS {
+        check_items_needed(alloc, kind, items(file, kind))?;
+    }
+    Ok(())
+}

@@ -1,0 +1,187 @@
+//! Regions: boxes of headers, each a table of fields and their values.
+use crate::values::{decimal_within, hexadecimal, number, split_at_first};
+use crate::words::field;
+use cv_io::{List, Memory};
+use grants::Field;
+use of10_match::{Match, Prefix, UNTAGGED};
+use std::alloc::Global;
+use toml::{Table, Value};
+
+/// A region has at most so many boxes.
+const MOST_BOXES: usize = 16;
+
+/// A VLAN number: 0 to 4095, or 65535 for no tag.
+fn vlan(value: &Value) -> Option<u16> {
+    match number(value, 0, 65535) {
+        Some(vlan) if vlan <= 4095 || vlan == u32::from(UNTAGGED) => Some(vlan as u16),
+        _ => None,
+    }
+}
+
+/// A type of service: the upper six bits of a byte.
+fn tos(value: &Value) -> Option<u8> {
+    match number(value, 0, 255) {
+        Some(tos) if tos % 4 == 0 => Some(tos as u8),
+        _ => None,
+    }
+}
+
+fn byte(value: &Value) -> Option<u8> {
+    match number(value, 0, 255) {
+        Some(byte) => Some(byte as u8),
+        None => None,
+    }
+}
+
+fn short(value: &Value) -> Option<u16> {
+    match number(value, 0, 65535) {
+        Some(short) => Some(short as u16),
+        None => None,
+    }
+}
+
+/// An address of Ethernet, as `00:00:00:00:00:01`.
+fn ether(value: &Value) -> Option<u64> {
+    let word = value.as_str()?.as_bytes();
+    if word.len() != 17 {
+        return None;
+    }
+    let mut address: u64 = 0;
+    for (at, byte) in word.iter().enumerate() {
+        if at % 3 == 2 {
+            if *byte != b':' {
+                return None;
+            }
+        } else {
+            let digit = hexadecimal(&[*byte])?;
+            address = (address & 0x0fff_ffff_ffff) * 16 + (digit & 15);
+        }
+    }
+    Some(address)
+}
+
+/// A number below 256, in decimal digits.
+fn octet(digits: &[u8]) -> Option<u32> {
+    decimal_within(digits, 0, 255)
+}
+
+/// The first `len` bits of an address, if the others are zero.
+fn prefix_of(addr: u32, len: u32) -> Option<Prefix> {
+    let beyond = if len < 32 { u32::MAX >> len } else { 0 };
+    if addr & beyond == 0 {
+        Some(Prefix {
+            addr,
+            len: len as u8,
+        })
+    } else {
+        None
+    }
+}
+
+/// A prefix of addresses, as `10.0.0.0/8`, whose further bits are zero.
+fn prefix(value: &Value) -> Option<Prefix> {
+    let (address, bits) = split_at_first(value.as_str()?.as_bytes(), b'/')?;
+    let (first, rest) = split_at_first(address, b'.')?;
+    let (second, rest) = split_at_first(rest, b'.')?;
+    let (third, fourth) = split_at_first(rest, b'.')?;
+    let addr = u32::from_be_bytes([
+        octet(first)? as u8,
+        octet(second)? as u8,
+        octet(third)? as u8,
+        octet(fourth)? as u8,
+    ]);
+    prefix_of(addr, decimal_within(bits, 1, 32)?)
+}
+
+/// The value of a field that a table names: Some(None) where it doesn't, None where it can't be so.
+fn at<T, F: Fn(&Value) -> Option<T>>(table: &Table, field: Field, read: F) -> Option<Option<T>> {
+    match table.get(field.name()) {
+        Some(value) => Some(Some(read(value)?)),
+        None => Some(None),
+    }
+}
+
+/// Whether a region may name a field.
+fn may_name(field: Option<Field>) -> bool {
+    !matches!(field, None | Some(Field::InPort | Field::DlVlanPcp))
+}
+
+/// Whether a region may name each key of a table.
+fn names_fields(table: &Table) -> bool {
+    table.keys().all(|key| may_name(field(key.as_bytes())))
+}
+
+/// The fields of a table.
+fn named(table: &Table) -> Option<Match> {
+    Some(Match {
+        in_port: None,
+        dl_src: at(table, Field::DlSrc, ether)?,
+        dl_dst: at(table, Field::DlDst, ether)?,
+        dl_vlan: at(table, Field::DlVlan, vlan)?,
+        dl_vlan_pcp: None,
+        dl_type: at(table, Field::DlType, short)?,
+        nw_tos: at(table, Field::NwTos, tos)?,
+        nw_proto: at(table, Field::NwProto, byte)?,
+        nw_src: at(table, Field::NwSrc, prefix)?,
+        nw_dst: at(table, Field::NwDst, prefix)?,
+        tp_src: at(table, Field::TpSrc, short)?,
+        tp_dst: at(table, Field::TpDst, short)?,
+    })
+}
+
+/// A box: the fields of a table, each with the fields that it needs.
+fn box_of(table: &Table) -> Option<Match> {
+    if !names_fields(table) {
+        return None;
+    }
+    let named = named(table)?;
+    if named.normal() == named {
+        Some(named)
+    } else {
+        None
+    }
+}
+
+/// The one box that holds everything.
+pub(crate) fn everything(alloc: Global) -> Result<List<Match>, Memory> {
+    List::from_slice(alloc, &[Match::everything()])
+}
+
+/// A region of one box.
+pub(crate) fn region(alloc: Global, value: &Value) -> Result<Option<List<Match>>, Memory> {
+    match value.as_table() {
+        Some(table) => match box_of(table) {
+            Some(region) => Ok(Some(List::from_slice(alloc, &[region])?)),
+            None => Ok(None),
+        },
+        None => Ok(None),
+    }
+}
+
+/// A box of a list, if it overlaps none of the earlier ones.
+fn next_box(earlier: &[Match], value: &Value) -> Option<Match> {
+    let next = box_of(value.as_table()?)?;
+    if earlier.iter().any(|other| other.overlaps(&next)) {
+        None
+    } else {
+        Some(next)
+    }
+}
+
+/// A region of 1 to 16 boxes, no two of which overlap.
+pub(crate) fn regions(alloc: Global, value: &Value) -> Result<Option<List<Match>>, Memory> {
+    let Value::Array(items) = value else {
+        return Ok(None);
+    };
+    if items.is_empty() || items.len() > MOST_BOXES {
+        return Ok(None);
+    }
+    let mut boxes = List::new(alloc);
+    for item in items {
+        match next_box(boxes.as_slice(), item) {
+            Some(next) => boxes.push(next)?,
+            None => return Ok(None),
+        }
+    }
+    Ok(Some(boxes))
+}

@@ -1,0 +1,214 @@
+//! Values of keys.
+use cv_io::{Bytes, List, Memory, Text};
+use std::alloc::Global;
+use toml::Value;
+use virtual_topology::{PortPlace, VirtualPort};
+
+/// The greatest number of a port (OpenFlow 1.0, section 5.2.1).
+const GREATEST_PORT: u32 = 0xfeff;
+
+/// A number in a range.
+pub(crate) fn number(value: &Value, least: u32, greatest: u32) -> Option<u32> {
+    match *value {
+        Value::Integer(number) if i64::from(least) <= number && number <= i64::from(greatest) => {
+            Some(number as u32)
+        }
+        _ => None,
+    }
+}
+
+/// A text of ASCII.
+pub(crate) fn ascii(alloc: Global, word: &str) -> Result<Option<Text>, Memory> {
+    Ok(Text::from_bytes(Bytes::from_slice(alloc, word.as_bytes())?).ok())
+}
+
+/// A text that passes a test, which texts beyond ASCII don't.
+fn text_if(alloc: Global, word: &str, fits: bool) -> Result<Option<Text>, Memory> {
+    if fits { ascii(alloc, word) } else { Ok(None) }
+}
+
+fn is_printable(byte: u8) -> bool {
+    byte == b' ' || byte.is_ascii_graphic()
+}
+
+/// Whether it is 1 to 64 bytes of printable ASCII.
+fn is_address(word: &[u8]) -> bool {
+    !word.is_empty() && word.len() <= 64 && word.iter().all(|byte| is_printable(*byte))
+}
+
+/// An address of the network: 1 to 64 bytes of printable ASCII.
+pub(crate) fn address(alloc: Global, value: &Value) -> Result<Option<Text>, Memory> {
+    match value.as_str() {
+        Some(word) => text_if(alloc, word, is_address(word.as_bytes())),
+        None => Ok(None),
+    }
+}
+
+fn is_name_byte(byte: u8) -> bool {
+    byte.is_ascii_lowercase() || byte.is_ascii_digit() || byte == b'_'
+}
+
+/// Whether it is a letter a to z and up to 15 of a to z, 0 to 9 and `_`.
+pub(crate) fn is_name(word: &[u8]) -> bool {
+    match word {
+        [first, rest @ ..] => {
+            first.is_ascii_lowercase()
+                && rest.len() < 16
+                && rest.iter().all(|byte| is_name_byte(*byte))
+        }
+        [] => false,
+    }
+}
+
+/// A name.
+pub(crate) fn name(alloc: Global, value: &Value) -> Result<Option<Text>, Memory> {
+    match value.as_str() {
+        Some(word) => text_if(alloc, word, is_name(word.as_bytes())),
+        None => Ok(None),
+    }
+}
+
+/// A text of ASCII as an expression has; whether it is one is asked later.
+pub(crate) fn expression(alloc: Global, value: &Value) -> Result<Option<Text>, Memory> {
+    match value.as_str() {
+        Some(word) => ascii(alloc, word),
+        None => Ok(None),
+    }
+}
+
+/// The value of a hexadecimal digit, of either case.
+pub(crate) fn digit(byte: u8) -> Option<u8> {
+    match byte {
+        b'0'..=b'9' => Some(byte - b'0'),
+        b'a'..=b'f' => Some(byte - b'a' + 10),
+        b'A'..=b'F' => Some(byte - b'A' + 10),
+        _ => None,
+    }
+}
+
+/// The number of hexadecimal digits, at most 16 of them.
+pub(crate) fn hexadecimal(digits: &[u8]) -> Option<u64> {
+    let mut number: u64 = 0;
+    for byte in digits {
+        let digit = digit(*byte)?;
+        number = (number & 0x0fff_ffff_ffff_ffff) * 16 + u64::from(digit);
+    }
+    Some(number)
+}
+
+/// A datapath id: a text of 16 hexadecimal digits.
+pub(crate) fn dpid(value: &Value) -> Option<u64> {
+    let word = value.as_str()?.as_bytes();
+    if word.len() == 16 {
+        hexadecimal(word)
+    } else {
+        None
+    }
+}
+
+/// The number of decimal digits, at most five of them and without a zero in front.
+pub(crate) fn decimal(digits: &[u8]) -> Option<u32> {
+    if digits.is_empty() || digits.len() > 5 || (digits.len() > 1 && digits[0] == b'0') {
+        return None;
+    }
+    let mut number: u32 = 0;
+    for byte in digits {
+        if !byte.is_ascii_digit() {
+            return None;
+        }
+        number = number * 10 + u32::from(*byte - b'0');
+    }
+    Some(number)
+}
+
+/// A number in a range, in decimal digits.
+pub(crate) fn decimal_within(digits: &[u8], least: u32, greatest: u32) -> Option<u32> {
+    decimal(digits).filter(|number| least <= *number && *number <= greatest)
+}
+
+/// What stands before the first such byte, and what after it.
+pub(crate) fn split_at_first(word: &[u8], byte: u8) -> Option<(&[u8], &[u8])> {
+    let at = word.iter().position(|other| *other == byte)?;
+    Some((&word[..at], &word[at + 1..]))
+}
+
+/// A port of a switch: NAME:PORT, with a PORT up to 65535.
+fn place(alloc: Global, word: &[u8]) -> Result<Option<PortPlace>, Memory> {
+    let Some((name, digits)) = split_at_first(word, b':') else {
+        return Ok(None);
+    };
+    let Some(port) = decimal_within(digits, 0, 0xffff) else {
+        return Ok(None);
+    };
+    if !is_name(name) {
+        return Ok(None);
+    }
+    Ok(
+        Text::from_bytes(Bytes::from_slice(alloc, name)?)
+            .ok()
+            .map(|name| PortPlace {
+                name,
+                port: port as u16,
+            }),
+    )
+}
+
+/// A port of a switch.
+pub(crate) fn port_place(alloc: Global, value: &Value) -> Result<Option<PortPlace>, Memory> {
+    match value.as_str() {
+        Some(word) => place(alloc, word.as_bytes()),
+        None => Ok(None),
+    }
+}
+
+/// A port of a virtual switch: N=SWITCH:PORT or N=link.
+pub(crate) fn virtual_port(alloc: Global, word: &[u8]) -> Result<Option<VirtualPort>, Memory> {
+    let Some((digits, rest)) = split_at_first(word, b'=') else {
+        return Ok(None);
+    };
+    let Some(port) = decimal_within(digits, 1, GREATEST_PORT) else {
+        return Ok(None);
+    };
+    let port = port as u16;
+    if rest == b"link".as_slice() {
+        return Ok(Some(VirtualPort { port, at: None }));
+    }
+    Ok(place(alloc, rest)?.map(|place| VirtualPort {
+        port,
+        at: Some(place),
+    }))
+}
+
+/// The number of a port.
+pub(crate) fn port(value: &Value) -> Option<u16> {
+    match number(value, 1, GREATEST_PORT) {
+        Some(port) => Some(port as u16),
+        None => None,
+    }
+}
+
+/// Whether no two are equal.
+pub(crate) fn are_distinct<T: Ord + Copy>(alloc: Global, items: &[T]) -> Result<bool, Memory> {
+    let mut sorted = Vec::new(alloc);
+    for item in items {
+        sorted.push(*item)?;
+    }
+    sorted.sort()?;
+    Ok((1..sorted.len()).all(|i| sorted[i - 1] != sorted[i]))
+}
+
+/// The numbers of a list of ports, each once.
+pub(crate) fn ports(alloc: Global, value: &Value) -> Result<Option<List<u16>>, Memory> {
+    let Value::Array(items) = value else {
+        return Ok(None);
+    };
+    let mut ports = List::new(alloc);
+    for item in items {
+        match port(item) {
+            Some(port) => ports.push(port)?,
+            None => return Ok(None),
+        }
+    }
+    let distinct = are_distinct(alloc, ports.as_slice())?;
+    Ok(if distinct { Some(ports) } else { None })
+}
