@@ -76,9 +76,16 @@ map-free f g (Some v) = g v
 fields-good : (r : RewriteOf) → SetsInRange r → AllByRecursion (λ (o : Option Action). IfSome o IsInRange) (field_sets r)
 fields-good r g = (
   map-good (λ v. v < 2 ^ 48) SetDlSrc (λ v lt. lt) r.dl_src g.dl_src,
-  (map-good (λ v. v < 2 ^ 48) SetDlDst (λ v lt. lt) r.dl_dst g.dl_dst,
-  (map-free SetNwSrc (λ v. tt) r.nw_src, (map-free SetNwDst (λ v. tt) r.nw_dst,
-  (map-good (λ v. v % 4 ≡ 0) SetNwTos (λ v e. e) r.nw_tos g.nw_tos, (map-free SetTpSrc (λ v. tt) r.tp_src, (map-free SetTpDst (λ v. tt) r.tp_dst, tt)))))),
+  (
+    map-good (λ v. v < 2 ^ 48) SetDlDst (λ v lt. lt) r.dl_dst g.dl_dst,
+    (
+      map-free SetNwSrc (λ v. tt) r.nw_src,
+      (
+        map-free SetNwDst (λ v. tt) r.nw_dst,
+        (map-good (λ v. v % 4 ≡ 0) SetNwTos (λ v e. e) r.nw_tos g.nw_tos, (map-free SetTpSrc (λ v. tt) r.tp_src, (map-free SetTpDst (λ v. tt) r.tp_dst, tt))),
+      ),
+    ),
+  ),
 )
 
 retag-good : (t u : Option ℕ) → HasTag u → Good (retag t u)

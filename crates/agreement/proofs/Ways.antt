@@ -71,7 +71,7 @@ module _ {A B : Type 0} (on : A → B → Bool) where
   no-more (b ∷ bs) xs a p =
       let out = λ (x : A). not (on x b) in
       let rest = all-map (λ x. (list_any (on x) (b ∷ bs) ≡ true) × (not (on x b) ≡ true)) (λ x. list_any (on x) bs ≡ true) (filter out xs) (λ x q. elsewhere (on x b) (list_any (on x) bs) q.0 q.1)
-          (all-zip (λ x. list_any (on x) (b ∷ bs) ≡ true) (λ x. not (on x b) ≡ true) (filter out xs) (all-kept (λ x. list_any (on x) (b ∷ bs) ≡ true) out xs a) (passing out xs)) in
+      (all-zip (λ x. list_any (on x) (b ∷ bs) ≡ true) (λ x. not (on x b) ≡ true) (filter out xs) (all-kept (λ x. list_any (on x) (b ∷ bs) ≡ true) out xs a) (passing out xs)) in
       let le = no-more bs (filter out xs) rest (kept-pairs out xs p) in
       let one = one-out b xs p in
       omega (arith, le, one)

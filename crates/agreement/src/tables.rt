@@ -1,10 +1,7 @@
 //! The table that a switch is to have, from scratch.
-ghost use Rattle.std.specs.List.{AllByRecursion};
 ghost use Rattle.std.specs.Prelude.{◌≡◌, ◌<◌, ◌^◌, ◌++◌, IfOk, OnOk, Some, length, slice_get};
 ghost use Rattle.agreement.specs.Entries as spec;
 ghost use Rattle.agreement.specs.Fitting.{IsFittingSetting};
-ghost use Rattle.agreement.specs.Lengths.{AddFits, HasLimits};
-ghost use Rattle.agreement.specs.Premises.{IsSoundSetting};
 
 use crate::entries::{placed, stands_on};
 use crate::state::Setting;
@@ -78,9 +75,7 @@ fn dropping(alloc: Global, setting: &Setting, switch: u32) -> Result<List<PhysEn
 /// tables. [`Setting::fits`] tests what is asked of the setting.
 pub fn entries_of(alloc: Global, setting: &Setting, switch: u32) -> Result<List<PhysEntry>, Memory>
     requires { IsFittingSetting setting.now }
-    ensures from_scratch { IfOk result (λ entries. entries ≡ spec.entries_of setting.now switch) }
-    // Within the limits of policies each entry's ADD fits a message.
-    ensures short { IsSoundSetting setting.now → HasLimits setting.now → IfOk result (λ entries. AllByRecursion AddFits entries) }
+    ensures { IfOk result (λ entries. entries ≡ spec.entries_of setting.now switch) }
 {
     let mut entries = List::new(alloc);
     for (v, x) in setting.network.switches.as_slice().iter().enumerate() {

@@ -1,6 +1,8 @@
 //! Small policies, worked out by the checker: settings of which all is shown that the law asks.
-ghost use Rattle.agreement.specs.Worked.{AllPortsHaveEntries, EachPortHasEntries, RouterAgrees, RouterIsSeen, RouterIsSound};
-ghost use Rattle.agreement.specs.Worked.{SecondIsInstalled, SplitAgrees, SplitIsSeen, SplitIsSound, SpreadAgrees, SpreadIsSound};
+ghost use Rattle.agreement.specs.Worked.{AllPortsHaveEntries, EachPortHasEntries};
+ghost use Rattle.agreement.specs.Worked.{RouterAgrees, RouterIsSeen, RouterIsSound};
+ghost use Rattle.agreement.specs.Worked.{SecondIsInstalled, SpreadAgrees, SpreadIsSound};
+ghost use Rattle.agreement.specs.Worked.{SplitAgrees, SplitIsSeen, SplitIsSound};
 
 /// The entries of a router, what is to be seen of packets, and that the law speaks of it.
 pub fn worked_router()

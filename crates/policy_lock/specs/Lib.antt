@@ -10,3 +10,4 @@ pub mod Locked
 pub mod View
 pub mod Rule
 pub mod Play
+pub mod Worked

@@ -23,6 +23,7 @@ mod post;
 mod rule;
 mod seats;
 mod view;
+mod worked;
 
 pub use after::After;
 pub use close::Open;
@@ -30,3 +31,4 @@ pub use lock::{PolicyLock, Receipt, Seat};
 pub use machine::Machine;
 pub use opening::open;
 pub use view::{Entry, Pass};
+pub use worked::worked_examples;

@@ -1,0 +1,6 @@
+pub mod Names
+pub mod Denials
+pub mod Ports
+pub mod Rows
+pub mod Granted
+pub mod Worked

@@ -1,0 +1,6 @@
+use Rattle.std.proofs.Common.{◌≡◌, ◌==◌, ◌+◌, ℕ, ◌<◌, ◌≤◌, Bool, false, Option, Some, None, length, get_or, take, drop, if◌then◌else◌}
+use Rattle.inner_paths.specs.Tables.{leads_into}
+use Rattle.inner_paths.proofs.distance.leads_into.Given as goal
+
+abbrev pub invariant-loop-way : goal.invariant-loop-way
+invariant-loop-way l = leads_into (drop l.way-index l.ways) l.layer l.from ≡ leads_into l.ways l.layer l.from

@@ -1,0 +1,6 @@
+use Rattle.std.proofs.Common.{◌≡◌, ◌==◌, ◌+◌, ℕ, ◌<◌, ◌≤◌, Bool, false, Option, Some, None, length, get_or, take, drop, if◌then◌else◌}
+use Rattle.inner_paths.specs.Hops.{hop_between}
+use Rattle.inner_paths.proofs.table.hops.Given as goal
+
+abbrev pub invariant-loop-from : goal.invariant-loop-from
+invariant-loop-from l = (length l.hops.items ≡ l.from) × ((s : ℕ) → s < l.from → get_or l.hops.items s None ≡ hop_between l.topology s l.to)

@@ -1,0 +1,17 @@
+//! Paths between the physical switches of a topology, and the VLAN numbers by which packets for an
+//! outside port are told apart on them.
+#![tactic(auto)]
+
+mod cut;
+mod distance;
+mod fault;
+mod hop;
+mod paths;
+mod table;
+mod tag;
+
+pub use fault::PathFault;
+pub use paths::Paths;
+
+#[cfg(test)]
+mod tests;

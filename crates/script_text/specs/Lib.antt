@@ -1,0 +1,9 @@
+pub mod Names
+pub mod Numbers
+pub mod InsideNumbers
+pub mod Words
+pub mod Verbs
+pub mod Reading
+pub mod Grammar
+pub mod Lines
+pub mod Worked

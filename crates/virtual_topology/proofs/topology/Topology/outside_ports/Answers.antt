@@ -1,0 +1,10 @@
+use Rattle.std.proofs.Common.{◌≤◌, List, ◌∙◌, ap, length, subst, sym}
+use Rattle.virtual_topology.specs.Wires.{Joint, outside_joints}
+use Rattle.virtual_topology.specs.declared.plan.TopologyPlan.{TopologyPlan}
+use Rattle.virtual_topology.proofs.Counted.{few_outside}
+use Rattle.virtual_topology.proofs.topology.Topology.outside_ports.Goals as goal
+
+pub returns-clause-few : goal.returns-clause-few
+returns-clause-few c =
+    let Few : List Joint → Type 0 = λ js. length js ≤ 1024 in
+    subst Few (sym (c.rows.ensures ∙ c.self.invariant.outside_is)) (few_outside c.self.inside.plan c.self.invariant.sound)
