@@ -98,10 +98,22 @@ view_of number v listed = record { v = number; outside = side v listed false; li
 abbrev pub member_at : ℕ → VirtualItem → List ℕ → List ℕ → ℕ → ℕ → Nameable → ℕ → Bool → Bool → Option (List ℕ) → List MatchOf → MemberItem
 member_at number v controller address bits entries nameable actions misses packet_out listed regions =
     record {
-        controller = controller; vsw = v.name; bits = bits; entries = entries; address = address;
-        grant = record {
-            fields = nameable.fields; src_max = nameable.src_max; dst_max = nameable.dst_max; actions = actions;
-            ports = view_of number v listed; regions = regions; misses = misses; packet_out = packet_out } }
+      controller = controller;
+      vsw = v.name;
+      bits = bits;
+      entries = entries;
+      address = address;
+      grant = record {
+        fields = nameable.fields;
+        src_max = nameable.src_max;
+        dst_max = nameable.dst_max;
+        actions = actions;
+        ports = view_of number v listed;
+        regions = regions;
+        misses = misses;
+        packet_out = packet_out;
+      };
+    }
 
 -- the number of the virtual switch that a member names, and the virtual switch
 abbrev pub numbered : List VirtualItem → Members → Option (ℕ × VirtualItem)

@@ -44,9 +44,17 @@ number_of Two = 2
 abbrev pub policy_of : Draft → Policy
 policy_of d =
     record {
-        version = number_of d.head.version; hops = d.head.hops; listen = d.head.listen; standby = d.head.standby;
-        rounds = d.head.rounds; switches = d.plan.switches; cables = d.plan.cables; virtuals = d.plan.virtuals;
-        links = d.plan.links; members = d.members }
+      version = number_of d.head.version;
+      hops = d.head.hops;
+      listen = d.head.listen;
+      standby = d.head.standby;
+      rounds = d.head.rounds;
+      switches = d.plan.switches;
+      cables = d.plan.cables;
+      virtuals = d.plan.virtuals;
+      links = d.plan.links;
+      members = d.members;
+    }
 
 -- the policy, if what the keys say fits together
 abbrev pub whole : Draft → Result Policy PolicyFault

@@ -92,8 +92,19 @@ fields_named ms =
     then_of (at tos (codes "nw_tos") ms) (λ nw_tos. then_of (at (number 0 255) (codes "nw_proto") ms) (λ nw_proto.
     then_of (at prefix (codes "nw_src") ms) (λ nw_src. then_of (at prefix (codes "nw_dst") ms) (λ nw_dst.
     then_of (at (number 0 65535) (codes "tp_src") ms) (λ tp_src. option_map (λ tp_dst. record {
-        in_port = None; dl_src = dl_src; dl_dst = dl_dst; dl_vlan = dl_vlan; dl_vlan_pcp = None; dl_type = dl_type; nw_tos = nw_tos;
-        nw_proto = nw_proto; nw_src = nw_src; nw_dst = nw_dst; tp_src = tp_src; tp_dst = tp_dst })
+      in_port = None;
+      dl_src = dl_src;
+      dl_dst = dl_dst;
+      dl_vlan = dl_vlan;
+      dl_vlan_pcp = None;
+      dl_type = dl_type;
+      nw_tos = nw_tos;
+      nw_proto = nw_proto;
+      nw_src = nw_src;
+      nw_dst = nw_dst;
+      tp_src = tp_src;
+      tp_dst = tp_dst;
+    })
     (at (number 0 65535) (codes "tp_dst") ms))))))))))
 
 abbrev pub is_some_like : {A : Type 0} → Option A → Option A → Bool
