@@ -3,6 +3,7 @@ pub mod Values
 pub mod Words
 pub mod Regions
 pub mod Keys
+pub mod Shown
 pub mod Sections
 pub mod Outcomes
 pub mod Listed

@@ -69,9 +69,15 @@ abbrev pub of_table : (Members → Option PolicyFault) → Data → Option Polic
 of_table fault (table ms) = fault ms
 of_table fault _ = None
 
--- the first fault of the items of a kind
+-- the first fault of items of a kind
+abbrev pub in_item : (Section → Members → Option PolicyFault) → ItemKind → ℕ × Data → Option PolicyFault
+in_item fault kind i = of_table (fault (Item kind i.0)) i.1
+
+abbrev pub among_items : (Section → Members → Option PolicyFault) → ItemKind → List Data → Option PolicyFault
+among_items fault kind ds = first_answer (in_item fault kind) (enumerate_from 0 ds)
+
 abbrev pub in_items : (Section → Members → Option PolicyFault) → Members → ItemKind → Option PolicyFault
-in_items fault file kind = first_answer (λ (i : ℕ × Data). of_table (fault (Item kind i.0)) i.1) (enumerate_from 0 (items file kind))
+in_items fault file kind = among_items fault kind (items file kind)
 
 -- the first fault of the file itself and then of its items
 abbrev pub in_file : (Section → Members → Option PolicyFault) → Members → Option PolicyFault

@@ -21,7 +21,8 @@ use Rattle.policy_file.specs.Plans.{items_of, read_at, if_new}
 use Rattle.policy_file.specs.Regions.{region, regions, all_headers, if_there}
 use Rattle.policy_file.specs.Sections.{section_name}
 use Rattle.policy_file.specs.Values.{number, name, address, ports}
-use Rattle.policy_file.specs.Words.{actions, fields, Nameable, nothing}
+use Rattle.policy_file.specs.declared.words.Nameable.{Nameable}
+use Rattle.policy_file.specs.Words.{actions, fields, nothing}
 
 -- the number of the virtual switch that a member names, if it is there
 abbrev pub virtual_at : List VirtualItem → Members → Option ℕ

@@ -10,6 +10,10 @@ abbrev pub Gives : {A : Type 0} → Result A PolicyFault → Result A PolicyFaul
 Gives wanted (Ok x) = wanted ≡ Ok x
 Gives wanted (Err fault) = (fault ≡ faults.Memory) ⊎ (wanted ≡ Err fault)
 
+-- the fault that the definition gives, or want of memory
+abbrev pub IsFaultOf : {A : Type 0} → Result A PolicyFault → PolicyFault → Type 0
+IsFaultOf wanted fault = (fault ≡ faults.Memory) ⊎ (wanted ≡ Err fault)
+
 -- the next step, if there is no fault yet
 abbrev pub then_do : {A B : Type 0} → Result A PolicyFault → (A → Result B PolicyFault) → Result B PolicyFault
 then_do (Ok x) next = next x

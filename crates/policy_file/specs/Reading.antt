@@ -1,5 +1,5 @@
 -- What a policy file says: its policy, or its first fault.
-use Rattle.std.specs.Prelude.{◌≡◌, ◌×◌, ℕ, ◌≤◌, Bool, List, [], ◌∷◌, Option, Some, None, Result, Ok, Err, IsUtf8, length, nat_le, if◌then◌else◌, option_map}
+use Rattle.std.specs.Prelude.{◌≡◌, ℕ, ◌≤◌, Bool, List, [], ◌∷◌, Option, Some, None, Result, Ok, Err, IsUtf8, length, nat_le, if◌then◌else◌, option_map}
 use Rattle.std.specs.Option.{option_or}
 use Rattle.toml.specs.Data.{Members}
 use Rattle.toml.specs.Parse.{parse_document}

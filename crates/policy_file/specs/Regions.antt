@@ -1,11 +1,11 @@
 -- Regions: boxes of headers, each a table of fields and their values.
-use Rattle.std.specs.Prelude.{ℕ, ◌+◌, ◌-◌, ◌*◌, ◌%◌, ◌^◌, ◌==◌, ◌&&◌, ◌||◌, not, Bool, true, false, codes, List, [], ◌∷◌, ◌++◌, Option, Some, None, if◌then◌else◌, nat_le, nat_lt, length, option_map, option_and_then, option_copied}
+use Rattle.std.specs.Prelude.{ℕ, zero, suc, ◌+◌, ◌-◌, ◌*◌, ◌%◌, ◌^◌, ◌==◌, ◌&&◌, ◌||◌, not, Bool, true, false, codes, List, [], ◌∷◌, ◌++◌, Option, Some, None, if◌then◌else◌, nat_le, nat_lt, length, option_map, option_and_then, option_copied}
 use Rattle.std.specs.List.{list_all, list_any}
 use Rattle.toml.specs.Data.{Data, as_str, as_table, Members, get_member}
 use Rattle.of10_match.specs.declared.header.Prefix.{Prefix}
 use Rattle.of10_match.specs.Fields.{MatchOf}
 use Rattle.of10_match.specs.Matching.{everything, overlaps}
-use Rattle.of10_match.specs.Wildcards.{normal_fields}
+use Rattle.of10_match.specs.Normal.{normal as normal_fields}
 use Rattle.grants.specs.declared.field.Field.{Field}
 use Rattle.grants.specs.declared.field.Field.TheVariants.{InPort, DlSrc, DlDst, DlVlan, DlVlanPcp, DlType, NwTos, NwProto, NwSrc, NwDst, TpSrc, TpDst}
 use Rattle.policy_file.specs.Documents.{as_list, keys_in}
@@ -43,7 +43,7 @@ ether d = option_and_then ether_text (as_str d)
 
 -- four numbers below 256, `.` (46) between each two
 abbrev pub octets_after : ℕ → ℕ → List ℕ → Option ℕ
-octets_after 0 n s = option_map (λ o. n * 256 + o) (decimal_within 0 255 s)
+octets_after zero n s = option_map (λ o. n * 256 + o) (decimal_within 0 255 s)
 octets_after (suc more) n s =
     option_and_then (λ (p : List ℕ × List ℕ). option_and_then (λ o. octets_after more (n * 256 + o) p.1) (decimal_within 0 255 p.0)) (split_at_first 46 s)
 

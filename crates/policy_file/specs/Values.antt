@@ -1,8 +1,8 @@
 -- What the values of keys stand for, where they can be so.
-use Rattle.std.specs.Prelude.{ℕ, zero, suc, pos, negsuc, ◌+◌, ◌-◌, ◌*◌, ◌==◌, ◌&&◌, ◌||◌, not, Bool, true, false, List, [], ◌∷◌, Option, Some, None, if◌then◌else◌, nat_le, nat_lt, length, option_map, option_and_then}
+use Rattle.std.specs.Prelude.{codes, ℕ, zero, suc, pos, negsuc, ◌+◌, ◌-◌, ◌*◌, ◌==◌, ◌&&◌, ◌||◌, not, Bool, true, false, List, [], ◌∷◌, Option, Some, None, if◌then◌else◌, nat_le, nat_lt, length, option_map, option_and_then}
 use Rattle.std.specs.Char.{is_ascii_graphic, is_ascii_lowercase, is_ascii_digit, is_ascii}
 use Rattle.std.specs.List.{list_all, list_any}
-use Rattle.toml.specs.Data.{Data, string, integer, float, boolean, datetime, array, table, as_str}
+use Rattle.toml.specs.Data.{Data, string, integer, float, boolean, datetime, array, table, as_str, same_key}
 use Rattle.virtual_topology.specs.declared.plan.PortPlace.{PortPlace}
 use Rattle.virtual_topology.specs.declared.plan.VirtualPort.{VirtualPort}
 use Rattle.policy_file.specs.Documents.{as_list}
@@ -16,8 +16,11 @@ number least greatest (integer (pos n)) = within least greatest n
 number least greatest _ = None
 
 -- a text that passes a test
+abbrev pub if_fits : (List ℕ → Bool) → List ℕ → Option (List ℕ)
+if_fits test s = if test s then Some s else None
+
 abbrev pub text_that : (List ℕ → Bool) → Data → Option (List ℕ)
-text_that test d = option_and_then (λ s. if test s then Some s else None) (as_str d)
+text_that test d = option_and_then (if_fits test) (as_str d)
 
 -- ASCII from the blank to the tilde
 abbrev pub is_printable : ℕ → Bool
@@ -52,10 +55,6 @@ digit b =
     if nat_le 48 b && nat_le b 57 then Some (b - 48) else
     if nat_le 97 b && nat_le b 102 then Some (b - 87) else
     if nat_le 65 b && nat_le b 70 then Some (b - 55) else None
-
--- what a digit adds to the number of those before it
-abbrev pub next_digit : ℕ → (ℕ → Option ℕ) → ℕ → ℕ → Option ℕ
-next_digit base digit n b = option_map (λ d. n * base + d) (digit b)
 
 -- the number of digits, after those that are read
 abbrev pub digits_after : ℕ → (ℕ → Option ℕ) → ℕ → List ℕ → Option ℕ
@@ -116,10 +115,8 @@ outside_port port at = record { port = port; at = Some at }
 abbrev pub link_port : ℕ → VirtualPort
 link_port port = record { port = port; at = None }
 
--- the bytes of `link`
 abbrev pub is_link : List ℕ → Bool
-is_link (108 ∷ 105 ∷ 110 ∷ 107 ∷ []) = true
-is_link _ = false
+is_link s = same_key s (codes "link")
 
 abbrev pub virtual_port_at : ℕ → List ℕ → Option VirtualPort
 virtual_port_at port s = if is_link s then Some (link_port port) else option_map (outside_port port) (place s)

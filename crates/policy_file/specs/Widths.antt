@@ -17,7 +17,7 @@ use Rattle.policy_file.specs.declared.policy.MemberItem.{MemberItem}
 
 -- the bits of a member
 abbrev pub bits_of : List MemberItem → ℕ → ℕ
-bits_of members i = option_map_or 0 (λ (m : MemberItem). m.bits) (slice_get members i)
+bits_of members i = option_map_or (λ (m : MemberItem). m.bits) (slice_get members i) 0
 
 -- the size of an expression, at most the greatest u64
 abbrev pub size : List MemberItem → Policy → ℕ
@@ -34,8 +34,8 @@ module _ (plan : TopologyPlan) (size_at : ℕ → ℕ) where
   abbrev pub width : ℕ → ℕ → ℕ
   width zero v = 1
   width (suc n) v =
-      let beyond : VirtualPort → ℕ = λ p. option_map_or 1 (λ (s : Spot). width n s.0) (peer_of plan v p.port) in
-      capped (size_at v * greatest (option_map_or [] (λ (x : VirtualItem). map beyond x.ports) (slice_get plan.virtuals v)))
+      let beyond : VirtualPort → ℕ = λ p. option_map_or (λ (s : Spot). width n s.0) (peer_of plan v p.port) 1 in
+      capped (size_at v * greatest (option_map_or (λ (x : VirtualItem). map beyond x.ports) (slice_get plan.virtuals v) []))
 
 -- a virtual switch needs more levels than there are
 abbrev pub too_wide : (ℕ → ℕ) → ℕ × VirtualItem → Option PolicyFault
@@ -44,4 +44,4 @@ too_wide needed v = if nat_le (needed v.0) 65534 then None else Some (faults.Too
 -- 8: the first virtual switch that needs more levels than there are
 abbrev pub too_wide_in : TopologyPlan → List MemberItem → List Policy → ℕ → Option PolicyFault
 too_wide_in plan members exprs hops =
-    first_answer (too_wide (width plan (λ v. option_map_or 1 (size members) (slice_get exprs v)) hops)) (enumerate_from 0 plan.virtuals)
+    first_answer (too_wide (width plan (λ v. option_map_or (size members) (slice_get exprs v) 1) hops)) (enumerate_from 0 plan.virtuals)

@@ -9,6 +9,7 @@ use Rattle.grants.specs.declared.field.Field.TheVariants.{InPort, DlSrc, DlDst, 
 use Rattle.grants.specs.declared.kind.Kind.{Kind}
 use Rattle.grants.specs.declared.kind.Kind.TheVariants.{Output, Controller, Pass, Link, SetDlSrc, SetDlDst, SetNwSrc, SetNwDst, SetNwTos, SetTpSrc, SetTpDst}
 use Rattle.grants.specs.Names.{field_bit, kind_bit, has_bit}
+use Rattle.policy_file.specs.declared.words.Nameable.{Nameable}
 use Rattle.policy_file.specs.Documents.{as_list}
 use Rattle.policy_file.specs.Values.{each_of, are_distinct, virtual_port, decimal_within, split_at_first}
 
@@ -62,12 +63,7 @@ field_names =
 abbrev pub field : List ℕ → Option Field
 field = named field_names
 
--- the fields that matches may name, and the longest prefixes of nw_src and nw_dst
-pub record Nameable : Type 0 where
-  pub fields : ℕ
-  pub src_max : ℕ
-  pub dst_max : ℕ
-
+-- no field may be named
 abbrev pub nothing : Nameable
 nothing = record { fields = 0; src_max = 32; dst_max = 32 }
 

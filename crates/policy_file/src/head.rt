@@ -1,4 +1,13 @@
 //! The top keys.
+ghost use Rattle.std.specs.Prelude.{◌≡◌, IfOk, codes};
+ghost use Rattle.toml.specs.View.{view, table_view};
+ghost use Rattle.toml.specs.Data.{get_member};
+ghost use Rattle.cv_io.specs.Text.{IsAsciiText};
+ghost use Rattle.policy_file.specs.Values.{number as number_of, address as address_of};
+ghost use Rattle.policy_file.specs.Regions.{if_there};
+ghost use Rattle.policy_file.specs.Heads.{or_absent, lists_tables as lists_tables_of, items_at, head_of};
+ghost use Rattle.policy_file.specs.Outcomes.{Gives};
+
 use crate::fault::PolicyFault;
 use crate::keys::{ItemKind, Version};
 use crate::listed::version_of;
@@ -28,7 +37,9 @@ pub(crate) fn number_or(
     least: u32,
     greatest: u32,
     absent: u32,
-) -> Option<u32> {
+) -> Option<u32>
+    ensures { result ≡ or_absent absent (number_of least greatest) (get_member key.now (table_view table.now)) }
+{
     match table.get(key) {
         Some(value) => number(value, least, greatest),
         None => Some(absent),
@@ -41,7 +52,10 @@ pub(crate) fn address_or(
     table: &Table,
     key: &str,
     absent: &str,
-) -> Result<Option<Text>, Memory> {
+) -> Result<Option<Text>, Memory>
+    requires { IsAsciiText absent.now }
+    ensures { IfOk result (λ t. t ≡ or_absent absent.now address_of (get_member key.now (table_view table.now))) }
+{
     match table.get(key) {
         Some(value) => address(alloc, value),
         None => crate::values::ascii(alloc, absent),
@@ -49,7 +63,9 @@ pub(crate) fn address_or(
 }
 
 /// The address of a second proxy, if there is one: Some(None) where the key is absent.
-fn standby(alloc: Global, file: &Table) -> Result<Option<Option<Text>>, Memory> {
+fn standby(alloc: Global, file: &Table) -> Result<Option<Option<Text>>, Memory>
+    ensures { IfOk result (λ t. t ≡ if_there address_of (get_member (codes "standby") (table_view file.now))) }
+{
     match file.get("standby") {
         Some(value) => Ok(address(alloc, value)?.map(Some)),
         None => Ok(Some(None)),
@@ -57,7 +73,9 @@ fn standby(alloc: Global, file: &Table) -> Result<Option<Option<Text>>, Memory> 
 }
 
 /// Whether a value is a list of tables.
-fn lists_tables(value: &Value) -> bool {
+fn lists_tables(value: &Value) -> bool
+    ensures { result ≡ lists_tables_of (view value.now) }
+{
     match value {
         Value::Array(items) => items.iter().all(Value::is_table),
         _ => false,
@@ -65,7 +83,9 @@ fn lists_tables(value: &Value) -> bool {
 }
 
 /// A top key of items lists tables, if it stands.
-fn check_kind(alloc: Global, file: &Table, kind: ItemKind) -> Result<(), PolicyFault> {
+fn check_kind(alloc: Global, file: &Table, kind: ItemKind) -> Result<(), PolicyFault>
+    ensures { Gives (items_at (table_view file.now) kind) result }
+{
     let listed = match file.get(kind.key()) {
         Some(value) if !lists_tables(value) => None,
         _ => Some(()),
@@ -74,7 +94,9 @@ fn check_kind(alloc: Global, file: &Table, kind: ItemKind) -> Result<(), PolicyF
 }
 
 /// The top keys, each looked at in the order of their bytes.
-pub(crate) fn read_head(alloc: Global, file: &Table) -> Result<Head, PolicyFault> {
+pub(crate) fn read_head(alloc: Global, file: &Table) -> Result<Head, PolicyFault>
+    ensures { Gives (head_of (table_view file.now)) result }
+{
     let top = Section::Top;
     check_kind(alloc, file, ItemKind::Cable)?;
     let hops = top.found(alloc, "hops", number_or(file, "hops", 1, 4, 4))?;

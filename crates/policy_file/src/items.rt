@@ -1,4 +1,8 @@
 //! Switches, cables and links.
+ghost use Rattle.toml.specs.View.{table_view};
+ghost use Rattle.policy_file.specs.Plans.{switch as switch_of, pair as pair_of, virtual_switch as virtual_switch_of, switches as switches_of, pairs as pairs_of, virtuals as virtuals_of, plan_of};
+ghost use Rattle.policy_file.specs.Outcomes.{Gives};
+
 use crate::fault::PolicyFault;
 use crate::keys::ItemKind;
 use crate::listed::items;
@@ -68,14 +72,18 @@ fn switch(
     section: Section,
     table: &Table,
     earlier: &[SwitchItem],
-) -> Result<SwitchItem, PolicyFault> {
+) -> Result<SwitchItem, PolicyFault>
+    ensures { Gives (switch_of earlier.now section (table_view table.now)) result }
+{
     let dpid = section.found(alloc, "dpid", new_dpid(table, earlier))?;
     let name = section.found(alloc, "name", new_name(alloc, table, earlier)?)?;
     let ports = section.found(alloc, "ports", at(alloc, table, "ports", ports)?)?;
     Ok(SwitchItem { name, dpid, ports })
 }
 
-fn pair(alloc: Global, section: Section, table: &Table) -> Result<PairItem, PolicyFault> {
+fn pair(alloc: Global, section: Section, table: &Table) -> Result<PairItem, PolicyFault>
+    ensures { Gives (pair_of section (table_view table.now)) result }
+{
     let a: PortPlace = section.found(alloc, "a", at(alloc, table, "a", port_place)?)?;
     let b: PortPlace = section.found(alloc, "b", at(alloc, table, "b", port_place)?)?;
     Ok(PairItem { a, b })
@@ -86,7 +94,9 @@ fn virtual_switch(
     section: Section,
     table: &Table,
     earlier: &[VirtualItem],
-) -> Result<VirtualItem, PolicyFault> {
+) -> Result<VirtualItem, PolicyFault>
+    ensures { Gives (virtual_switch_of earlier.now section (table_view table.now)) result }
+{
     let dpid = section.found(alloc, "dpid", new_dpid(table, earlier))?;
     let expr = section.found(alloc, "expr", at(alloc, table, "expr", expression)?)?;
     let name = section.found(alloc, "name", new_name(alloc, table, earlier)?)?;
@@ -99,7 +109,9 @@ fn virtual_switch(
     })
 }
 
-fn switches(alloc: Global, file: &Table) -> Result<List<SwitchItem>, PolicyFault> {
+fn switches(alloc: Global, file: &Table) -> Result<List<SwitchItem>, PolicyFault>
+    ensures { Gives (switches_of (table_view file.now)) result }
+{
     let kind = ItemKind::Switch;
     let mut list = List::new(alloc);
     for (number, value) in items(file, kind).iter().enumerate() {
@@ -116,7 +128,9 @@ fn switches(alloc: Global, file: &Table) -> Result<List<SwitchItem>, PolicyFault
     Ok(list)
 }
 
-fn pairs(alloc: Global, file: &Table, kind: ItemKind) -> Result<List<PairItem>, PolicyFault> {
+fn pairs(alloc: Global, file: &Table, kind: ItemKind) -> Result<List<PairItem>, PolicyFault>
+    ensures { Gives (pairs_of kind (table_view file.now)) result }
+{
     let mut list = List::new(alloc);
     for (number, value) in items(file, kind).iter().enumerate() {
         if let Some(table) = value.as_table() {
@@ -126,7 +140,9 @@ fn pairs(alloc: Global, file: &Table, kind: ItemKind) -> Result<List<PairItem>, 
     Ok(list)
 }
 
-fn virtuals(alloc: Global, file: &Table) -> Result<List<VirtualItem>, PolicyFault> {
+fn virtuals(alloc: Global, file: &Table) -> Result<List<VirtualItem>, PolicyFault>
+    ensures { Gives (virtuals_of (table_view file.now)) result }
+{
     let kind = ItemKind::Virtual;
     let mut list = List::new(alloc);
     for (number, value) in items(file, kind).iter().enumerate() {
@@ -139,7 +155,9 @@ fn virtuals(alloc: Global, file: &Table) -> Result<List<VirtualItem>, PolicyFaul
 }
 
 /// The switches, cables, virtual switches and links of a file.
-pub(crate) fn plan(alloc: Global, file: &Table) -> Result<TopologyPlan, PolicyFault> {
+pub(crate) fn plan(alloc: Global, file: &Table) -> Result<TopologyPlan, PolicyFault>
+    ensures { Gives (plan_of (table_view file.now)) result }
+{
     let switches = switches(alloc, file)?;
     let cables = pairs(alloc, file, ItemKind::Cable)?;
     let virtuals = virtuals(alloc, file)?;

@@ -1,4 +1,7 @@
 //! The keys of a policy file.
+ghost use Rattle.std.specs.Prelude.{◌≡◌, map};
+ghost use Rattle.policy_file.specs.Keys.{kind_key, item_rows};
+ghost use Rattle.policy_file.specs.Shown.{shown_row};
 
 /// A form of the policy file.
 #[derive(Clone, Copy, PartialEq, Eq, Debug)]
@@ -30,7 +33,9 @@ pub const ITEM_KINDS: [ItemKind; 5] = [
 
 impl ItemKind {
     /// The top key that lists the items.
-    pub fn key(self) -> &'static str {
+    pub fn key(self) -> &'static str
+        ensures { result.now ≡ kind_key self }
+    {
         match self {
             ItemKind::Switch => "switch",
             ItemKind::Cable => "cable",
@@ -41,7 +46,9 @@ impl ItemKind {
     }
 
     /// The keys of an item.
-    pub fn rows(self) -> &'static [KeyRow] {
+    pub fn rows(self) -> &'static [KeyRow]
+        ensures { map shown_row result.now ≡ item_rows self }
+    {
         match self {
             ItemKind::Switch => &SWITCH_KEYS,
             ItemKind::Cable | ItemKind::Link => &PAIR_KEYS,

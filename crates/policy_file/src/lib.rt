@@ -2,12 +2,12 @@
 //! them, read from TOML; or the first fault of a file.
 #![tactic(auto)]
 
-mod built_in;
 mod exprs;
 mod fault;
 mod head;
 mod items;
 mod keys;
+mod known;
 mod listed;
 mod member;
 mod policy;
@@ -21,8 +21,8 @@ mod view;
 mod wide;
 mod words;
 
-pub use built_in::{bench, built_in};
 pub use fault::PolicyFault;
+pub use known::{bench, built_in};
 pub use policy::{MemberItem, Policy};
 pub use reading::read;
 

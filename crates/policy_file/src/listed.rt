@@ -1,4 +1,10 @@
 //! Keys that aren't listed, and keys that are missing.
+ghost use Rattle.std.specs.Prelude.{◌≡◌, map};
+ghost use Rattle.toml.specs.View.{view, table_view};
+ghost use Rattle.virtual_topology.specs.Faults.{Answers};
+ghost use Rattle.policy_file.specs.Shown.{shown_row};
+ghost use Rattle.policy_file.specs.Listed.{version_of as version_in, items as items_of, may_stand as may_stand_of, is_listed as is_listed_of, unlisted, missing, of_table, among_items, unlisted_in, missing_in};
+
 use crate::fault::PolicyFault;
 use crate::keys::{ITEM_KINDS, ItemKind, KeyRow, Version};
 use crate::section::Section;
@@ -6,7 +12,9 @@ use std::alloc::Global;
 use toml::{Table, Value};
 
 /// The version that a file is in, if it names one.
-pub(crate) fn version_of(file: &Table) -> Option<Version> {
+pub(crate) fn version_of(file: &Table) -> Option<Version>
+    ensures { result ≡ version_in (table_view file.now) }
+{
     match file.get("version") {
         Some(Value::Integer(1)) => Some(Version::One),
         Some(Value::Integer(2)) => Some(Version::Two),
@@ -15,7 +23,9 @@ pub(crate) fn version_of(file: &Table) -> Option<Version> {
 }
 
 /// The items of a kind.
-pub(crate) fn items(file: &Table, kind: ItemKind) -> &[Value] {
+pub(crate) fn items(file: &Table, kind: ItemKind) -> &[Value]
+    ensures { map view result.now ≡ items_of (table_view file.now) kind }
+{
     match file.get(kind.key()) {
         Some(Value::Array(items)) => items,
         _ => &[],
@@ -23,14 +33,18 @@ pub(crate) fn items(file: &Table, kind: ItemKind) -> &[Value] {
 }
 
 /// Whether a key may stand in a version. Where the file names none, both versions' keys may.
-fn may_stand(row: &KeyRow, version: Option<Version>) -> bool {
+fn may_stand(row: &KeyRow, version: Option<Version>) -> bool
+    ensures { result ≡ may_stand_of row.now.only version }
+{
     match (row.only, version) {
         (Some(only), Some(version)) => only == version,
         _ => true,
     }
 }
 
-fn is_listed(rows: &[KeyRow], version: Option<Version>, key: &str) -> bool {
+fn is_listed(rows: &[KeyRow], version: Option<Version>, key: &str) -> bool
+    ensures { result ≡ is_listed_of (map shown_row rows.now) version key.now }
+{
     rows.iter()
         .any(|row| row.key == key && may_stand(row, version))
 }
@@ -41,7 +55,9 @@ fn check_listed(
     section: Section,
     version: Option<Version>,
     table: &Table,
-) -> Result<(), PolicyFault> {
+) -> Result<(), PolicyFault>
+    ensures { Answers PolicyFault.Memory result (unlisted section version (table_view table.now)) }
+{
     for (key, _) in table.iter() {
         if !is_listed(section.rows(), version, key.as_str()) {
             return Err(PolicyFault::Key {
@@ -53,7 +69,9 @@ fn check_listed(
 }
 
 /// A section has the keys that it has to have.
-fn check_needed(alloc: Global, section: Section, table: &Table) -> Result<(), PolicyFault> {
+fn check_needed(alloc: Global, section: Section, table: &Table) -> Result<(), PolicyFault>
+    ensures { Answers PolicyFault.Memory result (missing section (table_view table.now)) }
+{
     for row in section.rows() {
         if row.needed && !table.contains_key(row.key) {
             return Err(PolicyFault::Missing {
@@ -70,7 +88,9 @@ fn check_item_listed(
     section: Section,
     version: Option<Version>,
     value: &Value,
-) -> Result<(), PolicyFault> {
+) -> Result<(), PolicyFault>
+    ensures { Answers PolicyFault.Memory result (of_table (unlisted section version) (view value.now)) }
+{
     match value.as_table() {
         Some(table) => check_listed(alloc, section, version, table),
         None => Ok(()),
@@ -78,7 +98,9 @@ fn check_item_listed(
 }
 
 /// An item has the keys that it has to have, if it is a table.
-fn check_item_needed(alloc: Global, section: Section, value: &Value) -> Result<(), PolicyFault> {
+fn check_item_needed(alloc: Global, section: Section, value: &Value) -> Result<(), PolicyFault>
+    ensures { Answers PolicyFault.Memory result (of_table (missing section) (view value.now)) }
+{
     match value.as_table() {
         Some(table) => check_needed(alloc, section, table),
         None => Ok(()),
@@ -90,14 +112,18 @@ fn check_items_listed(
     kind: ItemKind,
     version: Option<Version>,
     items: &[Value],
-) -> Result<(), PolicyFault> {
+) -> Result<(), PolicyFault>
+    ensures { Answers PolicyFault.Memory result (among_items (λ section. unlisted section version) kind (map view items.now)) }
+{
     for (number, value) in items.iter().enumerate() {
         check_item_listed(alloc, Section::Item { kind, number }, version, value)?;
     }
     Ok(())
 }
 
-fn check_items_needed(alloc: Global, kind: ItemKind, items: &[Value]) -> Result<(), PolicyFault> {
+fn check_items_needed(alloc: Global, kind: ItemKind, items: &[Value]) -> Result<(), PolicyFault>
+    ensures { Answers PolicyFault.Memory result (among_items missing kind (map view items.now)) }
+{
     for (number, value) in items.iter().enumerate() {
         check_item_needed(alloc, Section::Item { kind, number }, value)?;
     }
@@ -105,7 +131,9 @@ fn check_items_needed(alloc: Global, kind: ItemKind, items: &[Value]) -> Result<
 }
 
 /// The keys of a file are listed.
-pub(crate) fn check_all_listed(alloc: Global, file: &Table) -> Result<(), PolicyFault> {
+pub(crate) fn check_all_listed(alloc: Global, file: &Table) -> Result<(), PolicyFault>
+    ensures { Answers PolicyFault.Memory result (unlisted_in (table_view file.now)) }
+{
     let version = version_of(file);
     check_listed(alloc, Section::Top, version, file)?;
     for kind in ITEM_KINDS {
@@ -115,7 +143,9 @@ pub(crate) fn check_all_listed(alloc: Global, file: &Table) -> Result<(), Policy
 }
 
 /// A file has the keys that it has to have.
-pub(crate) fn check_all_needed(alloc: Global, file: &Table) -> Result<(), PolicyFault> {
+pub(crate) fn check_all_needed(alloc: Global, file: &Table) -> Result<(), PolicyFault>
+    ensures { Answers PolicyFault.Memory result (missing_in (table_view file.now)) }
+{
     check_needed(alloc, Section::Top, file)?;
     for kind in ITEM_KINDS {
         check_items_needed(alloc, kind, items(file, kind))?;

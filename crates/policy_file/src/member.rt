@@ -1,4 +1,15 @@
 //! Members.
+ghost use Rattle.std.specs.Prelude.{◌≡◌, IfOk, codes, option_copied};
+ghost use Rattle.toml.specs.View.{table_view};
+ghost use Rattle.toml.specs.Data.{get_member, as_bool};
+ghost use Rattle.policy_file.specs.Values.{number as number_of};
+ghost use Rattle.policy_file.specs.Words.{actions as actions_of};
+ghost use Rattle.policy_file.specs.Regions.{if_there, all_headers};
+ghost use Rattle.policy_file.specs.Heads.{or_absent};
+ghost use Rattle.policy_file.specs.Plans.{read_at};
+ghost use Rattle.policy_file.specs.Members.{virtual_at as virtual_at_of, new_controller as new_controller_of, are_there as are_there_of, ports_there, region_key as region_key_of, region_in, member as member_of, next_member as next_member_of, members_of as members_in};
+ghost use Rattle.policy_file.specs.Outcomes.{Gives};
+
 use crate::fault::PolicyFault;
 use crate::head::{address_or, number_or};
 use crate::keys::{ItemKind, Version};
@@ -23,7 +34,9 @@ const MOST_MEMBERS: usize = 32;
 const ADDRESS: &str = "127.0.0.1:6634";
 
 /// The number of the virtual switch that a member names, if it is there.
-fn virtual_at(table: &Table, virtuals: &[VirtualItem]) -> Option<usize> {
+fn virtual_at(table: &Table, virtuals: &[VirtualItem]) -> Option<usize>
+    ensures { result ≡ virtual_at_of virtuals.now (table_view table.now) }
+{
     let name = table.get("virtual")?.as_str()?.as_bytes();
     virtuals
         .iter()
@@ -44,7 +57,9 @@ fn new_controller(
     alloc: Global,
     table: &Table,
     earlier: &[MemberItem],
-) -> Result<Option<Text>, Memory> {
+) -> Result<Option<Text>, Memory>
+    ensures { IfOk result (λ c. c ≡ new_controller_of earlier.now (table_view table.now)) }
+{
     let controller = match table.get("controller") {
         Some(value) => name(alloc, value)?,
         None => None,
@@ -56,7 +71,9 @@ fn new_controller(
 }
 
 /// The kinds of action of a member, none if it doesn't say.
-fn actions_at(table: &Table) -> Option<u32> {
+fn actions_at(table: &Table) -> Option<u32>
+    ensures { result ≡ or_absent 0 actions_of (get_member (codes "actions") (table_view table.now)) }
+{
     match table.get("actions") {
         Some(value) => actions(value),
         None => Some(0),
@@ -71,14 +88,18 @@ fn fields_at(table: &Table) -> Option<Nameable> {
     }
 }
 
-fn flag_or(table: &Table, key: &str, absent: bool) -> Option<bool> {
+fn flag_or(table: &Table, key: &str, absent: bool) -> Option<bool>
+    ensures { result ≡ or_absent absent as_bool (get_member key.now (table_view table.now)) }
+{
     match table.get(key) {
         Some(value) => value.as_bool(),
         None => Some(absent),
     }
 }
 
-fn bits_at(table: &Table) -> Option<u32> {
+fn bits_at(table: &Table) -> Option<u32>
+    ensures { result ≡ read_at (number_of 2 15) (codes "bits") (table_view table.now) }
+{
     match table.get("bits") {
         Some(value) => number(value, 2, 15),
         None => None,
@@ -86,7 +107,9 @@ fn bits_at(table: &Table) -> Option<u32> {
 }
 
 /// Whether a virtual switch, if it is known, has each of these ports.
-fn are_there(item: Option<&VirtualItem>, ports: &List<u16>) -> bool {
+fn are_there(item: Option<&VirtualItem>, ports: &List<u16>) -> bool
+    ensures { result ≡ are_there_of (option_copied item.entry) ports.now }
+{
     match item {
         Some(item) => ports.as_slice().iter().all(|port| has_port(item, *port)),
         None => true,
@@ -98,7 +121,9 @@ fn ports_at(
     alloc: Global,
     table: &Table,
     item: Option<&VirtualItem>,
-) -> Result<Option<Option<List<u16>>>, Memory> {
+) -> Result<Option<Option<List<u16>>>, Memory>
+    ensures { IfOk result (λ ports. ports ≡ if_there (ports_there (option_copied item.entry)) (get_member (codes "ports") (table_view table.now))) }
+{
     let Some(value) = table.get("ports") else {
         return Ok(Some(None));
     };
@@ -109,7 +134,9 @@ fn ports_at(
 }
 
 /// The key of a region.
-fn region_key(version: Version) -> &'static str {
+fn region_key(version: Version) -> &'static str
+    ensures { result.now ≡ region_key_of version }
+{
     match version {
         Version::One => "region",
         Version::Two => "regions",
@@ -117,11 +144,9 @@ fn region_key(version: Version) -> &'static str {
 }
 
 /// The region of a member, everything if it doesn't say.
-fn region_at(
-    alloc: Global,
-    table: &Table,
-    version: Version,
-) -> Result<Option<List<Match>>, Memory> {
+fn region_at(alloc: Global, table: &Table, version: Version) -> Result<Option<List<Match>>, Memory>
+    ensures { IfOk result (λ boxes. boxes ≡ or_absent all_headers (region_in version) (get_member (region_key_of version) (table_view table.now))) }
+{
     match (table.get(region_key(version)), version) {
         (Some(value), Version::One) => region(alloc, value),
         (Some(value), Version::Two) => regions(alloc, value),
@@ -137,7 +162,9 @@ fn member(
     version: Version,
     virtuals: &[VirtualItem],
     earlier: &[MemberItem],
-) -> Result<MemberItem, PolicyFault> {
+) -> Result<MemberItem, PolicyFault>
+    ensures { Gives (member_of version virtuals.now earlier.now section (table_view table.now)) result }
+{
     let known = match virtual_at(table, virtuals) {
         Some(v) => virtuals.get(v),
         None => None,
@@ -185,7 +212,9 @@ fn next_member(
     version: Version,
     virtuals: &[VirtualItem],
     earlier: &[MemberItem],
-) -> Result<MemberItem, PolicyFault> {
+) -> Result<MemberItem, PolicyFault>
+    ensures { Gives (next_member_of version virtuals.now earlier.now (Section.Item ItemKind.Member number) (table_view table.now)) result }
+{
     let section = Section::Item {
         kind: ItemKind::Member,
         number,
@@ -202,7 +231,9 @@ pub(crate) fn members(
     file: &Table,
     version: Version,
     virtuals: &[VirtualItem],
-) -> Result<List<MemberItem>, PolicyFault> {
+) -> Result<List<MemberItem>, PolicyFault>
+    ensures { Gives (members_in version virtuals.now (table_view file.now)) result }
+{
     let mut list = List::new(alloc);
     for (number, value) in items(file, ItemKind::Member).iter().enumerate() {
         if let Some(table) = value.as_table() {

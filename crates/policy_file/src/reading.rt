@@ -1,4 +1,11 @@
 //! Reading a policy file.
+ghost use Rattle.std.specs.Prelude.{◌≡◌, IfOk, IfErr, IsErr, IsUtf8, Ok};
+ghost use Rattle.std.specs.Result.{result_map_both};
+ghost use Rattle.toml.specs.View.{table_view};
+ghost use Rattle.virtual_topology.specs.Faults.{Answers};
+ghost use Rattle.policy_file.specs.Outcomes.{Gives, IsFaultOf};
+ghost use Rattle.policy_file.specs.Reading.{draft_of, topology_fault, path_fault, whole, policy_of, policy_in_text};
+
 use crate::exprs::exprs;
 use crate::fault::PolicyFault;
 use crate::head::{Head, read_head};
@@ -35,7 +42,9 @@ fn document(alloc: Global, bytes: &[u8]) -> Result<Table, PolicyFault> {
 }
 
 /// What the keys of a file say, if each may be so.
-fn read_draft(alloc: Global, file: &Table) -> Result<Draft, PolicyFault> {
+fn read_draft(alloc: Global, file: &Table) -> Result<Draft, PolicyFault>
+    ensures { Gives (draft_of (table_view file.now)) result }
+{
     let head = read_head(alloc, file)?;
     let plan = plan(alloc, file)?;
     let members = members(alloc, file, head.version, plan.virtuals.as_slice())?;
@@ -47,7 +56,10 @@ fn read_draft(alloc: Global, file: &Table) -> Result<Draft, PolicyFault> {
 }
 
 /// The topology of a plan.
-fn topology(alloc: Global, plan: &TopologyPlan) -> Result<Topology, PolicyFault> {
+fn topology(alloc: Global, plan: &TopologyPlan) -> Result<Topology, PolicyFault>
+    ensures made { IfOk result (λ t. t ≡ plan.now) }
+    ensures fault { Answers PolicyFault.Memory result (topology_fault plan.now) }
+{
     match Topology::make(alloc, plan) {
         Ok(topology) => Ok(topology),
         Err(TopologyFault::Memory) => Err(PolicyFault::Memory),
@@ -56,7 +68,9 @@ fn topology(alloc: Global, plan: &TopologyPlan) -> Result<Topology, PolicyFault>
 }
 
 /// There are paths between the physical switches of each virtual switch.
-fn check_paths(alloc: Global, topology: &Topology) -> Result<(), PolicyFault> {
+fn check_paths(alloc: Global, topology: &Topology) -> Result<(), PolicyFault>
+    ensures { Answers PolicyFault.Memory result (path_fault topology.now) }
+{
     match Paths::make(alloc, topology) {
         Ok(_) => Ok(()),
         Err(PathFault::Memory) => Err(PolicyFault::Memory),
@@ -65,7 +79,9 @@ fn check_paths(alloc: Global, topology: &Topology) -> Result<(), PolicyFault> {
 }
 
 /// What the keys say fits together.
-fn check_whole(alloc: Global, draft: &Draft) -> Result<(), PolicyFault> {
+fn check_whole(alloc: Global, draft: &Draft) -> Result<(), PolicyFault>
+    ensures { Gives (result_map_both (λ _. tt) (λ fault. fault) (whole draft.now)) result }
+{
     let members = draft.members.as_slice();
     let exprs = exprs(alloc, draft.plan.virtuals.as_slice(), members)?;
     let topology = topology(alloc, &draft.plan)?;
@@ -73,7 +89,9 @@ fn check_whole(alloc: Global, draft: &Draft) -> Result<(), PolicyFault> {
     check_widths(alloc, &topology, exprs.as_slice(), members, draft.head.hops)
 }
 
-fn policy(draft: Draft) -> Policy {
+fn policy(draft: Draft) -> Policy
+    ensures { result ≡ policy_of draft }
+{
     let Draft {
         head,
         plan,
@@ -112,7 +130,11 @@ fn policy(draft: Draft) -> Policy {
 /// The policy that a file states, or the first fault of it. Each fault is looked for in the whole file
 /// before the next; it names the first by the top keys, then switches, cables, virtual switches, links
 /// and members, each by their number in the file, and their keys in the order of their bytes.
-pub fn read(alloc: Global, bytes: &[u8]) -> Result<Policy, PolicyFault> {
+pub fn read(alloc: Global, bytes: &[u8]) -> Result<Policy, PolicyFault>
+    ensures read { IfOk result (λ p. IsUtf8 bytes.now × (policy_in_text bytes.now ≡ Ok p)) }
+    ensures fault { IfErr result (λ fault. IsUtf8 bytes.now → IsFaultOf (policy_in_text bytes.now) fault) }
+    ensures broken { ¬ IsUtf8 bytes.now → IsErr result }
+{
     if bytes.len() > LONGEST {
         return Err(PolicyFault::Long);
     }

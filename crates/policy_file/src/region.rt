@@ -1,4 +1,9 @@
 //! Regions: boxes of headers, each a table of fields and their values.
+ghost use Rattle.std.specs.Prelude.{◌≡◌, ◌<◌, ◌≤◌, IfOk};
+ghost use Rattle.toml.specs.View.{view, table_view};
+ghost use Rattle.policy_file.specs.Values.{number, decimal_within};
+ghost use Rattle.policy_file.specs.Regions.{vlan as vlan_of, tos as tos_of, ether as ether_of, prefix_if, prefix as prefix_at, names_fields as names_fields_of, fields_named, box_of as box_of_table, all_headers, region as region_of, regions as regions_of};
+
 use crate::values::{decimal_within, hexadecimal, number, split_at_first};
 use crate::words::field;
 use cv_io::{List, Memory};
@@ -11,7 +16,9 @@ use toml::{Table, Value};
 const MOST_BOXES: usize = 16;
 
 /// A VLAN number: 0 to 4095, or 65535 for no tag.
-fn vlan(value: &Value) -> Option<u16> {
+fn vlan(value: &Value) -> Option<u16>
+    ensures { result ≡ vlan_of (view value.now) }
+{
     match number(value, 0, 65535) {
         Some(vlan) if vlan <= 4095 || vlan == u32::from(UNTAGGED) => Some(vlan as u16),
         _ => None,
@@ -19,21 +26,27 @@ fn vlan(value: &Value) -> Option<u16> {
 }
 
 /// A type of service: the upper six bits of a byte.
-fn tos(value: &Value) -> Option<u8> {
+fn tos(value: &Value) -> Option<u8>
+    ensures { result ≡ tos_of (view value.now) }
+{
     match number(value, 0, 255) {
         Some(tos) if tos % 4 == 0 => Some(tos as u8),
         _ => None,
     }
 }
 
-fn byte(value: &Value) -> Option<u8> {
+fn byte(value: &Value) -> Option<u8>
+    ensures { result ≡ number 0 255 (view value.now) }
+{
     match number(value, 0, 255) {
         Some(byte) => Some(byte as u8),
         None => None,
     }
 }
 
-fn short(value: &Value) -> Option<u16> {
+fn short(value: &Value) -> Option<u16>
+    ensures { result ≡ number 0 65535 (view value.now) }
+{
     match number(value, 0, 65535) {
         Some(short) => Some(short as u16),
         None => None,
@@ -41,7 +54,9 @@ fn short(value: &Value) -> Option<u16> {
 }
 
 /// An address of Ethernet, as `00:00:00:00:00:01`.
-fn ether(value: &Value) -> Option<u64> {
+fn ether(value: &Value) -> Option<u64>
+    ensures { result ≡ ether_of (view value.now) }
+{
     let word = value.as_str()?.as_bytes();
     if word.len() != 17 {
         return None;
@@ -61,12 +76,18 @@ fn ether(value: &Value) -> Option<u64> {
 }
 
 /// A number below 256, in decimal digits.
-fn octet(digits: &[u8]) -> Option<u32> {
+fn octet(digits: &[u8]) -> Option<u32>
+    ensures { result ≡ decimal_within 0 255 digits.now }
+{
     decimal_within(digits, 0, 255)
 }
 
 /// The first `len` bits of an address, if the others are zero.
-fn prefix_of(addr: u32, len: u32) -> Option<Prefix> {
+fn prefix_of(addr: u32, len: u32) -> Option<Prefix>
+    requires some { 0 < len }
+    requires most { len ≤ 32 }
+    ensures { result ≡ prefix_if addr len }
+{
     let beyond = if len < 32 { u32::MAX >> len } else { 0 };
     if addr & beyond == 0 {
         Some(Prefix {
@@ -79,7 +100,9 @@ fn prefix_of(addr: u32, len: u32) -> Option<Prefix> {
 }
 
 /// A prefix of addresses, as `10.0.0.0/8`, whose further bits are zero.
-fn prefix(value: &Value) -> Option<Prefix> {
+fn prefix(value: &Value) -> Option<Prefix>
+    ensures { result ≡ prefix_at (view value.now) }
+{
     let (address, bits) = split_at_first(value.as_str()?.as_bytes(), b'/')?;
     let (first, rest) = split_at_first(address, b'.')?;
     let (second, rest) = split_at_first(rest, b'.')?;
@@ -107,12 +130,16 @@ fn may_name(field: Option<Field>) -> bool {
 }
 
 /// Whether a region may name each key of a table.
-fn names_fields(table: &Table) -> bool {
+fn names_fields(table: &Table) -> bool
+    ensures { result ≡ names_fields_of (table_view table.now) }
+{
     table.keys().all(|key| may_name(field(key.as_bytes())))
 }
 
 /// The fields of a table.
-fn named(table: &Table) -> Option<Match> {
+fn named(table: &Table) -> Option<Match>
+    ensures { result ≡ fields_named (table_view table.now) }
+{
     Some(Match {
         in_port: None,
         dl_src: at(table, Field::DlSrc, ether)?,
@@ -130,7 +157,9 @@ fn named(table: &Table) -> Option<Match> {
 }
 
 /// A box: the fields of a table, each with the fields that it needs.
-fn box_of(table: &Table) -> Option<Match> {
+fn box_of(table: &Table) -> Option<Match>
+    ensures { result ≡ box_of_table (table_view table.now) }
+{
     if !names_fields(table) {
         return None;
     }
@@ -143,12 +172,16 @@ fn box_of(table: &Table) -> Option<Match> {
 }
 
 /// The one box that holds everything.
-pub(crate) fn everything(alloc: Global) -> Result<List<Match>, Memory> {
+pub(crate) fn everything(alloc: Global) -> Result<List<Match>, Memory>
+    ensures { IfOk result (λ boxes. boxes ≡ all_headers) }
+{
     List::from_slice(alloc, &[Match::everything()])
 }
 
 /// A region of one box.
-pub(crate) fn region(alloc: Global, value: &Value) -> Result<Option<List<Match>>, Memory> {
+pub(crate) fn region(alloc: Global, value: &Value) -> Result<Option<List<Match>>, Memory>
+    ensures { IfOk result (λ boxes. boxes ≡ region_of (view value.now)) }
+{
     match value.as_table() {
         Some(table) => match box_of(table) {
             Some(region) => Ok(Some(List::from_slice(alloc, &[region])?)),
@@ -169,7 +202,9 @@ fn next_box(earlier: &[Match], value: &Value) -> Option<Match> {
 }
 
 /// A region of 1 to 16 boxes, no two of which overlap.
-pub(crate) fn regions(alloc: Global, value: &Value) -> Result<Option<List<Match>>, Memory> {
+pub(crate) fn regions(alloc: Global, value: &Value) -> Result<Option<List<Match>>, Memory>
+    ensures { IfOk result (λ boxes. boxes ≡ regions_of (view value.now)) }
+{
     let Value::Array(items) = value else {
         return Ok(None);
     };

@@ -1,4 +1,10 @@
 //! Where in a policy file something stands, and its name in a fault.
+ghost use Rattle.std.specs.Prelude.{◌≡◌, ◌++◌, ◌⊎◌, map, IfOk, OnOk};
+ghost use Rattle.std.specs.Fmt.{decimal};
+ghost use Rattle.policy_file.specs.Sections.{shown_byte, shown as shown_of, rows_of, section_name, key_name};
+ghost use Rattle.policy_file.specs.Outcomes.{Gives, found as found_of};
+ghost use Rattle.policy_file.specs.Shown.{shown_row};
+
 use crate::fault::PolicyFault;
 use crate::keys::{ItemKind, KeyRow, TOP_KEYS};
 use cv_io::{Memory, Text};
@@ -12,12 +18,16 @@ pub(crate) enum Section {
 }
 
 /// A byte of a key as a fault shows it: what isn't printable ASCII, or is a blank, as `?`.
-fn shown(byte: u8) -> u8 {
+fn shown(byte: u8) -> u8
+    ensures { result ≡ shown_byte byte }
+{
     if byte.is_ascii_graphic() { byte } else { b'?' }
 }
 
 /// Appends a word.
-pub(crate) fn push_word(text: &mut Text, word: &[u8]) -> Result<(), Memory> {
+pub(crate) fn push_word(text: &mut Text, word: &[u8]) -> Result<(), Memory>
+    ensures { OnOk result (text.new ≡ text.old ++ shown_of word.now) }
+{
     for byte in word {
         text.push(shown(*byte))?;
     }
@@ -25,13 +35,17 @@ pub(crate) fn push_word(text: &mut Text, word: &[u8]) -> Result<(), Memory> {
 }
 
 /// Appends a number in decimal digits.
-fn push_number(alloc: Global, text: &mut Text, number: usize) -> Result<(), Memory> {
+fn push_number(alloc: Global, text: &mut Text, number: usize) -> Result<(), Memory>
+    ensures { OnOk result (text.new ≡ text.old ++ decimal number) }
+{
     push_word(text, format!(in alloc; "{number}")?.as_bytes())
 }
 
 impl Section {
     /// The keys that may stand there.
-    pub(crate) fn rows(self) -> &'static [KeyRow] {
+    pub(crate) fn rows(self) -> &'static [KeyRow]
+        ensures { map shown_row result.now ≡ rows_of self }
+    {
         match self {
             Section::Top => &TOP_KEYS,
             Section::Item { kind, .. } => kind.rows(),
@@ -39,7 +53,9 @@ impl Section {
     }
 
     /// Its own name, as `member[32]`.
-    fn text(self, alloc: Global) -> Result<Text, Memory> {
+    fn text(self, alloc: Global) -> Result<Text, Memory>
+        ensures { IfOk result (λ text. text ≡ section_name self) }
+    {
         let mut text = Text::new(alloc);
         if let Section::Item { kind, number } = self {
             push_word(&mut text, kind.key().as_bytes())?;
@@ -51,7 +67,9 @@ impl Section {
     }
 
     /// The name of a key there, as `hops` or `member[0].bits`.
-    pub(crate) fn name(self, alloc: Global, key: &str) -> Result<Text, Memory> {
+    pub(crate) fn name(self, alloc: Global, key: &str) -> Result<Text, Memory>
+        ensures { IfOk result (λ name. name ≡ key_name self key.now) }
+    {
         let mut text = self.text(alloc)?;
         if self != Section::Top {
             text.push(b'.')?;
@@ -66,7 +84,9 @@ impl Section {
         alloc: Global,
         key: &str,
         found: Option<T>,
-    ) -> Result<T, PolicyFault> {
+    ) -> Result<T, PolicyFault>
+        ensures { Gives (found_of self key.now found) result }
+    {
         match found {
             Some(value) => Ok(value),
             None => Err(PolicyFault::Value {
@@ -76,7 +96,9 @@ impl Section {
     }
 
     /// The fault that the whole item can't be there.
-    pub(crate) fn surplus(self, alloc: Global) -> PolicyFault {
+    pub(crate) fn surplus(self, alloc: Global) -> PolicyFault
+        ensures { (result ≡ PolicyFault.Memory) ⊎ (result ≡ PolicyFault.Value (section_name self)) }
+    {
         match self.text(alloc) {
             Ok(name) => PolicyFault::Value { name },
             Err(wanted) => PolicyFault::from(wanted),

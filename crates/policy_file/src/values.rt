@@ -1,4 +1,10 @@
 //! Values of keys.
+ghost use Rattle.std.specs.Prelude.{◌≡◌, ◌<◌, ◌≤◌, ◌&&◌, IfOk, IfSome, length, option_map};
+ghost use Rattle.std.specs.Char.{is_ascii};
+ghost use Rattle.std.specs.List.{list_all};
+ghost use Rattle.toml.specs.View.{view};
+ghost use Rattle.policy_file.specs.Values.{number as number_of, if_fits, is_printable as is_printable_of, is_address as is_address_of, address as address_of, is_name_byte as is_name_byte_of, is_name as is_name_of, name as name_of, expression as expression_of, digit as digit_of, hexadecimal as hexadecimal_of, dpid as dpid_of, decimal_of, decimal_within as decimal_within_of, split_at_first as split_at_first_of, place as place_of, port_place as port_place_of, virtual_port as virtual_port_of, port as port_of, ports as ports_of};
+
 use cv_io::{Bytes, List, Memory, Text};
 use std::alloc::Global;
 use toml::Value;
@@ -8,7 +14,9 @@ use virtual_topology::{PortPlace, VirtualPort};
 const GREATEST_PORT: u32 = 0xfeff;
 
 /// A number in a range.
-pub(crate) fn number(value: &Value, least: u32, greatest: u32) -> Option<u32> {
+pub(crate) fn number(value: &Value, least: u32, greatest: u32) -> Option<u32>
+    ensures { result ≡ number_of least greatest (view value.now) }
+{
     match *value {
         Value::Integer(number) if i64::from(least) <= number && number <= i64::from(greatest) => {
             Some(number as u32)
@@ -18,38 +26,52 @@ pub(crate) fn number(value: &Value, least: u32, greatest: u32) -> Option<u32> {
 }
 
 /// A text of ASCII.
-pub(crate) fn ascii(alloc: Global, word: &str) -> Result<Option<Text>, Memory> {
+pub(crate) fn ascii(alloc: Global, word: &str) -> Result<Option<Text>, Memory>
+    ensures { IfOk result (λ t. t ≡ if_fits (list_all is_ascii) word.now) }
+{
     Ok(Text::from_bytes(Bytes::from_slice(alloc, word.as_bytes())?).ok())
 }
 
 /// A text that passes a test, which texts beyond ASCII don't.
-fn text_if(alloc: Global, word: &str, fits: bool) -> Result<Option<Text>, Memory> {
+fn text_if(alloc: Global, word: &str, fits: bool) -> Result<Option<Text>, Memory>
+    ensures { IfOk result (λ t. t ≡ if_fits (λ s. fits && list_all is_ascii s) word.now) }
+{
     if fits { ascii(alloc, word) } else { Ok(None) }
 }
 
-fn is_printable(byte: u8) -> bool {
+fn is_printable(byte: u8) -> bool
+    ensures { result ≡ is_printable_of byte }
+{
     byte == b' ' || byte.is_ascii_graphic()
 }
 
 /// Whether it is 1 to 64 bytes of printable ASCII.
-fn is_address(word: &[u8]) -> bool {
+fn is_address(word: &[u8]) -> bool
+    ensures { result ≡ is_address_of word.now }
+{
     !word.is_empty() && word.len() <= 64 && word.iter().all(|byte| is_printable(*byte))
 }
 
 /// An address of the network: 1 to 64 bytes of printable ASCII.
-pub(crate) fn address(alloc: Global, value: &Value) -> Result<Option<Text>, Memory> {
+pub(crate) fn address(alloc: Global, value: &Value) -> Result<Option<Text>, Memory>
+    ensures { IfOk result (λ t. t ≡ address_of (view value.now)) }
+{
     match value.as_str() {
         Some(word) => text_if(alloc, word, is_address(word.as_bytes())),
         None => Ok(None),
     }
 }
 
-fn is_name_byte(byte: u8) -> bool {
+fn is_name_byte(byte: u8) -> bool
+    ensures { result ≡ is_name_byte_of byte }
+{
     byte.is_ascii_lowercase() || byte.is_ascii_digit() || byte == b'_'
 }
 
 /// Whether it is a letter a to z and up to 15 of a to z, 0 to 9 and `_`.
-pub(crate) fn is_name(word: &[u8]) -> bool {
+pub(crate) fn is_name(word: &[u8]) -> bool
+    ensures { result ≡ is_name_of word.now }
+{
     match word {
         [first, rest @ ..] => {
             first.is_ascii_lowercase()
@@ -61,7 +83,9 @@ pub(crate) fn is_name(word: &[u8]) -> bool {
 }
 
 /// A name.
-pub(crate) fn name(alloc: Global, value: &Value) -> Result<Option<Text>, Memory> {
+pub(crate) fn name(alloc: Global, value: &Value) -> Result<Option<Text>, Memory>
+    ensures { IfOk result (λ t. t ≡ name_of (view value.now)) }
+{
     match value.as_str() {
         Some(word) => text_if(alloc, word, is_name(word.as_bytes())),
         None => Ok(None),
@@ -69,7 +93,9 @@ pub(crate) fn name(alloc: Global, value: &Value) -> Result<Option<Text>, Memory>
 }
 
 /// A text of ASCII as an expression has; whether it is one is asked later.
-pub(crate) fn expression(alloc: Global, value: &Value) -> Result<Option<Text>, Memory> {
+pub(crate) fn expression(alloc: Global, value: &Value) -> Result<Option<Text>, Memory>
+    ensures { IfOk result (λ t. t ≡ expression_of (view value.now)) }
+{
     match value.as_str() {
         Some(word) => ascii(alloc, word),
         None => Ok(None),
@@ -77,7 +103,10 @@ pub(crate) fn expression(alloc: Global, value: &Value) -> Result<Option<Text>, M
 }
 
 /// The value of a hexadecimal digit, of either case.
-pub(crate) fn digit(byte: u8) -> Option<u8> {
+pub(crate) fn digit(byte: u8) -> Option<u8>
+    ensures value { result ≡ digit_of byte }
+    ensures below { IfSome result (λ d. d < 16) }
+{
     match byte {
         b'0'..=b'9' => Some(byte - b'0'),
         b'a'..=b'f' => Some(byte - b'a' + 10),
@@ -87,7 +116,10 @@ pub(crate) fn digit(byte: u8) -> Option<u8> {
 }
 
 /// The number of hexadecimal digits, at most 16 of them.
-pub(crate) fn hexadecimal(digits: &[u8]) -> Option<u64> {
+pub(crate) fn hexadecimal(digits: &[u8]) -> Option<u64>
+    requires { length digits.now ≤ 16 }
+    ensures value { result ≡ hexadecimal_of digits.now }
+{
     let mut number: u64 = 0;
     for byte in digits {
         let digit = digit(*byte)?;
@@ -97,7 +129,9 @@ pub(crate) fn hexadecimal(digits: &[u8]) -> Option<u64> {
 }
 
 /// A datapath id: a text of 16 hexadecimal digits.
-pub(crate) fn dpid(value: &Value) -> Option<u64> {
+pub(crate) fn dpid(value: &Value) -> Option<u64>
+    ensures { result ≡ dpid_of (view value.now) }
+{
     let word = value.as_str()?.as_bytes();
     if word.len() == 16 {
         hexadecimal(word)
@@ -107,7 +141,9 @@ pub(crate) fn dpid(value: &Value) -> Option<u64> {
 }
 
 /// The number of decimal digits, at most five of them and without a zero in front.
-pub(crate) fn decimal(digits: &[u8]) -> Option<u32> {
+pub(crate) fn decimal(digits: &[u8]) -> Option<u32>
+    ensures { result ≡ decimal_of digits.now }
+{
     if digits.is_empty() || digits.len() > 5 || (digits.len() > 1 && digits[0] == b'0') {
         return None;
     }
@@ -122,18 +158,25 @@ pub(crate) fn decimal(digits: &[u8]) -> Option<u32> {
 }
 
 /// A number in a range, in decimal digits.
-pub(crate) fn decimal_within(digits: &[u8], least: u32, greatest: u32) -> Option<u32> {
+pub(crate) fn decimal_within(digits: &[u8], least: u32, greatest: u32) -> Option<u32>
+    ensures value { result ≡ decimal_within_of least greatest digits.now }
+    ensures within { IfSome result (λ n. n ≤ greatest) }
+{
     decimal(digits).filter(|number| least <= *number && *number <= greatest)
 }
 
 /// What stands before the first such byte, and what after it.
-pub(crate) fn split_at_first(word: &[u8], byte: u8) -> Option<(&[u8], &[u8])> {
+pub(crate) fn split_at_first(word: &[u8], byte: u8) -> Option<(&[u8], &[u8])>
+    ensures { option_map (λ p. (p.0.now, p.1.now)) result ≡ split_at_first_of byte word.now }
+{
     let at = word.iter().position(|other| *other == byte)?;
     Some((&word[..at], &word[at + 1..]))
 }
 
 /// A port of a switch: NAME:PORT, with a PORT up to 65535.
-fn place(alloc: Global, word: &[u8]) -> Result<Option<PortPlace>, Memory> {
+fn place(alloc: Global, word: &[u8]) -> Result<Option<PortPlace>, Memory>
+    ensures { IfOk result (λ p. p ≡ place_of word.now) }
+{
     let Some((name, digits)) = split_at_first(word, b':') else {
         return Ok(None);
     };
@@ -154,7 +197,9 @@ fn place(alloc: Global, word: &[u8]) -> Result<Option<PortPlace>, Memory> {
 }
 
 /// A port of a switch.
-pub(crate) fn port_place(alloc: Global, value: &Value) -> Result<Option<PortPlace>, Memory> {
+pub(crate) fn port_place(alloc: Global, value: &Value) -> Result<Option<PortPlace>, Memory>
+    ensures { IfOk result (λ p. p ≡ port_place_of (view value.now)) }
+{
     match value.as_str() {
         Some(word) => place(alloc, word.as_bytes()),
         None => Ok(None),
@@ -162,7 +207,9 @@ pub(crate) fn port_place(alloc: Global, value: &Value) -> Result<Option<PortPlac
 }
 
 /// A port of a virtual switch: N=SWITCH:PORT or N=link.
-pub(crate) fn virtual_port(alloc: Global, word: &[u8]) -> Result<Option<VirtualPort>, Memory> {
+pub(crate) fn virtual_port(alloc: Global, word: &[u8]) -> Result<Option<VirtualPort>, Memory>
+    ensures { IfOk result (λ p. p ≡ virtual_port_of word.now) }
+{
     let Some((digits, rest)) = split_at_first(word, b'=') else {
         return Ok(None);
     };
@@ -180,7 +227,9 @@ pub(crate) fn virtual_port(alloc: Global, word: &[u8]) -> Result<Option<VirtualP
 }
 
 /// The number of a port.
-pub(crate) fn port(value: &Value) -> Option<u16> {
+pub(crate) fn port(value: &Value) -> Option<u16>
+    ensures { result ≡ port_of (view value.now) }
+{
     match number(value, 1, GREATEST_PORT) {
         Some(port) => Some(port as u16),
         None => None,
@@ -198,7 +247,9 @@ pub(crate) fn are_distinct<T: Ord + Copy>(alloc: Global, items: &[T]) -> Result<
 }
 
 /// The numbers of a list of ports, each once.
-pub(crate) fn ports(alloc: Global, value: &Value) -> Result<Option<List<u16>>, Memory> {
+pub(crate) fn ports(alloc: Global, value: &Value) -> Result<Option<List<u16>>, Memory>
+    ensures { IfOk result (λ ports. ports ≡ ports_of (view value.now)) }
+{
     let Value::Array(items) = value else {
         return Ok(None);
     };

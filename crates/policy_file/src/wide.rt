@@ -1,4 +1,9 @@
 //! How many levels of priority virtual switches need over hops.
+ghost use Rattle.std.specs.Prelude.{◌≡◌, IfOk, map};
+ghost use Rattle.policy_expr.specs.Policy.{policy_of};
+ghost use Rattle.virtual_topology.specs.Faults.{Answers};
+ghost use Rattle.policy_file.specs.Widths.{size as size_of_expr, too_wide, too_wide_in};
+
 use crate::fault::PolicyFault;
 use crate::policy::MemberItem;
 use alg_priority::size_concat;
@@ -25,7 +30,9 @@ fn push_bits(expr: &Expr, members: &[MemberItem], bits: &mut List<u32>) -> Resul
 }
 
 /// The size of an expression.
-fn size(alloc: Global, expr: &Expr, members: &[MemberItem]) -> Result<u64, Memory> {
+fn size(alloc: Global, expr: &Expr, members: &[MemberItem]) -> Result<u64, Memory>
+    ensures { IfOk result (λ n. n ≡ size_of_expr members.now (policy_of expr.now)) }
+{
     let mut bits = List::new(alloc);
     push_bits(expr, members, &mut bits)?;
     Ok(expr.size(&bits))
@@ -95,7 +102,9 @@ fn needed_over(
     Ok(needed)
 }
 
-fn check_width(item: &VirtualItem, needed: u64) -> Result<(), PolicyFault> {
+fn check_width(item: &VirtualItem, needed: u64) -> Result<(), PolicyFault>
+    ensures { Answers PolicyFault.Memory result (too_wide (λ _. needed) (0, item.now)) }
+{
     if needed > LEVELS {
         return Err(PolicyFault::TooWide {
             name: item.name.copy()?,
@@ -113,7 +122,9 @@ pub(crate) fn check_widths(
     exprs: &[Expr],
     members: &[MemberItem],
     hops: u32,
-) -> Result<(), PolicyFault> {
+) -> Result<(), PolicyFault>
+    ensures { Answers PolicyFault.Memory result (too_wide_in topology.now members.now (map policy_of exprs.now) hops) }
+{
     let sizes = sizes(alloc, exprs, members)?;
     let needed = needed_over(alloc, topology, &sizes, hops)?;
     for (item, needed) in topology.plan().virtuals.as_slice().iter().zip(&needed) {

@@ -1,4 +1,9 @@
 //! Lists of words: fields, kinds of action, ports of a virtual switch.
+ghost use Rattle.std.specs.Prelude.{◌≡◌, ◌<◌, IfOk, IfSome, option_map};
+ghost use Rattle.toml.specs.View.{view};
+ghost use Rattle.grants.specs.Names.{kind_bit as bit_of_kind};
+ghost use Rattle.policy_file.specs.Words.{virtual_ports as virtual_ports_of, with_bit as with_bit_of, kind as kind_of, actions as actions_of, field as field_of, field_and_bits as field_and_bits_of, fields as fields_of};
+
 use crate::values::{are_distinct, decimal_within, split_at_first, virtual_port};
 use cv_io::{List, Memory};
 use grants::Field;
@@ -27,7 +32,9 @@ pub(crate) fn words(alloc: Global, value: &Value) -> Result<Option<Vec<&str>>, M
 pub(crate) fn virtual_ports(
     alloc: Global,
     value: &Value,
-) -> Result<Option<List<VirtualPort>>, Memory> {
+) -> Result<Option<List<VirtualPort>>, Memory>
+    ensures { IfOk result (λ ports. ports ≡ virtual_ports_of (view value.now)) }
+{
     let Some(words) = words(alloc, value)? else {
         return Ok(None);
     };
@@ -43,7 +50,10 @@ pub(crate) fn virtual_ports(
 }
 
 /// A set of bits with one more, if it isn't there.
-fn with_bit(mask: u32, bit: u8) -> Option<u32> {
+fn with_bit(mask: u32, bit: u8) -> Option<u32>
+    requires { bit < 32 }
+    ensures { result ≡ with_bit_of mask bit }
+{
     let added = 1 << (bit & 31);
     if mask & added == 0 {
         Some(mask | added)
@@ -53,13 +63,18 @@ fn with_bit(mask: u32, bit: u8) -> Option<u32> {
 }
 
 /// The bit of the kind of action of this name.
-fn kind_bit(word: &[u8]) -> Option<u8> {
+fn kind_bit(word: &[u8]) -> Option<u8>
+    ensures value { result ≡ option_map bit_of_kind (kind_of word.now) }
+    ensures below { IfSome result (λ bit. bit < 11) }
+{
     let kind = KINDS.iter().find(|kind| kind.name().as_bytes() == word)?;
     Some(kind.bit())
 }
 
 /// The kinds of action of a list, each once, as a grant has them.
-pub(crate) fn actions(value: &Value) -> Option<u32> {
+pub(crate) fn actions(value: &Value) -> Option<u32>
+    ensures { result ≡ actions_of (view value.now) }
+{
     let Value::Array(items) = value else {
         return None;
     };
@@ -109,7 +124,9 @@ impl Nameable {
 }
 
 /// The field of this name.
-pub(crate) fn field(word: &[u8]) -> Option<Field> {
+pub(crate) fn field(word: &[u8]) -> Option<Field>
+    ensures { result ≡ field_of word.now }
+{
     FIELDS
         .iter()
         .find(|field| field.name().as_bytes() == word)
@@ -117,7 +134,9 @@ pub(crate) fn field(word: &[u8]) -> Option<Field> {
 }
 
 /// A field, and the most bits of it that may be named: `nw_src/24` is at most 24.
-fn field_and_bits(word: &[u8]) -> Option<(Field, u8)> {
+fn field_and_bits(word: &[u8]) -> Option<(Field, u8)>
+    ensures { result ≡ field_and_bits_of word.now }
+{
     let Some((name, digits)) = split_at_first(word, b'/') else {
         return Some((field(word)?, 32));
     };
@@ -130,7 +149,9 @@ fn field_and_bits(word: &[u8]) -> Option<(Field, u8)> {
 }
 
 /// The fields of a list, each once.
-pub(crate) fn fields(value: &Value) -> Option<Nameable> {
+pub(crate) fn fields(value: &Value) -> Option<Nameable>
+    ensures { result ≡ fields_of (view value.now) }
+{
     let Value::Array(items) = value else {
         return None;
     };
