@@ -1,5 +1,5 @@
 -- The switches, cables, virtual switches and links of a file.
-use Rattle.std.specs.Prelude.{ℕ, ◌==◌, not, Bool, codes, List, [], ◌∷◌, ◌++◌, Option, Some, None, Result, Ok, Err, if◌then◌else◌, option_and_then, map}
+use Rattle.std.specs.Prelude.{ℕ, ◌==◌, not, Bool, false, codes, List, [], ◌∷◌, ◌++◌, Option, Some, None, Result, Ok, Err, if◌then◌else◌, option_and_then, map}
 use Rattle.std.specs.List.{enumerate_from, list_any}
 use Rattle.toml.specs.Data.{Data, string, integer, float, boolean, datetime, array, table, Members, get_member, same_key}
 use Rattle.virtual_topology.specs.declared.plan.PairItem.{PairItem}
@@ -23,6 +23,10 @@ read_at read key ms = option_and_then read (get_member key ms)
 -- a value that isn't among those of earlier items
 abbrev pub if_new : {A : Type 0} → (A → A → Bool) → List A → A → Option A
 if_new same earlier x = if list_any (same x) earlier then None else Some x
+
+abbrev pub is_some_among : {A : Type 0} → (A → A → Bool) → List A → Option A → Bool
+is_some_among same earlier None = false
+is_some_among same earlier (Some x) = list_any (same x) earlier
 
 abbrev pub new_dpid : List ℕ → Members → Option ℕ
 new_dpid earlier ms = option_and_then (if_new (λ a b. a == b) earlier) (read_at dpid (codes "dpid") ms)

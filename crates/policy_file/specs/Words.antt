@@ -60,6 +60,21 @@ field_names =
     (codes "dl_vlan_pcp", DlVlanPcp) ∷ (codes "dl_type", DlType) ∷ (codes "nw_tos", NwTos) ∷ (codes "nw_proto", NwProto) ∷
     (codes "nw_src", NwSrc) ∷ (codes "nw_dst", NwDst) ∷ (codes "tp_src", TpSrc) ∷ (codes "tp_dst", TpDst) ∷ []
 
+-- the name of a field
+abbrev pub name_of : Field → List ℕ
+name_of InPort = codes "in_port"
+name_of DlSrc = codes "dl_src"
+name_of DlDst = codes "dl_dst"
+name_of DlVlan = codes "dl_vlan"
+name_of DlVlanPcp = codes "dl_vlan_pcp"
+name_of DlType = codes "dl_type"
+name_of NwTos = codes "nw_tos"
+name_of NwProto = codes "nw_proto"
+name_of NwSrc = codes "nw_src"
+name_of NwDst = codes "nw_dst"
+name_of TpSrc = codes "tp_src"
+name_of TpDst = codes "tp_dst"
+
 abbrev pub field : List ℕ → Option Field
 field = named field_names
 

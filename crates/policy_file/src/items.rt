@@ -1,6 +1,10 @@
 //! Switches, cables and links.
+ghost use Rattle.std.specs.Prelude.{◌≡◌, ◌==◌, IfOk, Some, None, if◌then◌else◌, map, codes, option_and_then};
+ghost use Rattle.toml.specs.Data.{same_key};
 ghost use Rattle.toml.specs.View.{table_view};
-ghost use Rattle.policy_file.specs.Plans.{switch as switch_of, pair as pair_of, virtual_switch as virtual_switch_of, switches as switches_of, pairs as pairs_of, virtuals as virtuals_of, plan_of};
+ghost use Rattle.policy_file.specs.Values.{dpid as dpid_of, name as name_of, expression as expression_of, port_place as port_place_of, ports as ports_of};
+ghost use Rattle.policy_file.specs.Words.{virtual_ports as virtual_ports_of};
+ghost use Rattle.policy_file.specs.Plans.{switch as switch_of, pair as pair_of, virtual_switch as virtual_switch_of, switches as switches_of, pairs as pairs_of, virtuals as virtuals_of, plan_of, read_at, new_dpid, new_name, is_some_among};
 ghost use Rattle.policy_file.specs.Outcomes.{Gives};
 
 use crate::fault::PolicyFault;
@@ -11,60 +15,145 @@ use crate::values::{dpid, expression, name, port_place, ports};
 use crate::words::virtual_ports;
 use cv_io::{List, Memory, Text};
 use std::alloc::Global;
-use toml::{Table, Value};
-use virtual_topology::{PairItem, PortPlace, SwitchItem, TopologyPlan, VirtualItem};
+use toml::Table;
+use virtual_topology::{PairItem, PortPlace, SwitchItem, TopologyPlan, VirtualItem, VirtualPort};
 
-/// What of an item has to be its own, among physical or among virtual switches.
-trait Labelled {
-    fn label(&self) -> (&Text, u64);
-}
-
-impl Labelled for SwitchItem {
-    fn label(&self) -> (&Text, u64) {
-        (&self.name, self.dpid)
+/// The datapath id of an item.
+fn dpid_at(table: &Table) -> Option<u64>
+    ensures { result ≡ read_at dpid_of (codes "dpid") (table_view table.now) }
+{
+    match table.get("dpid") {
+        Some(value) => dpid(value),
+        None => None,
     }
 }
 
-impl Labelled for VirtualItem {
-    fn label(&self) -> (&Text, u64) {
-        (&self.name, self.dpid)
-    }
-}
-
-/// What a reader makes of the value of a key, if it stands.
-fn at<T: Drop, F: Fn(Global, &Value) -> Result<Option<T>, Memory>>(
-    alloc: Global,
-    table: &Table,
-    key: &str,
-    read: F,
-) -> Result<Option<T>, Memory> {
-    match table.get(key) {
-        Some(value) => read(alloc, value),
+/// The name of an item.
+fn name_at(alloc: Global, table: &Table) -> Result<Option<Text>, Memory>
+    ensures { IfOk result (λ t. t ≡ read_at name_of (codes "name") (table_view table.now)) }
+{
+    match table.get("name") {
+        Some(value) => name(alloc, value),
         None => Ok(None),
     }
 }
 
-/// A datapath id that no earlier item has.
-fn new_dpid<I: Labelled>(table: &Table, earlier: &[I]) -> Option<u64> {
-    let dpid = dpid(table.get("dpid")?)?;
-    if earlier.iter().any(|item| item.label().1 == dpid) {
-        None
-    } else {
-        Some(dpid)
+/// An end of a cable or a link.
+fn end_at(alloc: Global, table: &Table, key: &str) -> Result<Option<PortPlace>, Memory>
+    ensures { IfOk result (λ p. p ≡ read_at port_place_of key.now (table_view table.now)) }
+{
+    match table.get(key) {
+        Some(value) => port_place(alloc, value),
+        None => Ok(None),
     }
 }
 
-/// A name that no earlier item has.
-fn new_name<I: Labelled>(
+fn ports_at(alloc: Global, table: &Table) -> Result<Option<List<u16>>, Memory>
+    ensures { IfOk result (λ p. p ≡ read_at ports_of (codes "ports") (table_view table.now)) }
+{
+    match table.get("ports") {
+        Some(value) => ports(alloc, value),
+        None => Ok(None),
+    }
+}
+
+fn virtual_ports_at(alloc: Global, table: &Table) -> Result<Option<List<VirtualPort>>, Memory>
+    ensures { IfOk result (λ p. p ≡ read_at virtual_ports_of (codes "ports") (table_view table.now)) }
+{
+    match table.get("ports") {
+        Some(value) => virtual_ports(alloc, value),
+        None => Ok(None),
+    }
+}
+
+fn expression_at(alloc: Global, table: &Table) -> Result<Option<Text>, Memory>
+    ensures { IfOk result (λ t. t ≡ read_at expression_of (codes "expr") (table_view table.now)) }
+{
+    match table.get("expr") {
+        Some(value) => expression(alloc, value),
+        None => Ok(None),
+    }
+}
+
+/// What was read, unless an earlier item has it.
+fn if_new<T: Drop>(found: Option<T>, used: bool) -> Option<T>
+    ensures { result ≡ option_and_then (λ x. if used then None else Some x) found }
+{
+    match found {
+        Some(value) if !used => Some(value),
+        _ => None,
+    }
+}
+
+/// Whether an earlier switch has the datapath id.
+fn is_switch_dpid(earlier: &[SwitchItem], dpid: Option<u64>) -> bool
+    ensures { result ≡ is_some_among (λ a b. a == b) (map (λ s. s.dpid) earlier.now) dpid }
+{
+    dpid.is_some_and(|dpid| earlier.iter().any(|item| item.dpid == dpid))
+}
+
+fn is_switch_name(earlier: &[SwitchItem], name: &Option<Text>) -> bool
+    ensures { result ≡ is_some_among same_key (map (λ s. s.name) earlier.now) name.now }
+{
+    match name {
+        Some(name) => earlier.iter().any(|item| item.name == *name),
+        None => false,
+    }
+}
+
+fn is_virtual_dpid(earlier: &[VirtualItem], dpid: Option<u64>) -> bool
+    ensures { result ≡ is_some_among (λ a b. a == b) (map (λ s. s.dpid) earlier.now) dpid }
+{
+    dpid.is_some_and(|dpid| earlier.iter().any(|item| item.dpid == dpid))
+}
+
+fn is_virtual_name(earlier: &[VirtualItem], name: &Option<Text>) -> bool
+    ensures { result ≡ is_some_among same_key (map (λ s. s.name) earlier.now) name.now }
+{
+    match name {
+        Some(name) => earlier.iter().any(|item| item.name == *name),
+        None => false,
+    }
+}
+
+/// The datapath id of a switch, if no earlier one has it.
+fn new_switch_dpid(table: &Table, earlier: &[SwitchItem]) -> Option<u64>
+    ensures { result ≡ new_dpid (map (λ s. s.dpid) earlier.now) (table_view table.now) }
+{
+    let dpid = dpid_at(table);
+    if_new(dpid, is_switch_dpid(earlier, dpid))
+}
+
+fn new_virtual_dpid(table: &Table, earlier: &[VirtualItem]) -> Option<u64>
+    ensures { result ≡ new_dpid (map (λ s. s.dpid) earlier.now) (table_view table.now) }
+{
+    let dpid = dpid_at(table);
+    if_new(dpid, is_virtual_dpid(earlier, dpid))
+}
+
+/// The name of a switch, if no earlier one has it.
+fn new_switch_name(
     alloc: Global,
     table: &Table,
-    earlier: &[I],
-) -> Result<Option<Text>, Memory> {
-    let Some(name) = at(alloc, table, "name", name)? else {
-        return Ok(None);
-    };
-    let used = earlier.iter().any(|item| *item.label().0 == name);
-    Ok(if used { None } else { Some(name) })
+    earlier: &[SwitchItem],
+) -> Result<Option<Text>, Memory>
+    ensures { IfOk result (λ t. t ≡ new_name (map (λ s. s.name) earlier.now) (table_view table.now)) }
+{
+    let name = name_at(alloc, table)?;
+    let used = is_switch_name(earlier, &name);
+    Ok(if_new(name, used))
+}
+
+fn new_virtual_name(
+    alloc: Global,
+    table: &Table,
+    earlier: &[VirtualItem],
+) -> Result<Option<Text>, Memory>
+    ensures { IfOk result (λ t. t ≡ new_name (map (λ s. s.name) earlier.now) (table_view table.now)) }
+{
+    let name = name_at(alloc, table)?;
+    let used = is_virtual_name(earlier, &name);
+    Ok(if_new(name, used))
 }
 
 fn switch(
@@ -75,17 +164,17 @@ fn switch(
 ) -> Result<SwitchItem, PolicyFault>
     ensures { Gives (switch_of earlier.now section (table_view table.now)) result }
 {
-    let dpid = section.found(alloc, "dpid", new_dpid(table, earlier))?;
-    let name = section.found(alloc, "name", new_name(alloc, table, earlier)?)?;
-    let ports = section.found(alloc, "ports", at(alloc, table, "ports", ports)?)?;
+    let dpid = section.found(alloc, "dpid", new_switch_dpid(table, earlier))?;
+    let name = section.found(alloc, "name", new_switch_name(alloc, table, earlier)?)?;
+    let ports = section.found(alloc, "ports", ports_at(alloc, table)?)?;
     Ok(SwitchItem { name, dpid, ports })
 }
 
 fn pair(alloc: Global, section: Section, table: &Table) -> Result<PairItem, PolicyFault>
     ensures { Gives (pair_of section (table_view table.now)) result }
 {
-    let a: PortPlace = section.found(alloc, "a", at(alloc, table, "a", port_place)?)?;
-    let b: PortPlace = section.found(alloc, "b", at(alloc, table, "b", port_place)?)?;
+    let a = section.found(alloc, "a", end_at(alloc, table, "a")?)?;
+    let b = section.found(alloc, "b", end_at(alloc, table, "b")?)?;
     Ok(PairItem { a, b })
 }
 
@@ -97,10 +186,10 @@ fn virtual_switch(
 ) -> Result<VirtualItem, PolicyFault>
     ensures { Gives (virtual_switch_of earlier.now section (table_view table.now)) result }
 {
-    let dpid = section.found(alloc, "dpid", new_dpid(table, earlier))?;
-    let expr = section.found(alloc, "expr", at(alloc, table, "expr", expression)?)?;
-    let name = section.found(alloc, "name", new_name(alloc, table, earlier)?)?;
-    let ports = section.found(alloc, "ports", at(alloc, table, "ports", virtual_ports)?)?;
+    let dpid = section.found(alloc, "dpid", new_virtual_dpid(table, earlier))?;
+    let expr = section.found(alloc, "expr", expression_at(alloc, table)?)?;
+    let name = section.found(alloc, "name", new_virtual_name(alloc, table, earlier)?)?;
+    let ports = section.found(alloc, "ports", virtual_ports_at(alloc, table)?)?;
     Ok(VirtualItem {
         name,
         dpid,

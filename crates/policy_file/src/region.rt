@@ -1,8 +1,10 @@
 //! Regions: boxes of headers, each a table of fields and their values.
 ghost use Rattle.std.specs.Prelude.{◌≡◌, ◌<◌, ◌≤◌, IfOk};
+ghost use Rattle.toml.specs.Data.{get_member};
 ghost use Rattle.toml.specs.View.{view, table_view};
+ghost use Rattle.policy_file.specs.Words.{name_of};
 ghost use Rattle.policy_file.specs.Values.{number, decimal_within};
-ghost use Rattle.policy_file.specs.Regions.{vlan as vlan_of, tos as tos_of, ether as ether_of, prefix_if, prefix as prefix_at, names_fields as names_fields_of, fields_named, box_of as box_of_table, all_headers, region as region_of, regions as regions_of};
+ghost use Rattle.policy_file.specs.Regions.{vlan as vlan_of, tos as tos_of, ether as ether_of, prefix_if, if_there, prefix as prefix_in, names_fields as names_fields_of, fields_named, box_of as box_of_table, all_headers, region as region_of, regions as regions_of};
 
 use crate::values::{decimal_within, hexadecimal, number, split_at_first};
 use crate::words::field;
@@ -101,7 +103,7 @@ fn prefix_of(addr: u32, len: u32) -> Option<Prefix>
 
 /// A prefix of addresses, as `10.0.0.0/8`, whose further bits are zero.
 fn prefix(value: &Value) -> Option<Prefix>
-    ensures { result ≡ prefix_at (view value.now) }
+    ensures { result ≡ prefix_in (view value.now) }
 {
     let (address, bits) = split_at_first(value.as_str()?.as_bytes(), b'/')?;
     let (first, rest) = split_at_first(address, b'.')?;
@@ -117,9 +119,56 @@ fn prefix(value: &Value) -> Option<Prefix>
 }
 
 /// The value of a field that a table names: Some(None) where it doesn't, None where it can't be so.
-fn at<T, F: Fn(&Value) -> Option<T>>(table: &Table, field: Field, read: F) -> Option<Option<T>> {
+fn ether_at(table: &Table, field: Field) -> Option<Option<u64>>
+    ensures { result ≡ if_there ether_of (get_member (name_of field) (table_view table.now)) }
+{
     match table.get(field.name()) {
-        Some(value) => Some(Some(read(value)?)),
+        Some(value) => Some(Some(ether(value)?)),
+        None => Some(None),
+    }
+}
+
+fn vlan_at(table: &Table, field: Field) -> Option<Option<u16>>
+    ensures { result ≡ if_there vlan_of (get_member (name_of field) (table_view table.now)) }
+{
+    match table.get(field.name()) {
+        Some(value) => Some(Some(vlan(value)?)),
+        None => Some(None),
+    }
+}
+
+fn tos_at(table: &Table, field: Field) -> Option<Option<u8>>
+    ensures { result ≡ if_there tos_of (get_member (name_of field) (table_view table.now)) }
+{
+    match table.get(field.name()) {
+        Some(value) => Some(Some(tos(value)?)),
+        None => Some(None),
+    }
+}
+
+fn byte_at(table: &Table, field: Field) -> Option<Option<u8>>
+    ensures { result ≡ if_there (number 0 255) (get_member (name_of field) (table_view table.now)) }
+{
+    match table.get(field.name()) {
+        Some(value) => Some(Some(byte(value)?)),
+        None => Some(None),
+    }
+}
+
+fn short_at(table: &Table, field: Field) -> Option<Option<u16>>
+    ensures { result ≡ if_there (number 0 65535) (get_member (name_of field) (table_view table.now)) }
+{
+    match table.get(field.name()) {
+        Some(value) => Some(Some(short(value)?)),
+        None => Some(None),
+    }
+}
+
+fn prefix_at(table: &Table, field: Field) -> Option<Option<Prefix>>
+    ensures { result ≡ if_there prefix_in (get_member (name_of field) (table_view table.now)) }
+{
+    match table.get(field.name()) {
+        Some(value) => Some(Some(prefix(value)?)),
         None => Some(None),
     }
 }
@@ -142,17 +191,17 @@ fn named(table: &Table) -> Option<Match>
 {
     Some(Match {
         in_port: None,
-        dl_src: at(table, Field::DlSrc, ether)?,
-        dl_dst: at(table, Field::DlDst, ether)?,
-        dl_vlan: at(table, Field::DlVlan, vlan)?,
+        dl_src: ether_at(table, Field::DlSrc)?,
+        dl_dst: ether_at(table, Field::DlDst)?,
+        dl_vlan: vlan_at(table, Field::DlVlan)?,
         dl_vlan_pcp: None,
-        dl_type: at(table, Field::DlType, short)?,
-        nw_tos: at(table, Field::NwTos, tos)?,
-        nw_proto: at(table, Field::NwProto, byte)?,
-        nw_src: at(table, Field::NwSrc, prefix)?,
-        nw_dst: at(table, Field::NwDst, prefix)?,
-        tp_src: at(table, Field::TpSrc, short)?,
-        tp_dst: at(table, Field::TpDst, short)?,
+        dl_type: short_at(table, Field::DlType)?,
+        nw_tos: tos_at(table, Field::NwTos)?,
+        nw_proto: byte_at(table, Field::NwProto)?,
+        nw_src: prefix_at(table, Field::NwSrc)?,
+        nw_dst: prefix_at(table, Field::NwDst)?,
+        tp_src: short_at(table, Field::TpSrc)?,
+        tp_dst: short_at(table, Field::TpDst)?,
     })
 }
 

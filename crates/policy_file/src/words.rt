@@ -1,8 +1,8 @@
 //! Lists of words: fields, kinds of action, ports of a virtual switch.
-ghost use Rattle.std.specs.Prelude.{◌≡◌, ◌<◌, IfOk, IfSome, option_map};
+ghost use Rattle.std.specs.Prelude.{◌≡◌, ◌<◌, IfOk, IfSome, map, option_map};
 ghost use Rattle.toml.specs.View.{view};
 ghost use Rattle.grants.specs.Names.{kind_bit as bit_of_kind};
-ghost use Rattle.policy_file.specs.Words.{virtual_ports as virtual_ports_of, with_bit as with_bit_of, kind as kind_of, actions as actions_of, field as field_of, field_and_bits as field_and_bits_of, fields as fields_of};
+ghost use Rattle.policy_file.specs.Words.{virtual_ports as virtual_ports_of, with_bit as with_bit_of, kind as kind_of, actions as actions_of, field as field_of, field_and_bits as field_and_bits_of, fields as fields_of, words as words_of, nothing, with_field};
 
 use crate::values::{are_distinct, decimal_within, split_at_first, virtual_port};
 use cv_io::{List, Memory};
@@ -14,7 +14,9 @@ use toml::Value;
 use virtual_topology::VirtualPort;
 
 /// The texts of a list.
-pub(crate) fn words(alloc: Global, value: &Value) -> Result<Option<Vec<&str>>, Memory> {
+pub(crate) fn words(alloc: Global, value: &Value) -> Result<Option<Vec<&str>>, Memory>
+    ensures { IfOk result (λ ws. option_map (λ v. map (λ w. w.now) v.items) ws ≡ words_of (view value.now)) }
+{
     let Value::Array(items) = value else {
         return Ok(None);
     };
@@ -96,7 +98,9 @@ pub(crate) struct Nameable {
 
 impl Nameable {
     /// No field.
-    pub(crate) fn nothing() -> Nameable {
+    pub(crate) fn nothing() -> Nameable
+        ensures { result ≡ nothing }
+    {
         Nameable {
             fields: 0,
             src_max: 32,
@@ -105,7 +109,9 @@ impl Nameable {
     }
 
     /// With one more field, named with a prefix of so many bits at most, if it isn't there.
-    fn with(self, field: Field, longest: u8) -> Option<Nameable> {
+    fn with(self, field: Field, longest: u8) -> Option<Nameable>
+        ensures { result ≡ with_field self (field, longest) }
+    {
         let fields = with_bit(self.fields, field.bit())?;
         Some(match field {
             Field::NwSrc => Nameable {
