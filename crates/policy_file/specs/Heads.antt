@@ -1,13 +1,14 @@
 -- What the top keys say.
 use Rattle.std.specs.Prelude.{ℕ, Bool, true, false, codes, is_some, List, [], ◌∷◌, Option, Some, None, Result, Ok, Err, if◌then◌else◌, option_map}
 use Rattle.std.specs.List.{list_all}
+use Rattle.std.specs.Option.{option_map_or}
 use Rattle.toml.specs.Data.{Data, string, integer, float, boolean, datetime, array, table, as_table, Members, get_member}
 use Rattle.policy_file.specs.declared.fault.PolicyFault.{PolicyFault}
 use Rattle.policy_file.specs.declared.head.Head.{Head}
 use Rattle.policy_file.specs.declared.keys.ItemKind.{ItemKind}
 use Rattle.policy_file.specs.declared.keys.ItemKind.TheVariants.{Switch, Cable, Virtual, Link, Member}
 use Rattle.policy_file.specs.declared.section.Section.TheVariants.{Top}
-use Rattle.policy_file.specs.Documents.{items_in}
+use Rattle.policy_file.specs.Documents.{as_list}
 use Rattle.policy_file.specs.Keys.{kind_key}
 use Rattle.policy_file.specs.Listed.{version_of}
 use Rattle.policy_file.specs.Outcomes.{found, then_do}
@@ -23,8 +24,7 @@ abbrev pub is_table : Data → Bool
 is_table d = is_some (as_table d)
 
 abbrev pub lists_tables : Data → Bool
-lists_tables (array ds) = list_all is_table (items_in ds)
-lists_tables _ = false
+lists_tables d = option_map_or (list_all is_table) (as_list d) false
 
 -- a top key of items lists tables
 abbrev pub tables : Data → Option (Unit {0})

@@ -1,8 +1,8 @@
 -- Keys that aren't listed, and keys that are missing.
-use Rattle.std.specs.Prelude.{ℕ, pos, ◌==◌, ◌&&◌, not, Bool, true, false, codes, is_none, List, [], ◌∷◌, Option, Some, None, if◌then◌else◌, option_and_then, option_map}
+use Rattle.std.specs.Prelude.{ℕ, ℤ, pos, ◌==◌, ◌&&◌, not, Bool, true, false, codes, is_none, List, [], ◌∷◌, Option, Some, None, if◌then◌else◌, option_and_then, option_map, unwrap_or}
 use Rattle.std.specs.List.{enumerate_from, list_any}
 use Rattle.std.specs.Option.{option_or}
-use Rattle.toml.specs.Data.{Data, string, integer, float, boolean, datetime, array, table, Members, get_member, same_key}
+use Rattle.toml.specs.Data.{Data, string, integer, float, boolean, datetime, array, table, as_integer, Members, get_member, same_key}
 use Rattle.virtual_topology.specs.Faults.{first_answer}
 use Rattle.policy_file.specs.declared.fault.PolicyFault.{PolicyFault}
 use Rattle.policy_file.specs.declared.fault.PolicyFault.TheVariants as faults
@@ -11,7 +11,7 @@ use Rattle.policy_file.specs.declared.keys.Version.{Version}
 use Rattle.policy_file.specs.declared.keys.Version.TheVariants.{One, Two}
 use Rattle.policy_file.specs.declared.section.Section.{Section}
 use Rattle.policy_file.specs.declared.section.Section.TheVariants.{Top, Item}
-use Rattle.policy_file.specs.Documents.{items_in, keys_in}
+use Rattle.policy_file.specs.Documents.{as_list, keys_in}
 use Rattle.policy_file.specs.Keys.{Row, kind_key, item_kinds}
 use Rattle.policy_file.specs.Sections.{rows_of, key_name}
 
@@ -19,9 +19,12 @@ use Rattle.policy_file.specs.Sections.{rows_of, key_name}
 abbrev pub version_at : ℕ → Option Version
 version_at n = if n == 1 then Some One else if n == 2 then Some Two else None
 
+abbrev pub version_of_number : ℤ → Option Version
+version_of_number (pos n) = version_at n
+version_of_number _ = None
+
 abbrev pub version : Data → Option Version
-version (integer (pos n)) = version_at n
-version _ = None
+version d = option_and_then version_of_number (as_integer d)
 
 -- the version that a file is in, if it names one
 abbrev pub version_of : Members → Option Version
@@ -29,8 +32,7 @@ version_of file = option_and_then version (get_member (codes "version") file)
 
 -- the values that a top key lists
 abbrev pub listed : Option Data → List Data
-listed (Some (array ds)) = items_in ds
-listed _ = []
+listed d = unwrap_or (option_and_then as_list d) []
 
 abbrev pub items : Members → ItemKind → List Data
 items file kind = listed (get_member (kind_key kind) file)

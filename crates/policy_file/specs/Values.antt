@@ -1,8 +1,8 @@
 -- What the values of keys stand for, where they can be so.
-use Rattle.std.specs.Prelude.{codes, ℕ, zero, suc, pos, negsuc, ◌+◌, ◌-◌, ◌*◌, ◌==◌, ◌&&◌, ◌||◌, not, Bool, true, false, List, [], ◌∷◌, Option, Some, None, if◌then◌else◌, nat_le, nat_lt, length, option_map, option_and_then}
+use Rattle.std.specs.Prelude.{codes, ℕ, zero, suc, ℤ, pos, negsuc, ◌+◌, ◌-◌, ◌*◌, ◌==◌, ◌&&◌, ◌||◌, not, Bool, true, false, List, [], ◌∷◌, Option, Some, None, if◌then◌else◌, nat_le, nat_lt, length, option_map, option_and_then, position, take, drop}
 use Rattle.std.specs.Char.{is_ascii_graphic, is_ascii_lowercase, is_ascii_digit, is_ascii}
 use Rattle.std.specs.List.{list_all, list_any}
-use Rattle.toml.specs.Data.{Data, string, integer, float, boolean, datetime, array, table, as_str, same_key}
+use Rattle.toml.specs.Data.{Data, string, integer, float, boolean, datetime, array, table, as_integer, as_str, same_key}
 use Rattle.virtual_topology.specs.declared.plan.PortPlace.{PortPlace}
 use Rattle.virtual_topology.specs.declared.plan.VirtualPort.{VirtualPort}
 use Rattle.policy_file.specs.Documents.{as_list}
@@ -11,9 +11,12 @@ use Rattle.policy_file.specs.Documents.{as_list}
 abbrev pub within : ℕ → ℕ → ℕ → Option ℕ
 within least greatest n = if nat_le least n && nat_le n greatest then Some n else None
 
+abbrev pub within_range : ℕ → ℕ → ℤ → Option ℕ
+within_range least greatest (pos n) = within least greatest n
+within_range least greatest _ = None
+
 abbrev pub number : ℕ → ℕ → Data → Option ℕ
-number least greatest (integer (pos n)) = within least greatest n
-number least greatest _ = None
+number least greatest d = option_and_then (within_range least greatest) (as_integer d)
 
 -- a text that passes a test
 abbrev pub if_fits : (List ℕ → Bool) → List ℕ → Option (List ℕ)
@@ -93,8 +96,7 @@ decimal_within least greatest s = option_and_then (within least greatest) (decim
 
 -- what stands before the first such byte, and what after it
 abbrev pub split_at_first : ℕ → List ℕ → Option (List ℕ × List ℕ)
-split_at_first b [] = None
-split_at_first b (c ∷ cs) = if c == b then Some ([], cs) else option_map (λ (s : List ℕ × List ℕ). (c ∷ s.0, s.1)) (split_at_first b cs)
+split_at_first b s = option_map (λ i. (take i s, drop (i + 1) s)) (position (λ c. c == b) s)
 
 abbrev pub place_at : List ℕ → ℕ → PortPlace
 place_at name port = record { name = name; port = port }

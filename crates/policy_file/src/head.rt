@@ -12,6 +12,7 @@ use crate::fault::PolicyFault;
 use crate::keys::{ItemKind, Version};
 use crate::listed::version_of;
 use crate::section::Section;
+use crate::tables::{at, list};
 use crate::values::{address, number};
 use cv_io::{Memory, Text};
 use std::alloc::Global;
@@ -40,7 +41,7 @@ pub(crate) fn number_or(
 ) -> Option<u32>
     ensures { result ≡ or_absent absent (number_of least greatest) (get_member key.now (table_view table.now)) }
 {
-    match table.get(key) {
+    match at(table, key) {
         Some(value) => number(value, least, greatest),
         None => Some(absent),
     }
@@ -56,7 +57,7 @@ pub(crate) fn address_or(
     requires { IsAsciiText absent.now }
     ensures { IfOk result (λ t. t ≡ or_absent absent.now address_of (get_member key.now (table_view table.now))) }
 {
-    match table.get(key) {
+    match at(table, key) {
         Some(value) => address(alloc, value),
         None => crate::values::ascii(alloc, absent),
     }
@@ -66,7 +67,7 @@ pub(crate) fn address_or(
 fn standby(alloc: Global, file: &Table) -> Result<Option<Option<Text>>, Memory>
     ensures { IfOk result (λ t. t ≡ if_there address_of (get_member (codes "standby") (table_view file.now))) }
 {
-    match file.get("standby") {
+    match at(file, "standby") {
         Some(value) => Ok(address(alloc, value)?.map(Some)),
         None => Ok(Some(None)),
     }
@@ -76,9 +77,9 @@ fn standby(alloc: Global, file: &Table) -> Result<Option<Option<Text>>, Memory>
 fn lists_tables(value: &Value) -> bool
     ensures { result ≡ lists_tables_of (view value.now) }
 {
-    match value {
-        Value::Array(items) => items.iter().all(Value::is_table),
-        _ => false,
+    match list(value) {
+        Some(items) => items.iter().all(|item| item.is_table()),
+        None => false,
     }
 }
 
@@ -86,7 +87,7 @@ fn lists_tables(value: &Value) -> bool
 fn check_kind(alloc: Global, file: &Table, kind: ItemKind) -> Result<(), PolicyFault>
     ensures { Gives (items_at (table_view file.now) kind) result }
 {
-    let listed = match file.get(kind.key()) {
+    let listed = match at(file, kind.key()) {
         Some(value) if !lists_tables(value) => None,
         _ => Some(()),
     };

@@ -11,6 +11,7 @@ use crate::fault::PolicyFault;
 use crate::keys::ItemKind;
 use crate::listed::items;
 use crate::section::Section;
+use crate::tables::at;
 use crate::values::{dpid, expression, name, port_place, ports};
 use crate::words::virtual_ports;
 use cv_io::{List, Memory, Text};
@@ -22,7 +23,7 @@ use virtual_topology::{PairItem, PortPlace, SwitchItem, TopologyPlan, VirtualIte
 fn dpid_at(table: &Table) -> Option<u64>
     ensures { result ≡ read_at dpid_of (codes "dpid") (table_view table.now) }
 {
-    match table.get("dpid") {
+    match at(table, "dpid") {
         Some(value) => dpid(value),
         None => None,
     }
@@ -32,7 +33,7 @@ fn dpid_at(table: &Table) -> Option<u64>
 fn name_at(alloc: Global, table: &Table) -> Result<Option<Text>, Memory>
     ensures { IfOk result (λ t. t ≡ read_at name_of (codes "name") (table_view table.now)) }
 {
-    match table.get("name") {
+    match at(table, "name") {
         Some(value) => name(alloc, value),
         None => Ok(None),
     }
@@ -42,7 +43,7 @@ fn name_at(alloc: Global, table: &Table) -> Result<Option<Text>, Memory>
 fn end_at(alloc: Global, table: &Table, key: &str) -> Result<Option<PortPlace>, Memory>
     ensures { IfOk result (λ p. p ≡ read_at port_place_of key.now (table_view table.now)) }
 {
-    match table.get(key) {
+    match at(table, key) {
         Some(value) => port_place(alloc, value),
         None => Ok(None),
     }
@@ -51,7 +52,7 @@ fn end_at(alloc: Global, table: &Table, key: &str) -> Result<Option<PortPlace>, 
 fn ports_at(alloc: Global, table: &Table) -> Result<Option<List<u16>>, Memory>
     ensures { IfOk result (λ p. p ≡ read_at ports_of (codes "ports") (table_view table.now)) }
 {
-    match table.get("ports") {
+    match at(table, "ports") {
         Some(value) => ports(alloc, value),
         None => Ok(None),
     }
@@ -60,7 +61,7 @@ fn ports_at(alloc: Global, table: &Table) -> Result<Option<List<u16>>, Memory>
 fn virtual_ports_at(alloc: Global, table: &Table) -> Result<Option<List<VirtualPort>>, Memory>
     ensures { IfOk result (λ p. p ≡ read_at virtual_ports_of (codes "ports") (table_view table.now)) }
 {
-    match table.get("ports") {
+    match at(table, "ports") {
         Some(value) => virtual_ports(alloc, value),
         None => Ok(None),
     }
@@ -69,7 +70,7 @@ fn virtual_ports_at(alloc: Global, table: &Table) -> Result<Option<List<VirtualP
 fn expression_at(alloc: Global, table: &Table) -> Result<Option<Text>, Memory>
     ensures { IfOk result (λ t. t ≡ read_at expression_of (codes "expr") (table_view table.now)) }
 {
-    match table.get("expr") {
+    match at(table, "expr") {
         Some(value) => expression(alloc, value),
         None => Ok(None),
     }

@@ -15,6 +15,7 @@ mod reading;
 mod region;
 mod section;
 mod sentence;
+mod tables;
 mod terse;
 mod values;
 mod view;

@@ -3,22 +3,33 @@ ghost use Rattle.std.specs.Prelude.{◌≡◌, map};
 ghost use Rattle.toml.specs.View.{view, table_view};
 ghost use Rattle.virtual_topology.specs.Faults.{Answers};
 ghost use Rattle.policy_file.specs.Shown.{shown_row};
-ghost use Rattle.policy_file.specs.Listed.{version_of as version_in, items as items_of, may_stand as may_stand_of, is_listed as is_listed_of, unlisted, missing, of_table, among_items, unlisted_in, missing_in};
+ghost use Rattle.policy_file.specs.Listed.{version as version_by, version_of as version_in, items as items_of, may_stand as may_stand_of, is_listed as is_listed_of, unlisted, missing, of_table, among_items, unlisted_in, missing_in};
 
 use crate::fault::PolicyFault;
 use crate::keys::{ITEM_KINDS, ItemKind, KeyRow, Version};
 use crate::section::Section;
+use crate::tables::{at, list};
 use std::alloc::Global;
 use toml::{Table, Value};
+
+/// The version of this number.
+fn version(value: &Value) -> Option<Version>
+    ensures { result ≡ version_by (view value.now) }
+{
+    match value.as_integer() {
+        Some(1) => Some(Version::One),
+        Some(2) => Some(Version::Two),
+        _ => None,
+    }
+}
 
 /// The version that a file is in, if it names one.
 pub(crate) fn version_of(file: &Table) -> Option<Version>
     ensures { result ≡ version_in (table_view file.now) }
 {
-    match file.get("version") {
-        Some(Value::Integer(1)) => Some(Version::One),
-        Some(Value::Integer(2)) => Some(Version::Two),
-        _ => None,
+    match at(file, "version") {
+        Some(value) => version(value),
+        None => None,
     }
 }
 
@@ -26,9 +37,9 @@ pub(crate) fn version_of(file: &Table) -> Option<Version>
 pub(crate) fn items(file: &Table, kind: ItemKind) -> &[Value]
     ensures { map view result.now ≡ items_of (table_view file.now) kind }
 {
-    match file.get(kind.key()) {
-        Some(Value::Array(items)) => items,
-        _ => &[],
+    match at(file, kind.key()) {
+        Some(value) => list(value).unwrap_or(&[]),
+        None => &[],
     }
 }
 
@@ -73,7 +84,7 @@ fn check_needed(alloc: Global, section: Section, table: &Table) -> Result<(), Po
     ensures { Answers PolicyFault.Memory result (missing section (table_view table.now)) }
 {
     for row in section.rows() {
-        if row.needed && !table.contains_key(row.key) {
+        if row.needed && at(table, row.key).is_none() {
             return Err(PolicyFault::Missing {
                 name: section.name(alloc, row.key)?,
             });

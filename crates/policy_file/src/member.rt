@@ -17,6 +17,7 @@ use crate::listed::items;
 use crate::policy::MemberItem;
 use crate::region::{everything, region, regions};
 use crate::section::Section;
+use crate::tables::at;
 use crate::values::{name, number, ports};
 use crate::view::{has_port, view};
 use crate::words::{Nameable, actions, fields};
@@ -37,7 +38,7 @@ const ADDRESS: &str = "127.0.0.1:6634";
 fn virtual_at(table: &Table, virtuals: &[VirtualItem]) -> Option<usize>
     ensures { result ≡ virtual_at_of virtuals.now (table_view table.now) }
 {
-    let name = table.get("virtual")?.as_str()?.as_bytes();
+    let name = at(table, "virtual")?.as_str()?.as_bytes();
     virtuals
         .iter()
         .position(|item| item.name.as_bytes() == name)
@@ -45,7 +46,7 @@ fn virtual_at(table: &Table, virtuals: &[VirtualItem]) -> Option<usize>
 
 /// Whether an earlier member has this controller and the virtual switch that the table names.
 fn is_used(table: &Table, earlier: &[MemberItem], controller: &Text) -> bool {
-    let Some(Value::String(vsw)) = table.get("virtual") else {
+    let Some(Value::String(vsw)) = at(table, "virtual") else {
         return false;
     };
     earlier.iter().any(|item| item.controller == *controller
@@ -60,7 +61,7 @@ fn new_controller(
 ) -> Result<Option<Text>, Memory>
     ensures { IfOk result (λ c. c ≡ new_controller_of earlier.now (table_view table.now)) }
 {
-    let controller = match table.get("controller") {
+    let controller = match at(table, "controller") {
         Some(value) => name(alloc, value)?,
         None => None,
     };
@@ -74,7 +75,7 @@ fn new_controller(
 fn actions_at(table: &Table) -> Option<u32>
     ensures { result ≡ or_absent 0 actions_of (get_member (codes "actions") (table_view table.now)) }
 {
-    match table.get("actions") {
+    match at(table, "actions") {
         Some(value) => actions(value),
         None => Some(0),
     }
@@ -82,7 +83,7 @@ fn actions_at(table: &Table) -> Option<u32>
 
 /// The fields of a member, none if it doesn't say.
 fn fields_at(table: &Table) -> Option<Nameable> {
-    match table.get("match") {
+    match at(table, "match") {
         Some(value) => fields(value),
         None => Some(Nameable::nothing()),
     }
@@ -91,7 +92,7 @@ fn fields_at(table: &Table) -> Option<Nameable> {
 fn flag_or(table: &Table, key: &str, absent: bool) -> Option<bool>
     ensures { result ≡ or_absent absent as_bool (get_member key.now (table_view table.now)) }
 {
-    match table.get(key) {
+    match at(table, key) {
         Some(value) => value.as_bool(),
         None => Some(absent),
     }
@@ -100,7 +101,7 @@ fn flag_or(table: &Table, key: &str, absent: bool) -> Option<bool>
 fn bits_at(table: &Table) -> Option<u32>
     ensures { result ≡ read_at (number_of 2 15) (codes "bits") (table_view table.now) }
 {
-    match table.get("bits") {
+    match at(table, "bits") {
         Some(value) => number(value, 2, 15),
         None => None,
     }
@@ -124,7 +125,7 @@ fn ports_at(
 ) -> Result<Option<Option<List<u16>>>, Memory>
     ensures { IfOk result (λ ports. ports ≡ if_there (ports_there (option_copied item.entry)) (get_member (codes "ports") (table_view table.now))) }
 {
-    let Some(value) = table.get("ports") else {
+    let Some(value) = at(table, "ports") else {
         return Ok(Some(None));
     };
     match ports(alloc, value)? {
@@ -147,7 +148,7 @@ fn region_key(version: Version) -> &'static str
 fn region_at(alloc: Global, table: &Table, version: Version) -> Result<Option<List<Match>>, Memory>
     ensures { IfOk result (λ boxes. boxes ≡ or_absent all_headers (region_in version) (get_member (region_key_of version) (table_view table.now))) }
 {
-    match (table.get(region_key(version)), version) {
+    match (at(table, region_key(version)), version) {
         (Some(value), Version::One) => region(alloc, value),
         (Some(value), Version::Two) => regions(alloc, value),
         (None, _) => Ok(Some(everything(alloc)?)),

@@ -6,6 +6,7 @@ ghost use Rattle.policy_file.specs.Words.{name_of};
 ghost use Rattle.policy_file.specs.Values.{number, decimal_within};
 ghost use Rattle.policy_file.specs.Regions.{vlan as vlan_of, tos as tos_of, ether as ether_of, prefix_if, if_there, prefix as prefix_in, names_fields as names_fields_of, fields_named, box_of as box_of_table, all_headers, region as region_of, regions as regions_of};
 
+use crate::tables::{at, list};
 use crate::values::{decimal_within, hexadecimal, number, split_at_first};
 use crate::words::field;
 use cv_io::{List, Memory};
@@ -122,7 +123,7 @@ fn prefix(value: &Value) -> Option<Prefix>
 fn ether_at(table: &Table, field: Field) -> Option<Option<u64>>
     ensures { result ≡ if_there ether_of (get_member (name_of field) (table_view table.now)) }
 {
-    match table.get(field.name()) {
+    match at(table, field.name()) {
         Some(value) => Some(Some(ether(value)?)),
         None => Some(None),
     }
@@ -131,7 +132,7 @@ fn ether_at(table: &Table, field: Field) -> Option<Option<u64>>
 fn vlan_at(table: &Table, field: Field) -> Option<Option<u16>>
     ensures { result ≡ if_there vlan_of (get_member (name_of field) (table_view table.now)) }
 {
-    match table.get(field.name()) {
+    match at(table, field.name()) {
         Some(value) => Some(Some(vlan(value)?)),
         None => Some(None),
     }
@@ -140,7 +141,7 @@ fn vlan_at(table: &Table, field: Field) -> Option<Option<u16>>
 fn tos_at(table: &Table, field: Field) -> Option<Option<u8>>
     ensures { result ≡ if_there tos_of (get_member (name_of field) (table_view table.now)) }
 {
-    match table.get(field.name()) {
+    match at(table, field.name()) {
         Some(value) => Some(Some(tos(value)?)),
         None => Some(None),
     }
@@ -149,7 +150,7 @@ fn tos_at(table: &Table, field: Field) -> Option<Option<u8>>
 fn byte_at(table: &Table, field: Field) -> Option<Option<u8>>
     ensures { result ≡ if_there (number 0 255) (get_member (name_of field) (table_view table.now)) }
 {
-    match table.get(field.name()) {
+    match at(table, field.name()) {
         Some(value) => Some(Some(byte(value)?)),
         None => Some(None),
     }
@@ -158,7 +159,7 @@ fn byte_at(table: &Table, field: Field) -> Option<Option<u8>>
 fn short_at(table: &Table, field: Field) -> Option<Option<u16>>
     ensures { result ≡ if_there (number 0 65535) (get_member (name_of field) (table_view table.now)) }
 {
-    match table.get(field.name()) {
+    match at(table, field.name()) {
         Some(value) => Some(Some(short(value)?)),
         None => Some(None),
     }
@@ -167,7 +168,7 @@ fn short_at(table: &Table, field: Field) -> Option<Option<u16>>
 fn prefix_at(table: &Table, field: Field) -> Option<Option<Prefix>>
     ensures { result ≡ if_there prefix_in (get_member (name_of field) (table_view table.now)) }
 {
-    match table.get(field.name()) {
+    match at(table, field.name()) {
         Some(value) => Some(Some(prefix(value)?)),
         None => Some(None),
     }
@@ -254,7 +255,7 @@ fn next_box(earlier: &[Match], value: &Value) -> Option<Match> {
 pub(crate) fn regions(alloc: Global, value: &Value) -> Result<Option<List<Match>>, Memory>
     ensures { IfOk result (λ boxes. boxes ≡ regions_of (view value.now)) }
 {
-    let Value::Array(items) = value else {
+    let Some(items) = list(value) else {
         return Ok(None);
     };
     if items.is_empty() || items.len() > MOST_BOXES {

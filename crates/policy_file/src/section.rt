@@ -25,6 +25,7 @@ fn shown(byte: u8) -> u8
 }
 
 /// Appends a word.
+#[tactic(auto, using(std::proofs::lemmas::List::take_all))]
 pub(crate) fn push_word(text: &mut Text, word: &[u8]) -> Result<(), Memory>
     ensures { OnOk result (text.new ≡ text.old ++ shown_of word.now) }
 {

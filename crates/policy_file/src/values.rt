@@ -1,10 +1,11 @@
 //! Values of keys.
-ghost use Rattle.std.specs.Prelude.{◌≡◌, ◌<◌, ◌≤◌, ◌&&◌, IfOk, IfSome, length, option_map};
+ghost use Rattle.std.specs.Prelude.{◌≡◌, ◌==◌, ◌<◌, ◌≤◌, ◌&&◌, IfOk, IfSome, length, position, option_map};
 ghost use Rattle.std.specs.Char.{is_ascii};
 ghost use Rattle.std.specs.List.{list_all};
 ghost use Rattle.toml.specs.View.{view};
 ghost use Rattle.policy_file.specs.Values.{number as number_of, if_fits, is_printable as is_printable_of, is_address as is_address_of, address as address_of, is_name_byte as is_name_byte_of, is_name as is_name_of, name as name_of, expression as expression_of, digit as digit_of, hexadecimal as hexadecimal_of, dpid as dpid_of, decimal_of, decimal_within as decimal_within_of, split_at_first as split_at_first_of, place as place_of, port_place as port_place_of, virtual_port as virtual_port_of, port as port_of, ports as ports_of};
 
+use crate::tables::list;
 use cv_io::{Bytes, List, Memory, Text};
 use std::alloc::Global;
 use toml::Value;
@@ -17,8 +18,8 @@ const GREATEST_PORT: u32 = 0xfeff;
 pub(crate) fn number(value: &Value, least: u32, greatest: u32) -> Option<u32>
     ensures { result ≡ number_of least greatest (view value.now) }
 {
-    match *value {
-        Value::Integer(number) if i64::from(least) <= number && number <= i64::from(greatest) => {
+    match value.as_integer() {
+        Some(number) if i64::from(least) <= number && number <= i64::from(greatest) => {
             Some(number as u32)
         }
         _ => None,
@@ -45,11 +46,17 @@ fn is_printable(byte: u8) -> bool
     byte == b' ' || byte.is_ascii_graphic()
 }
 
+fn are_printable(word: &[u8]) -> bool
+    ensures { result ≡ list_all is_printable_of word.now }
+{
+    word.iter().all(|byte| is_printable(*byte))
+}
+
 /// Whether it is 1 to 64 bytes of printable ASCII.
 fn is_address(word: &[u8]) -> bool
     ensures { result ≡ is_address_of word.now }
 {
-    !word.is_empty() && word.len() <= 64 && word.iter().all(|byte| is_printable(*byte))
+    !word.is_empty() && word.len() <= 64 && are_printable(word)
 }
 
 /// An address of the network: 1 to 64 bytes of printable ASCII.
@@ -68,15 +75,19 @@ fn is_name_byte(byte: u8) -> bool
     byte.is_ascii_lowercase() || byte.is_ascii_digit() || byte == b'_'
 }
 
+fn are_name_bytes(word: &[u8]) -> bool
+    ensures { result ≡ list_all is_name_byte_of word.now }
+{
+    word.iter().all(|byte| is_name_byte(*byte))
+}
+
 /// Whether it is a letter a to z and up to 15 of a to z, 0 to 9 and `_`.
 pub(crate) fn is_name(word: &[u8]) -> bool
     ensures { result ≡ is_name_of word.now }
 {
     match word {
         [first, rest @ ..] => {
-            first.is_ascii_lowercase()
-                && rest.len() < 16
-                && rest.iter().all(|byte| is_name_byte(*byte))
+            first.is_ascii_lowercase() && rest.len() < 16 && are_name_bytes(rest)
         }
         [] => false,
     }
@@ -165,12 +176,22 @@ pub(crate) fn decimal_within(digits: &[u8], least: u32, greatest: u32) -> Option
     decimal(digits).filter(|number| least <= *number && *number <= greatest)
 }
 
+/// The place of the first such byte.
+fn place_of_byte(word: &[u8], byte: u8) -> Option<usize>
+    ensures place { result ≡ position (λ other. other == byte) word.now }
+    ensures within { IfSome result (λ at. at < length word.now) }
+{
+    word.iter().position(|other| *other == byte)
+}
+
 /// What stands before the first such byte, and what after it.
 pub(crate) fn split_at_first(word: &[u8], byte: u8) -> Option<(&[u8], &[u8])>
     ensures { option_map (λ p. (p.0.now, p.1.now)) result ≡ split_at_first_of byte word.now }
 {
-    let at = word.iter().position(|other| *other == byte)?;
-    Some((&word[..at], &word[at + 1..]))
+    match place_of_byte(word, byte) {
+        Some(at) => Some((&word[..at], &word[at + 1..])),
+        None => None,
+    }
 }
 
 /// A port of a switch: NAME:PORT, with a PORT up to 65535.
@@ -236,6 +257,16 @@ pub(crate) fn port(value: &Value) -> Option<u16>
     }
 }
 
+/// Whether no two beside each other are equal.
+fn are_unlike<T: Ord>(items: &[T]) -> bool {
+    for i in 1..items.len() {
+        if items[i - 1] == items[i] {
+            return false;
+        }
+    }
+    true
+}
+
 /// Whether no two are equal.
 pub(crate) fn are_distinct<T: Ord + Copy>(alloc: Global, items: &[T]) -> Result<bool, Memory> {
     let mut sorted = Vec::new(alloc);
@@ -243,14 +274,14 @@ pub(crate) fn are_distinct<T: Ord + Copy>(alloc: Global, items: &[T]) -> Result<
         sorted.push(*item)?;
     }
     sorted.sort()?;
-    Ok((1..sorted.len()).all(|i| sorted[i - 1] != sorted[i]))
+    Ok(are_unlike(sorted.as_slice()))
 }
 
 /// The numbers of a list of ports, each once.
 pub(crate) fn ports(alloc: Global, value: &Value) -> Result<Option<List<u16>>, Memory>
     ensures { IfOk result (λ ports. ports ≡ ports_of (view value.now)) }
 {
-    let Value::Array(items) = value else {
+    let Some(items) = list(value) else {
         return Ok(None);
     };
     let mut ports = List::new(alloc);

@@ -4,6 +4,7 @@ ghost use Rattle.toml.specs.View.{view};
 ghost use Rattle.grants.specs.Names.{kind_bit as bit_of_kind};
 ghost use Rattle.policy_file.specs.Words.{virtual_ports as virtual_ports_of, with_bit as with_bit_of, kind as kind_of, actions as actions_of, field as field_of, field_and_bits as field_and_bits_of, fields as fields_of, words as words_of, nothing, with_field};
 
+use crate::tables::list;
 use crate::values::{are_distinct, decimal_within, split_at_first, virtual_port};
 use cv_io::{List, Memory};
 use grants::Field;
@@ -17,7 +18,7 @@ use virtual_topology::VirtualPort;
 pub(crate) fn words(alloc: Global, value: &Value) -> Result<Option<Vec<&str>>, Memory>
     ensures { IfOk result (λ ws. option_map (λ v. map (λ w. w.now) v.items) ws ≡ words_of (view value.now)) }
 {
-    let Value::Array(items) = value else {
+    let Some(items) = list(value) else {
         return Ok(None);
     };
     let mut words = Vec::new(alloc);
@@ -77,7 +78,7 @@ fn kind_bit(word: &[u8]) -> Option<u8>
 pub(crate) fn actions(value: &Value) -> Option<u32>
     ensures { result ≡ actions_of (view value.now) }
 {
-    let Value::Array(items) = value else {
+    let Some(items) = list(value) else {
         return None;
     };
     let mut mask = 0;
@@ -158,7 +159,7 @@ fn field_and_bits(word: &[u8]) -> Option<(Field, u8)>
 pub(crate) fn fields(value: &Value) -> Option<Nameable>
     ensures { result ≡ fields_of (view value.now) }
 {
-    let Value::Array(items) = value else {
+    let Some(items) = list(value) else {
         return None;
     };
     let mut nameable = Nameable::nothing();
