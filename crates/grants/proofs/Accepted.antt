@@ -1,15 +1,14 @@
 -- What follows where no row applies.
-use Rattle.std.proofs.Common.{◌≡◌, ◌∙◌, ℕ, ◌≤◌, ◌-◌, Bool, true, false, ◌==◌, ◌||◌, ◌&&◌, not, List, [], ◌∷◌, length, map, take, find, position, sum_by, Option, Some, None, is_some, option_map, IfSome, IsTrue, refl, sym, ap, cond, if◌then◌else◌, nat_lt, ltb-false, lt-ltb, arith, true≢false, ◌<◌, Result, Ok, Err, OnOk}
+use Rattle.std.proofs.Common.{◌≡◌, ◌∙◌, ℕ, ◌-◌, Bool, true, false, ◌==◌, ◌||◌, not, List, [], ◌∷◌, length, map, take, find, position, sum_by, Option, Some, None, option_map, IfSome, IsTrue, refl, sym, cond, if◌then◌else◌, nat_lt, ltb-false, lt-ltb, arith, true≢false, ◌<◌, Result, Ok, Err, OnOk}
 use Rattle.std.specs.List.{list_any, position_or_len, AllByRecursion}
 use Rattle.of10_match.specs.Fields.{HeaderOf, MatchOf}
-use Rattle.of10_actions.specs.Kinds.{number_of, type_of}
 use Rattle.of10_actions.specs.Numbers.{IN_PORT, TABLE, NORMAL, FLOOD, ALL, CONTROLLER}
 use Rattle.of10_actions.specs.declared.action.Action.{Action}
 use Rattle.of10_actions.specs.declared.action.Action.TheVariants.{Output, SetVlanVid, SetVlanPcp, StripVlan, SetDlSrc, SetDlDst, SetNwSrc, SetNwDst, SetNwTos, SetTpSrc, SetTpDst, Enqueue}
 use Rattle.of10_actions.specs.declared.effects.PortView.{PortView}
-use Rattle.grants.specs.Denials.{Answers, denial_of}
-use Rattle.grants.specs.Granted.{AreGranted, IsGranted, IsGrantedMatch, IsGrantedOut, IsServed, goes_somewhere}
-use Rattle.grants.specs.Names.{field_bit, fields}
+use Rattle.grants.specs.Denials.{Answers}
+use Rattle.grants.specs.Granted.{AreGranted, IsGranted, IsGrantedOut, IsServed, goes_somewhere}
+use Rattle.grants.specs.Names.{fields}
 use Rattle.grants.specs.Ports.{in_region, meets_region, sees}
 use Rattle.grants.specs.Rows.{action_row, action_rows, count_row, end_row, entry_rows, field_row, first_of, grants, in_port_row, is_beyond, is_end, is_port_wrong, is_refused, kind_of, output_row, packet_rows, region_row, weight, when}
 use Rattle.grants.specs.declared.denial.Denial.{Denial}

@@ -1,5 +1,5 @@
 -- Why a message of a member is denied: the first row that applies.
-use Rattle.std.specs.Prelude.{◌≡◌, ℕ, Bool, true, false, ◌==◌, ◌||◌, ◌&&◌, not, nat_lt, nat_le, min, max, List, [], ◌∷◌, ◌++◌, length, map, take, ◌-◌, sum_by, find, position, Option, Some, None, is_some, option_map, if◌then◌else◌}
+use Rattle.std.specs.Prelude.{ℕ, Bool, true, false, ◌==◌, ◌||◌, ◌&&◌, not, nat_lt, nat_le, min, max, List, [], ◌∷◌, length, map, take, ◌-◌, sum_by, find, position, Option, Some, None, is_some, option_map, if◌then◌else◌}
 use Rattle.std.specs.List.{list_any}
 use Rattle.of10_match.specs.Fields.{HeaderOf, MatchOf}
 use Rattle.of10_match.specs.Wildcards.{normal_of}

@@ -141,6 +141,13 @@ impl Denial {
             detail,
         }
     }
+
+    /// The type and the code of the ERROR that tells the member of it (section 5.4.4).
+    pub fn error(&self) -> (u16, u16)
+        ensures { result ≡ error_of self.now.detail }
+    {
+        self.detail.error()
+    }
 }
 
 impl fmt::Display for Rule2 {

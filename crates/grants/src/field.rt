@@ -1,6 +1,6 @@
 //! The fields that a grant names.
 ghost use Rattle.std.specs.Prelude.{◌≡◌, ◌<◌};
-ghost use Rattle.grants.specs.Names.{field_at, field_bit, fields as fields_of};
+ghost use Rattle.grants.specs.Names.{field_at, field_bit, field_name, fields as fields_of};
 
 use std::fmt;
 
@@ -54,7 +54,9 @@ impl Field {
     }
 
     /// Its name, as in a policy file and an audit line.
-    pub fn name(self) -> &'static str {
+    pub fn name(self) -> &'static str
+        ensures { result.now ≡ field_name self }
+    {
         match self {
             Field::InPort => "in_port",
             Field::DlSrc => "dl_src",

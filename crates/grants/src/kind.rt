@@ -1,6 +1,6 @@
 //! The kinds of action that a grant names.
 ghost use Rattle.std.specs.Prelude.{◌≡◌, ◌<◌};
-ghost use Rattle.grants.specs.Names.{kind_at, kind_bit};
+ghost use Rattle.grants.specs.Names.{kind_at, kind_bit, kind_name};
 
 use std::fmt;
 
@@ -56,7 +56,9 @@ impl Kind {
     }
 
     /// Its name, as in a policy file.
-    pub fn name(self) -> &'static str {
+    pub fn name(self) -> &'static str
+        ensures { result.now ≡ kind_name self }
+    {
         match self {
             Kind::Output => "output",
             Kind::Controller => "controller",

@@ -1,13 +1,14 @@
 -- Layers, distances and leads.
-use Rattle.std.proofs.Common.{◌≡◌, ℕ, suc, ◌+◌, ◌-◌, ◌<◌, ◌≤◌, ◌==◌, ◌&&◌, ◌||◌, Bool, true, false, cond, Option, Some, None, List, [], ◌∷◌, length, get_or, drop, refl, sym, ap, ◌∙◌, arith, if◌then◌else◌}
+use Rattle.std.proofs.Common.{◌≡◌, ℕ, suc, ◌+◌, ◌-◌, ◌<◌, ◌≤◌, ◌==◌, ◌&&◌, ◌||◌, Bool, true, false, Option, Some, None, List, [], ◌∷◌, length, get_or, drop, refl, sym, ap, ◌∙◌, eqb-true, arith, if◌then◌else◌}
 use Rattle.std.specs.Prelude.{filter_map, option_map}
 use Rattle.std.specs.List.{cons_option, list_any}
 use Rattle.std.proofs.lemmas.List.{drop_more}
 use Rattle.virtual_topology.specs.Wires.{Joint}
 use Rattle.virtual_topology.specs.Within.{AreWithin}
-use Rattle.inner_paths.specs.Distances.{has_path}
-use Rattle.inner_paths.specs.Hops.{Lead, lead_by, nearest, nearest_with}
-use Rattle.inner_paths.specs.Tables.{leads_into}
+use Rattle.virtual_topology.specs.declared.plan.TopologyPlan.{TopologyPlan}
+use Rattle.inner_paths.specs.Distances.{distance, has_path, ways_of}
+use Rattle.inner_paths.specs.Hops.{Lead, hop_between, lead_by, nearest, nearest_with}
+use Rattle.inner_paths.specs.Tables.{IsRow, leads_into}
 
 -- a way that leads to a switch of a layer is the first of a path that is longer by one cable
 pub leads_are : (ways ws : List Joint) (layer : List Bool) (count n to s : ℕ) → AreWithin count ws → ((t : ℕ) → t < count → get_or layer t false ≡ has_path ways n t to)
@@ -38,3 +39,19 @@ nearest_step f from ws left d best low high before =
     ap (nearest_with (lead_by f from (get_or ws (left - 1) d))) before
     ∙ (sym (nearest_more (lead_by f from (get_or ws (left - 1) d)) (filter_map (lead_by f from) (drop left ws)))
     ∙ sym (ap (λ us. nearest (filter_map (lead_by f from) us)) (drop_more ws (left - 1) d lt ∙ ap (λ n. get_or ws (left - 1) d ∷ drop n ws) on)))
+
+-- the port of what leads nearest
+apart : (from to : ℕ) → (from ≡ to → ⊥) → (from == to) ≡ false
+apart from to ne = by (from == to) refl
+  where
+    by : (b : Bool) → (from == to) ≡ b → (from == to) ≡ false
+    by true e = absurd (ne (eqb-true from to e))
+    by false e = e
+
+pub hop_is : (plan : TopologyPlan) (from to : ℕ) → (from ≡ to → ⊥) → (distances : List (Option ℕ)) → IsRow (length plan.switches) (λ s. distance plan s to) distances
+    → (ways : List Joint) → ways ≡ ways_of plan → AreWithin (length plan.switches) ways → (o : Option Lead) → o ≡ nearest (filter_map (lead_by (λ s. get_or distances s None) from) ways)
+    → option_map (λ (l : Lead). l.1) o ≡ hop_between plan from to
+hop_is plan from to ne distances row ways are within o e =
+    ap (option_map (λ (l : Lead). l.1)) (e ∙ (ap nearest (leads_same (λ s. get_or distances s None) (λ s. distance plan s to) (length plan.switches) from row.each ways within)
+    ∙ ap (λ ws. nearest (filter_map (lead_by (λ s. distance plan s to) from) ws)) are))
+    ∙ sym (ap (λ (b : Bool). if b then None else option_map (λ (l : Lead). l.1) (nearest (filter_map (lead_by (λ s. distance plan s to) from) (ways_of plan)))) (apart from to ne))

@@ -1,8 +1,12 @@
 -- Tables that grow by a row.
-use Rattle.std.proofs.Common.{◌≡◌, ℕ, zero, suc, ◌+◌, ◌<◌, ◌≤◌, Option, Some, None, List, [], ◌∷◌, ◌++◌, length, get_or, refl, sym, ap, ◌∙◌, subst, length-append, inl, inr, ◌⊎◌, arith}
+use Rattle.std.proofs.Common.{◌≡◌, ℕ, zero, suc, drop, take, filter, Bool, true, false, cond, if◌then◌else◌, ◌+◌, ◌<◌, ◌≤◌, Option, Some, None, List, [], ◌∷◌, ◌++◌, length, get_or, refl, sym, ap, ◌∙◌, subst, length-append, inl, inr, ◌⊎◌, arith}
 use Rattle.std.proofs.Math.Nat.{eq-or-lt_of_le}
 use Rattle.std.proofs.Math.ListN.{get_or-eq_default}
 use Rattle.std.specs.Prelude.{slice_get}
+use Rattle.std.specs.List.{range_with_len}
+use Rattle.std.proofs.lemmas.List.{drop_more, take_more}
+use Rattle.std.proofs.lemmas.List.FromFn.{get_or-range_with_len, length-range_with_len}
+use Rattle.std.proofs.lemmas.List.Elements.{filter-append}
 use Rattle.std.specs.Option.{option_and_then}
 use Rattle.virtual_topology.specs.declared.plan.TopologyPlan.{TopologyPlan}
 use Rattle.virtual_topology.specs.declared.plan.SwitchItem.{SwitchItem}
@@ -27,7 +31,7 @@ table_more count k f table row t r = record {
     choose : (to : ℕ) → (to ≡ k) ⊎ (to < k) → IsRow count (f to) (get_or (table ++ row ∷ []) to [])
     choose to (inl same) =
         subst (λ n. IsRow count (f n) (get_or (table ++ row ∷ []) n [])) (sym same)
-            (subst (λ n. IsRow count (f k) (get_or (table ++ row ∷ []) n [])) t.whole (subst (IsRow count (f k)) (sym (last table row [])) r))
+        (subst (λ n. IsRow count (f k) (get_or (table ++ row ∷ []) n [])) t.whole (subst (IsRow count (f k)) (sym (last table row [])) r))
     choose to (inr below) = subst (IsRow count (f to)) (sym (kept table (row ∷ []) to [] (subst (λ n. to < n) (sym t.whole) below))) (t.each to below)
 
     by : (to : ℕ) → to ≤ k → IsRow count (f to) (get_or (table ++ row ∷ []) to [])
@@ -60,3 +64,28 @@ hop_entry plan hops t from to = by (slice_get plan.switches to) refl (slice_get 
         let row = t.each to (got plan.switches to b e) in
         get_or-eq_default (get_or hops to []) None (subst (λ n. n ≤ from) (sym row.whole) (missed plan.switches from f))
     by (Some b) e (Some a) f = (t.each to (got plan.switches to b e)).each from (got plan.switches from a f)
+
+-- numbers from 0
+pub range_long : (n : ℕ) → length (range_with_len 0 n) ≡ n
+range_long n = length-range_with_len 0 n
+
+pub range_at : (n v : ℕ) → v < n → drop v (range_with_len 0 n) ≡ v ∷ drop (v + 1) (range_with_len 0 n)
+range_at n v lt =
+    let within : v < length (range_with_len 0 n) = subst (λ k. v < k) (sym (range_long n)) lt in
+    let number : 0 + v ≡ v = omega arith in
+    drop_more (range_with_len 0 n) v v within ∙ ap (λ x. x ∷ drop (v + 1) (range_with_len 0 n)) (get_or-range_with_len 0 n v v lt ∙ number)
+
+-- how many pass a test, with one item more
+pub passing_more : {X : Type 0} (p : X → Bool) (xs : List X) (i : ℕ) (d : X) → i < length xs
+    → length (filter p (take (i + 1) xs)) ≡ length (filter p (take i xs)) + (if p (get_or xs i d) then 1 else 0)
+passing_more p xs i d lt =
+    ap (λ ys. length (filter p ys)) (take_more xs i d lt) ∙ (ap length (filter-append p (take i xs) (get_or xs i d ∷ []))
+    ∙ (length-append (filter p (take i xs)) (filter p (get_or xs i d ∷ [])) ∙ ap (λ n. length (filter p (take i xs)) + n) (by (p (get_or xs i d)))))
+  where
+    by : (b : Bool) → length (cond b (get_or xs i d ∷ []) []) ≡ (if b then 1 else 0)
+    by true = refl
+    by false = refl
+
+pub at_most_one : (b : Bool) → (if b then 1 else 0) ≤ 1
+at_most_one true = omega arith
+at_most_one false = omega arith

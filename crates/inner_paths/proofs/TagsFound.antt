@@ -4,7 +4,7 @@ use Rattle.std.specs.Prelude.{filter_map, is_some}
 use Rattle.std.specs.List.{cons_option}
 use Rattle.std.specs.Map.{lookup}
 use Rattle.virtual_topology.specs.declared.plan.TopologyPlan.{TopologyPlan}
-use Rattle.virtual_topology.specs.Rows.{Spot, same_spot}
+use Rattle.virtual_topology.specs.Rows.{same_spot}
 use Rattle.virtual_topology.specs.Wires.{Joint, is_spread_of, outside_joints}
 use Rattle.inner_paths.specs.Tags.{place_of, tag_of, tag_row, tag_rows}
 
@@ -13,8 +13,8 @@ and_true true b e = (refl, e)
 and_true false b e = absurd (cc)
 
 -- the tag of a port, if its virtual switch is spread and it is found
-tag_if : TopologyPlan → ℕ → ℕ → Bool → Option ℕ
-abbrev tag_if plan v port found = if is_spread_of plan v && found then Some (place_of plan v port) else None
+abbrev tag_if : TopologyPlan → ℕ → ℕ → Bool → Option ℕ
+tag_if plan v port found = if is_spread_of plan v && found then Some (place_of plan v port) else None
 
 not_spread : (plan : TopologyPlan) (v port : ℕ) (found other : Bool) → is_spread_of plan v ≡ false → tag_if plan v port found ≡ tag_if plan v port other
 not_spread plan v port found other e = ap (λ s. if s && found then Some (place_of plan v port) else None) e ∙ sym (ap (λ s. if s && other then Some (place_of plan v port) else None) e)

@@ -4,3 +4,4 @@ pub mod Hops
 pub mod Tags
 pub mod Cuts
 pub mod Made
+pub mod Worked

@@ -19,13 +19,7 @@ fn nearer(a: Lead, b: Option<Lead>) -> Lead
 {
     match b {
         None => a,
-        Some(b) => {
-            if is_nearer(b, a) {
-                b
-            } else {
-                a
-            }
-        }
+        Some(b) => { if is_nearer(b, a) { b } else { a } }
     }
 }
 

@@ -9,9 +9,11 @@ mod hop;
 mod paths;
 mod table;
 mod tag;
+mod worked;
 
 pub use fault::PathFault;
 pub use paths::Paths;
+pub use worked::worked_examples;
 
 #[cfg(test)]
 mod tests;

@@ -10,7 +10,6 @@ use cv_io::{List, Memory};
 use std::alloc::Global;
 use virtual_topology::Topology;
 
-
 /// What a table has for a pair of switches.
 pub(crate) fn entry<T: Copy>(table: &List<List<Option<T>>>, to: u32, from: u32) -> Option<T>
     ensures { result ≡ entry_of table.now to from }

@@ -1,5 +1,5 @@
 //! The VLAN numbers of outside ports.
-ghost use Rattle.std.specs.Prelude.{◌≡◌, ◌<◌, ◌≤◌, ◌+◌, IfOk, OnOk, ◌++◌, filter, length, option_to_list};
+ghost use Rattle.std.specs.Prelude.{◌≡◌, ◌<◌, ◌≤◌, ◌+◌, IfOk, OnOk, ◌++◌, if◌then◌else◌, length, option_to_list};
 ghost use Rattle.inner_paths.specs.Tags.{place_of as place_of_port, stands_before as stands_before_of, tag_row as tag_row_of, tag_rows as tag_rows_of};
 ghost use Rattle.virtual_topology.specs.Wires.{outside_joints};
 
@@ -18,16 +18,22 @@ fn stands_before(topology: &Topology, v: u32, port: u16, outside: &((u32, u16), 
     topology.is_spread(own) && (own < v || own == v && own_port < port)
 }
 
+/// 1 where it is so, else 0.
+fn one_if(is_so: bool) -> u16
+    ensures { result ≡ (if is_so then 1 else 0) }
+{
+    if is_so { 1 } else { 0 }
+}
+
 /// The place of a port among the outside ports of all spread virtual switches, from 1.
 fn place_of(topology: &Topology, v: u32, port: u16) -> u16
     ensures { result ≡ place_of_port topology.now v port }
 {
-    let before = topology
-        .outside_ports()
-        .iter()
-        .filter(|outside| stands_before(topology, v, port, outside))
-        .count();
-    before as u16 + 1
+    let mut place = 1;
+    for outside in topology.outside_ports() {
+        place += one_if(stands_before(topology, v, port, outside));
+    }
+    place
 }
 
 /// An outside port with its tag, if its virtual switch is spread.

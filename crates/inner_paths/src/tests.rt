@@ -2,7 +2,9 @@ use super::*;
 use cv_io::{Bytes, Duplicate, List, Text};
 use std::alloc::Global;
 use std::test::Fail;
-use virtual_topology::{PairItem, PortPlace, SwitchItem, Topology, TopologyPlan, VirtualItem, VirtualPort};
+use virtual_topology::{
+    PairItem, PortPlace, SwitchItem, Topology, TopologyPlan, VirtualItem, VirtualPort,
+};
 
 fn text(alloc: Global, word: &str) -> Result<Text, Fail> {
     Ok(Text::from_bytes(Bytes::from_slice(alloc, word.as_bytes())?)?)
@@ -66,7 +68,11 @@ fn hops_lead_by_the_shortest_way(rt: HostRuntime) -> Result<(), Fail> {
         [("s4", 5), ("s1", 6)],
         [("s1", 4), ("s2", 4)],
     ];
-    let ring = topology(rt.alloc(), &cables, &[(7, "s1", 1), (3, "s3", 1), (5, "s3", 2)])?;
+    let ring = topology(
+        rt.alloc(),
+        &cables,
+        &[(7, "s1", 1), (3, "s3", 1), (5, "s3", 2)],
+    )?;
     let paths = Paths::make(rt.alloc(), &ring)?.copy()?;
     let rows = [
         (0, 1, Some(4)),
@@ -80,21 +86,37 @@ fn hops_lead_by_the_shortest_way(rt: HostRuntime) -> Result<(), Fail> {
     for (from, to, port) in rows {
         assert_eq!(rt; paths.next_hop(from, to), port, "from {from} to {to}");
     }
-    assert_eq!(rt; (paths.tag(0, 3), paths.tag(0, 5), paths.tag(0, 7), paths.tag(0, 1)), (Some(1), Some(2), Some(3), None));
+    assert_eq!(rt;
+        (
+            paths.tag(0, 3),
+            paths.tag(0, 5),
+            paths.tag(0, 7),
+            paths.tag(0, 1)
+        ),
+        (Some(1), Some(2), Some(3), None)
+    );
     Ok(())
 }
 
 #[test]
 fn switches_without_a_path_are_named(rt: HostRuntime) -> Result<(), Fail> {
-    let cut = topology(rt.alloc(), &[[("s1", 3), ("s2", 3)]], &[(1, "s1", 1), (2, "s2", 1), (3, "s3", 1)])?;
+    let cut = topology(
+        rt.alloc(),
+        &[[("s1", 3), ("s2", 3)]],
+        &[(1, "s1", 1), (2, "s2", 1), (3, "s3", 1)],
+    )?;
     match Paths::make(rt.alloc(), &cut) {
         Err(PathFault::Unreachable { from, to }) => {
-            assert_eq!(rt; (from.as_bytes(), to.as_bytes()), (b"s1".as_slice(), b"s3".as_slice()));
+            assert_eq!(rt;
+                (from.as_bytes(), to.as_bytes()),
+                (b"s1".as_slice(), b"s3".as_slice())
+            );
         }
         _ => assert!(rt; false, "there is no path"),
     }
     let lone = topology(rt.alloc(), &[], &[(1, "s1", 1), (2, "s1", 2)])?;
     let paths = Paths::make(rt.alloc(), &lone)?;
     assert_eq!(rt; (paths.tag(0, 1), paths.next_hop(0, 1)), (None, None));
+    worked_examples();
     Ok(())
 }

@@ -193,8 +193,12 @@ fn of_everything(alloc: Global) -> Result<Index, Fail> {
 fn items_come_and_go(rt: HostRuntime) -> Result<(), Fail> {
     let mut index = of_everything(rt.alloc())?;
     let (len, found) = (index.len(), index.get(7).map(|item| item.rank));
+    let holding = index.holding(&some_header(1))?.len();
     let (gone, gone_again) = (index.remove(7), index.remove(7));
-    let shown = format!(in rt.alloc(); "{len} {found:?} {gone} {gone_again} {}", index.is_empty())?;
-    assert_eq!(rt; shown.as_str(), "1 Some(0) true false true");
+    let shown = format!(in rt.alloc();
+        "{len} {found:?} {holding} {gone} {gone_again} {}",
+        index.is_empty()
+    )?;
+    assert_eq!(rt; shown.as_str(), "1 Some(0) 1 true false true");
     Ok(())
 }

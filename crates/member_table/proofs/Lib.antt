@@ -15,3 +15,4 @@ pub mod Changing
 pub mod Plans
 pub mod Exact
 pub mod Copies
+pub mod SameEntry

@@ -1,5 +1,5 @@
 //! Entries of a member's table.
-ghost use Rattle.std.specs.Prelude.{◌≡◌};
+ghost use Rattle.std.specs.Prelude.{◌≡◌, ◌↔◌, IsTrue};
 ghost use Rattle.std.specs.List.{list_any};
 ghost use Rattle.member_table.specs.Entries.{identity_of};
 ghost use Rattle.member_table.specs.Tables.{is_output_to as is_output_to_of, outputs_to as outputs_to_of};
@@ -99,6 +99,13 @@ impl Entry {
     {
         !self.is_hard_due(now) && has_passed(self.last, self.idle, now)
     }
+}
+
+/// Whether two entries are the same in every part.
+pub fn same_entry(first: &Entry, second: &Entry) -> bool
+    ensures { IsTrue result ↔ (first.now ≡ second.now) }
+{
+    first == second
 }
 
 impl Duplicate for Entry {

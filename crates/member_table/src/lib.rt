@@ -23,7 +23,7 @@ mod wanted;
 pub mod worked;
 
 pub use change::{Change, Due, Modified};
-pub use entry::{Entry, Identity};
+pub use entry::{Entry, Identity, same_entry};
 pub use fault::TableFault;
 pub use rank::rank_of;
 pub use table::Table;

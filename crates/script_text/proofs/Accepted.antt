@@ -22,7 +22,7 @@ use Rattle.script_text.specs.declared.line.Line.TheVariants as lines
 use Rattle.script_text.proofs.Digits.{number_is}
 use Rattle.script_text.proofs.Pieces.{some_words}
 use Rattle.script_text.proofs.Places.{parted}
-use Rattle.script_text.proofs.Tests.{both, same_text}
+use Rattle.script_text.proofs.Passed.{both, same_text}
 use Rattle.script_text.proofs.WordBytes.{either}
 
 -- ---- steps that did not fail

@@ -7,7 +7,7 @@ use Rattle.std.proofs.lemmas.Bool.{lt-ltb, ltb-true}
 use Rattle.hex.specs.Hex.{encode_lower, lower_digits}
 use Rattle.hex.proofs.HexLemmas.{IsAscii-encode_with}
 use Rattle.script_text.specs.Lines.{is_ascii}
-use Rattle.script_text.proofs.Tests.{both}
+use Rattle.script_text.proofs.Passed.{both}
 
 pub all_ascii : (xs : List ℕ) → IsAscii xs → list_all is_ascii xs ≡ true
 all_ascii [] h = refl

@@ -10,7 +10,7 @@ use Rattle.std.proofs.lemmas.Option.{cond_some}
 use Rattle.std.proofs.lemmas.Str.Parse.{IsNumeralModel, digit_at, numerals_by_fold, tells_all_ascii_digits, tells_by_index}
 use Rattle.script_text.specs.InsideNumbers.{digits_in, starts_well}
 use Rattle.script_text.specs.Numbers.{number_in, value_after, value_of}
-use Rattle.script_text.proofs.Tests.{both, false_if, if_false, if_true, same_text, text_same}
+use Rattle.script_text.proofs.Passed.{both, false_if, if_false, if_true, same_text, text_same}
 
 pub own : IsNumeralModel (λ ds. all_ascii_digits ds ≡ true) value_of
 own = numerals_by_fold (λ ds. all_ascii_digits ds ≡ true) tells_all_ascii_digits value_after (record { empty = λ n. refl; more = λ n c cs r. refl })

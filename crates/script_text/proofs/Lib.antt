@@ -1,4 +1,4 @@
-pub mod Tests
+pub mod Passed
 pub mod Digits
 pub mod Pieces
 pub mod Places

@@ -13,7 +13,7 @@ use Rattle.script_text.specs.declared.fault.LineFault.{LineFault}
 use Rattle.script_text.specs.declared.fault.LineFault.TheVariants.{Word}
 use Rattle.script_text.specs.declared.form.Form.{Form}
 use Rattle.script_text.specs.declared.line.Line.{Line}
-use Rattle.script_text.proofs.Tests.{both, if_false, if_true}
+use Rattle.script_text.proofs.Passed.{both, if_false, if_true}
 
 -- how many bytes stand before the first blank
 abbrev before : List ℕ → ℕ

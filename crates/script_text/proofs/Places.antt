@@ -6,7 +6,7 @@ use Rattle.std.proofs.lemmas.Bool.{eq-eqb, eqb-true, le-ltb, lt-ltb, ltb-true}
 use Rattle.std.proofs.lemmas.List.{drop_more, length-append, take-append-drop}
 use Rattle.std.proofs.lemmas.List.Sums.{prefix_len_stops}
 use Rattle.std.proofs.lemmas.Option.{cond_some}
-use Rattle.script_text.proofs.Tests.{both}
+use Rattle.script_text.proofs.Passed.{both}
 
 -- how many bytes stand before the first that is c
 abbrev pub before : ℕ → List ℕ → ℕ

@@ -24,7 +24,7 @@ use Rattle.script_text.specs.declared.line.Line.TheVariants as lines
 use Rattle.script_text.proofs.Accepted.{Knows}
 use Rattle.script_text.proofs.Digits.{decimal_is}
 use Rattle.script_text.proofs.Pieces.{said_three, said_two, visible_alone, visible_other, word_alone}
-use Rattle.script_text.proofs.Tests.{both, if_false, if_true}
+use Rattle.script_text.proofs.Passed.{both, if_false, if_true}
 use Rattle.script_text.proofs.WordBytes.{and_true, colon_found, decimal_word, hex_word, name_no_member, name_word, place_word, session_word}
 
 -- ---- words with blanks between

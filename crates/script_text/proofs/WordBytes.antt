@@ -15,7 +15,7 @@ use Rattle.script_text.specs.Names.{are_names_at, is_letter, is_member, is_name,
 use Rattle.script_text.specs.Words.{is_visible, is_word}
 use Rattle.script_text.proofs.Digits.{own}
 use Rattle.script_text.proofs.Places.{found_behind, lacks, not_found, parted, weaker}
-use Rattle.script_text.proofs.Tests.{both}
+use Rattle.script_text.proofs.Passed.{both}
 
 pub either : (a b : Bool) → (a || b) ≡ true → (a ≡ true) ⊎ (b ≡ true)
 either true b e = inl refl

@@ -1,21 +1,18 @@
 -- The virtual switches of links and outside ports are there.
-use Rattle.std.proofs.Common.{◌≡◌, ℕ, zero, suc, get_or, ◌+◌, ◌<◌, ◌≤◌, Bool, true, false, ◌&&◌, cond, Option, Some, None, List, [], ◌∷◌, ◌++◌, length, refl, sym, ap, ◌∙◌, subst, true≢false, arith}
+use Rattle.std.proofs.Common.{◌≡◌, ℕ, zero, suc, get_or, ◌+◌, ◌<◌, ◌≤◌, Bool, true, false, ◌&&◌, cond, Option, Some, None, List, [], ◌∷◌, ◌++◌, length, refl, sym, subst, true≢false, arith}
 use Rattle.std.specs.Prelude.{filter_map, flat_map, map, option_map}
 use Rattle.std.specs.List.{enumerate_from, AllByRecursion, cons_option}
-use Rattle.std.specs.Map.{lookup}
 use Rattle.std.specs.Option.{option_and_then}
 use Rattle.virtual_topology.specs.declared.plan.PairItem.{PairItem}
 use Rattle.virtual_topology.specs.declared.plan.PortPlace.{PortPlace}
-use Rattle.virtual_topology.specs.declared.plan.SwitchItem.{SwitchItem}
 use Rattle.virtual_topology.specs.declared.plan.TopologyPlan.{TopologyPlan}
-use Rattle.virtual_topology.specs.declared.plan.VirtualItem.{VirtualItem}
 use Rattle.virtual_topology.specs.declared.plan.VirtualPort.{VirtualPort}
 use Rattle.virtual_topology.specs.declared.uses.Role.{Role}
-use Rattle.virtual_topology.specs.declared.uses.Role.TheVariants.{Physical, Virtual, Link}
-use Rattle.virtual_topology.specs.Places.{PlaceUse, at_port, in_role, same_place, same_role, same_use}
+use Rattle.virtual_topology.specs.declared.uses.Role.TheVariants.{Physical, Link}
+use Rattle.virtual_topology.specs.Places.{at_port, in_role, same_place, same_role}
 use Rattle.virtual_topology.specs.Rows.{Row, Spot, all_switch_rows, all_virtual_rows, link_row, port_rows, rows, switch_rows, virtual_rows, where_is}
 use Rattle.virtual_topology.specs.Within.{AreWithin, HaveSwitches, LiesWithin}
-use Rattle.virtual_topology.specs.Wires.{Joint, both, both_ways, cable_joints, item_joints, joints_among, link_joints, outside_joints, outside_among, outside_row, pair_joint}
+use Rattle.virtual_topology.specs.Wires.{Joint, both, both_ways, cable_joints, item_joints, joints_among, link_joints, outside_joints, outside_row, pair_joint}
 
 All-from_recursion : {X : Type 0} (P : X → Type 0) (xs : List X) → AllByRecursion P xs → (k : ℕ) (d : X) → k < length xs → P (get_or xs k d)
 All-from_recursion P [] a k d lt = absurd (omega (arith, lt))
@@ -69,14 +66,14 @@ link_rows_in plan =
     each_append (InRange Link (length plan.virtuals)) (all_switch_rows plan.switches) (all_virtual_rows plan.virtuals)
     (each_flat_map (InRange Link (length plan.virtuals)) switch_rows (λ x. no_links (length plan.virtuals) x.0 x.1.name x.1.ports) (enumerate_from 0 plan.switches))
     (each_numbered (InRange Link (length plan.virtuals)) virtual_rows (length plan.virtuals)
-        (λ v x lt. each_flat_map (InRange Link (length plan.virtuals)) (port_rows v x.name) (link_in (length plan.virtuals) v lt x.name) x.ports) 0 plan.virtuals (omega arith))
+    (λ v x lt. each_flat_map (InRange Link (length plan.virtuals)) (port_rows v x.name) (link_in (length plan.virtuals) v lt x.name) x.ports) 0 plan.virtuals (omega arith))
 
 physical_rows_in : (plan : TopologyPlan) → AllByRecursion (InRange Physical (length plan.switches)) (rows plan)
 physical_rows_in plan =
     each_append (InRange Physical (length plan.switches)) (all_switch_rows plan.switches) (all_virtual_rows plan.virtuals)
     (each_numbered (InRange Physical (length plan.switches)) switch_rows (length plan.switches) (λ i s lt. physical_in (length plan.switches) i lt s.name s.ports) 0 plan.switches (omega arith))
     (each_flat_map (InRange Physical (length plan.switches)) virtual_rows
-        (λ x. each_flat_map (InRange Physical (length plan.switches)) (port_rows x.0 x.1.name) (no_physical (length plan.switches) x.0 x.1.name) x.1.ports) (enumerate_from 0 plan.virtuals))
+    (λ x. each_flat_map (InRange Physical (length plan.switches)) (port_rows x.0 x.1.name) (no_physical (length plan.switches) x.0 x.1.name) x.1.ports) (enumerate_from 0 plan.virtuals))
 
 -- a port that is found
 found_in : (role : Role) (n : ℕ) (p : PortPlace) (rs : List Row) (s : Spot) → AllByRecursion (InRange role n) rs → where_is rs role p ≡ Some s → s.0 < n
@@ -111,7 +108,7 @@ outside_in n v lt rs q j e = by (option_and_then (where_is rs Physical) q.at) e
 joints_within : (role : Role) (n : ℕ) (rs : List Row) → AllByRecursion (InRange role n) rs → (pairs : List PairItem) → AllByRecursion (LiesWithin n) (joints_among rs role pairs)
 joints_within role n rs a pairs =
     each_filter_map (LiesWithin n) (pair_joint rs role)
-        (λ pair j e. both_in n (where_is rs role pair.a) (where_is rs role pair.b) (λ s. found_in role n pair.a rs s a) (λ s. found_in role n pair.b rs s a) j e) pairs
+    (λ pair j e. both_in n (where_is rs role pair.a) (where_is rs role pair.b) (λ s. found_in role n pair.a rs s a) (λ s. found_in role n pair.b rs s a) j e) pairs
 
 pub links_within : (plan : TopologyPlan) → AreWithin (length plan.virtuals) (link_joints plan)
 links_within plan = All-from_recursion (LiesWithin (length plan.virtuals)) (link_joints plan) (joints_within Link (length plan.virtuals) (rows plan) (link_rows_in plan) plan.links)
@@ -123,10 +120,10 @@ both_ways_within n (j ∷ js) a = (a.0, ((a.0.1, a.0.0), both_ways_within n js a
 pub ways_within : (plan : TopologyPlan) → AreWithin (length plan.switches) (both_ways (cable_joints plan))
 ways_within plan =
     All-from_recursion (LiesWithin (length plan.switches)) (both_ways (cable_joints plan))
-        (both_ways_within (length plan.switches) (cable_joints plan) (joints_within Physical (length plan.switches) (rows plan) (physical_rows_in plan) plan.cables))
+    (both_ways_within (length plan.switches) (cable_joints plan) (joints_within Physical (length plan.switches) (rows plan) (physical_rows_in plan) plan.cables))
 
 pub outside_within : (plan : TopologyPlan) → HaveSwitches (length plan.virtuals) (outside_joints plan)
 outside_within plan =
     All-from_recursion (λ (j : Joint). j.0.0 < length plan.virtuals) (outside_joints plan) (each_numbered (λ (j : Joint). j.0.0 < length plan.virtuals) (item_joints (rows plan)) (length plan.virtuals)
-        (λ v x lt. each_filter_map (λ (j : Joint). j.0.0 < length plan.virtuals) (outside_row (rows plan) v) (outside_in (length plan.virtuals) v lt (rows plan)) x.ports)
-        0 plan.virtuals (omega arith))
+    (λ v x lt. each_filter_map (λ (j : Joint). j.0.0 < length plan.virtuals) (outside_row (rows plan) v) (outside_in (length plan.virtuals) v lt (rows plan)) x.ports)
+    0 plan.virtuals (omega arith))

@@ -1,5 +1,5 @@
 -- Checks of one item after another, and of one kind after another.
-use Rattle.std.proofs.Common.{◌≡◌, ℕ, ◌+◌, ◌<◌, ◌≤◌, Option, Some, None, List, [], ◌∷◌, length, get_or, drop, refl, sym, ap, ◌∙◌, subst, arith, inl, inr, ◌⊎◌}
+use Rattle.std.proofs.Common.{◌≡◌, ℕ, ◌+◌, ◌<◌, ◌≤◌, Option, Some, None, List, ◌∷◌, length, get_or, drop, sym, ap, ◌∙◌, inl, inr, ◌⊎◌}
 use Rattle.std.specs.Option.{option_or}
 use Rattle.std.proofs.lemmas.List.{drop_more, drop_all}
 use Rattle.virtual_topology.specs.declared.plan.TopologyPlan.{TopologyPlan}
@@ -44,7 +44,7 @@ pub after_shape : (plan : TopologyPlan) (us : List PlaceUse) (rs : List Row) →
 after_shape plan us rs used row twice unknown shape =
     let left = option_or (mixed_among (link_joints plan) (outside_joints plan) plan.virtuals) (crowded plan) in
     λ i. option_or ((ap twice_among (sym used) ∙ twice) i) (option_or (((λ j. unknown_among (sym row j) (sym used j)) ∙ unknown) i)
-        (option_or (((λ j. shape_among (sym row j) (sym used j) plan) ∙ shape) i) left))
+    (option_or (((λ j. shape_among (sym row j) (sym used j) plan) ∙ shape) i) left))
 
 pub after_mixed : (plan : TopologyPlan) (links outside : List Joint) (virtuals : List VirtualItem) → links ≡ link_joints plan → outside ≡ outside_joints plan → virtuals ≡ plan.virtuals
     → fault_of plan ≡ option_or (mixed_among (link_joints plan) (outside_joints plan) plan.virtuals) (crowded plan) → mixed_among links outside virtuals ≡ None → fault_of plan ≡ crowded plan

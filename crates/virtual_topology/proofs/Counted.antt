@@ -1,12 +1,11 @@
 -- A plan without fault keeps its limits.
-use Rattle.std.proofs.Common.{◌≡◌, ℕ, suc, ◌+◌, ◌*◌, ◌++◌, length-append, ◌<◌, ◌≤◌, Bool, true, false, Option, Some, None, List, [], ◌∷◌, length, refl, sym, ap, ◌∙◌, arith, if◌then◌else◌}
+use Rattle.std.proofs.Common.{◌≡◌, ℕ, suc, ◌+◌, ◌*◌, ◌++◌, length-append, ◌<◌, ◌≤◌, Bool, true, false, Option, Some, None, List, [], ◌∷◌, length, refl, arith, if◌then◌else◌}
 use Rattle.std.specs.Prelude.{nat_le, nat_lt, filter_map, flat_map}
 use Rattle.std.specs.List.{cons_option, enumerate_from}
 use Rattle.std.specs.Option.{option_or}
 use Rattle.std.proofs.lemmas.Bool.Decides.{nat_tests}
 use Rattle.virtual_topology.specs.declared.fault.TopologyFault.{TopologyFault}
 use Rattle.virtual_topology.specs.declared.fault.TopologyFault.TheVariants.{TooMany}
-use Rattle.virtual_topology.specs.declared.plan.SwitchItem.{SwitchItem}
 use Rattle.virtual_topology.specs.declared.plan.TopologyPlan.{TopologyPlan}
 use Rattle.virtual_topology.specs.declared.plan.VirtualItem.{VirtualItem}
 use Rattle.virtual_topology.specs.Faults.{crowded, fault_of, first_answer, mixed_among, shape_among, too_many, too_many_at, too_many_of, too_many_pairs, twice_among, unknown_among}
@@ -48,8 +47,8 @@ few_switches plan e =
 pub few_virtuals : (plan : TopologyPlan) → fault_of plan ≡ None → length plan.virtuals ≤ 16
 few_virtuals plan e =
     let few : 0 + length plan.virtuals ≤ 16 = counted too_many_of (λ i x. in_limit i x.name (length x.ports)) 0 plan.virtuals (omega arith)
-        (neither (first_answer too_many_of (enumerate_from 0 plan.virtuals)) _
-        (neither (too_many_pairs plan.cables) _ (neither (first_answer too_many_at (enumerate_from 0 plan.switches)) _ (not_crowded plan e)).1).1).0 in
+    (neither (first_answer too_many_of (enumerate_from 0 plan.virtuals)) _
+    (neither (too_many_pairs plan.cables) _ (neither (first_answer too_many_at (enumerate_from 0 plan.switches)) _ (not_crowded plan e)).1).1).0 in
     omega arith
 
 -- and its ports are at most 64
@@ -80,13 +79,13 @@ outside_counted rs m (x ∷ xs) e =
     let ports : length x.ports ≤ 64 = ports_in_limit m x.name (length x.ports) both.0 in
     let rest : length (flat_map (item_joints rs) (enumerate_from (m + 1) xs)) ≤ 64 * length xs = outside_counted rs (m + 1) xs both.1 in
     let all : length (item_joints rs (m, x) ++ flat_map (item_joints rs) (enumerate_from (m + 1) xs)) ≡ length (item_joints rs (m, x)) + length (flat_map (item_joints rs) (enumerate_from (m + 1) xs)) =
-        length-append (item_joints rs (m, x)) (flat_map (item_joints rs) (enumerate_from (m + 1) xs)) in
+    length-append (item_joints rs (m, x)) (flat_map (item_joints rs) (enumerate_from (m + 1) xs)) in
     omega arith
 
 pub few_outside : (plan : TopologyPlan) → fault_of plan ≡ None → length (outside_joints plan) ≤ 1024
 few_outside plan e =
     let few : length plan.virtuals ≤ 16 = few_virtuals plan e in
     let counted : length (outside_joints plan) ≤ 64 * length plan.virtuals = outside_counted (rows plan) 0 plan.virtuals
-            (neither (first_answer too_many_of (enumerate_from 0 plan.virtuals)) _
-            (neither (too_many_pairs plan.cables) _ (neither (first_answer too_many_at (enumerate_from 0 plan.switches)) _ (not_crowded plan e)).1).1).0 in
+    (neither (first_answer too_many_of (enumerate_from 0 plan.virtuals)) _
+    (neither (too_many_pairs plan.cables) _ (neither (first_answer too_many_at (enumerate_from 0 plan.switches)) _ (not_crowded plan e)).1).1).0 in
     omega arith

@@ -1,7 +1,7 @@
 -- Groups of numbers that are merged.
-use Rattle.std.proofs.Common.{◌≡◌, ℕ, suc, [], Some, None, filter, if◌then◌else◌, ◌+◌, ◌-◌, ◌<◌, ◌≤◌, ◌==◌, ◌||◌, ◌&&◌, Bool, true, false, cond, List, ◌∷◌, ◌++◌, length, get_or, take, drop, refl, sym, ap, ◌∙◌, subst, eqb-true, arith}
+use Rattle.std.proofs.Common.{◌≡◌, ℕ, suc, [], Some, None, filter, if◌then◌else◌, ◌+◌, ◌-◌, ◌<◌, ◌≤◌, ◌==◌, ◌||◌, ◌&&◌, Bool, true, false, cond, List, ◌∷◌, ◌++◌, length, get_or, take, drop, refl, sym, ap, ◌∙◌, eqb-true, arith}
 use Rattle.std.proofs.lemmas.Cmp.{nat_eq_equiv}
-use Rattle.std.proofs.lemmas.List.{append-nil, drop_all, drop_more, get_or_default, take_all}
+use Rattle.std.proofs.lemmas.List.{append-nil, drop_all, drop_more, take_all}
 use Rattle.virtual_topology.specs.Faults.{are_joined}
 use Rattle.virtual_topology.specs.Wires.{Joint}
 use Rattle.virtual_topology.specs.Within.{AreGroups, HaveSwitches, kept_of, merged}

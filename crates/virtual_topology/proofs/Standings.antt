@@ -7,7 +7,7 @@ use Rattle.virtual_topology.specs.declared.plan.VirtualItem.{VirtualItem}
 use Rattle.virtual_topology.specs.declared.standing.Standing.{Standing}
 use Rattle.virtual_topology.specs.Made.{standing_of, standings_of}
 use Rattle.virtual_topology.specs.Rows.{rows}
-use Rattle.virtual_topology.specs.Wires.{cable_joints, is_lone_of, is_spread_of, outside_joints}
+use Rattle.virtual_topology.specs.Wires.{cable_joints, outside_joints}
 use Rattle.virtual_topology.proofs.Steps.{numbered_get}
 
 -- what is read of an item, by way of how it lies
@@ -21,5 +21,5 @@ standing_read read plan standings v e =
     let same : 0 + v ≡ v = omega arith in
     ap (λ ss. option_map_or read (slice_get ss v) false) e
     ∙ (ap (λ o. option_map_or read o false) (numbered_get (standing_of (rows plan) (cable_joints plan) (outside_joints plan)) 0 plan.virtuals v
-        ∙ ap (λ n. option_map (λ x. standing_of (rows plan) (cable_joints plan) (outside_joints plan) (n, x)) (slice_get plan.virtuals v)) same)
+    ∙ ap (λ n. option_map (λ x. standing_of (rows plan) (cable_joints plan) (outside_joints plan) (n, x)) (slice_get plan.virtuals v)) same)
     ∙ read_by read (λ x. standing_of (rows plan) (cable_joints plan) (outside_joints plan) (v, x)) (slice_get plan.virtuals v))

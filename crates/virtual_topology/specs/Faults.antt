@@ -1,5 +1,5 @@
 -- What is wrong with a plan: the first fault.
-use Rattle.std.specs.Prelude.{◌≡◌, ℕ, Bool, true, false, ◌==◌, ◌&&◌, ◌||◌, ◌++◌, ◌⊎◌, not, is_none, is_some, nat_lt, nat_le, Option, Some, None, List, [], ◌∷◌, if◌then◌else◌, find, filter, length, option_map, slice_get, Result, Ok, Err}
+use Rattle.std.specs.Prelude.{◌≡◌, ℕ, Bool, true, false, ◌==◌, ◌&&◌, ◌||◌, ◌++◌, ◌⊎◌, not, is_none, nat_lt, nat_le, Option, Some, None, List, [], ◌∷◌, if◌then◌else◌, filter, length, option_map, slice_get, Result, Ok, Err}
 use Rattle.std.specs.Fmt.{decimal}
 use Rattle.std.specs.List.{enumerate_from, list_any}
 use Rattle.std.specs.Option.{option_or}
@@ -14,7 +14,7 @@ use Rattle.virtual_topology.specs.declared.uses.Role.{Role}
 use Rattle.virtual_topology.specs.declared.uses.Role.TheVariants.{Physical, Virtual, Link}
 use Rattle.virtual_topology.specs.Places.{PlaceUse, same_name, same_use, uses}
 use Rattle.virtual_topology.specs.Rows.{Row, rows, where_is}
-use Rattle.virtual_topology.specs.Wires.{Joint, cable_joints, link_joints, outside_joints, lie_apart}
+use Rattle.virtual_topology.specs.Wires.{Joint, link_joints, outside_joints, lie_apart}
 
 -- a place as a policy file writes it: NAME:PORT
 abbrev pub place_text : PortPlace → List ℕ

@@ -1,5 +1,5 @@
 -- What a topology keeps beside its plan.
-use Rattle.std.specs.Prelude.{◌≡◌, ℕ, Bool, None, List, map}
+use Rattle.std.specs.Prelude.{◌≡◌, ℕ, None, List, map}
 use Rattle.std.specs.List.{enumerate_from}
 use Rattle.virtual_topology.specs.declared.plan.TopologyPlan.{TopologyPlan}
 use Rattle.virtual_topology.specs.declared.plan.VirtualItem.{VirtualItem}

@@ -1,9 +1,8 @@
 -- The places of ports that a plan uses, and those that are there.
-use Rattle.std.specs.Prelude.{ℕ, Bool, true, false, ◌==◌, ◌&&◌, nat_eq, Option, Some, None, List, [], ◌∷◌, ◌++◌, if◌then◌else◌, map, flat_map}
+use Rattle.std.specs.Prelude.{ℕ, Bool, true, false, ◌==◌, ◌&&◌, nat_eq, Option, Some, None, List, [], ◌∷◌, ◌++◌, if◌then◌else◌, flat_map}
 use Rattle.std.specs.Cmp.Lexicographic.{pointwise}
 use Rattle.virtual_topology.specs.declared.plan.PairItem.{PairItem}
 use Rattle.virtual_topology.specs.declared.plan.PortPlace.{PortPlace}
-use Rattle.virtual_topology.specs.declared.plan.SwitchItem.{SwitchItem}
 use Rattle.virtual_topology.specs.declared.plan.TopologyPlan.{TopologyPlan}
 use Rattle.virtual_topology.specs.declared.plan.VirtualItem.{VirtualItem}
 use Rattle.virtual_topology.specs.declared.plan.VirtualPort.{VirtualPort}

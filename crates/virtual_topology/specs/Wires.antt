@@ -1,5 +1,5 @@
 -- How the ports of a plan are joined, by numbers.
-use Rattle.std.specs.Prelude.{ℕ, Bool, true, false, ◌==◌, ◌&&◌, not, is_none, Option, Some, None, List, [], ◌∷◌, ◌++◌, map, filter, filter_map, flat_map, option_map, slice_get}
+use Rattle.std.specs.Prelude.{ℕ, Bool, false, ◌==◌, ◌&&◌, not, is_none, Option, Some, None, List, [], ◌∷◌, map, filter_map, flat_map, option_map, slice_get}
 use Rattle.std.specs.List.{enumerate_from, list_any}
 use Rattle.std.specs.Map.{lookup}
 use Rattle.std.specs.Option.{option_and_then, option_map_or}
@@ -8,7 +8,7 @@ use Rattle.virtual_topology.specs.declared.plan.TopologyPlan.{TopologyPlan}
 use Rattle.virtual_topology.specs.declared.plan.VirtualItem.{VirtualItem}
 use Rattle.virtual_topology.specs.declared.plan.VirtualPort.{VirtualPort}
 use Rattle.virtual_topology.specs.declared.uses.Role.{Role}
-use Rattle.virtual_topology.specs.declared.uses.Role.TheVariants.{Physical, Virtual, Link}
+use Rattle.virtual_topology.specs.declared.uses.Role.TheVariants.{Physical, Link}
 use Rattle.virtual_topology.specs.Rows.{Spot, Row, same_spot, rows, where_is}
 
 -- two spots that are joined

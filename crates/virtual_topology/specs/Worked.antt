@@ -84,5 +84,5 @@ FaultsAreNamed =
     × (fault_of (record row_of_three { cables = pair_of s1 3 s2 3 ∷ pair_of s2 4 s3 2 ∷ [] }) ≡ Some (Unknown (place_text (at_port s3 2))))
     × (fault_of (record linked { links = pair_of v1 9 v2 9 ∷ [] }) ≡ Some (LinkShape (place_text (at_port v1 8))))
     × (fault_of (record linked { switches = switch_of s1 1 (1 ∷ 2 ∷ 3 ∷ []) ∷ switch_of s2 2 (4 ∷ []) ∷ []; virtuals = first_of_two ∷ virtual_of v2 162 (outside_at 1 s1 3 ∷ outside_at 2 s2 4 ∷ link_at 8 ∷ link_at 9 ∷ []) ∷ [] })
-        ≡ Some (Mixed v1))
+    ≡ Some (Mixed v1))
     × (fault_of (record { switches = four ++ four ++ four ++ four ++ switch_of s2 2 [] ∷ []; cables = []; virtuals = []; links = [] }) ≡ Some (TooMany s2 16))

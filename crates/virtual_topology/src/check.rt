@@ -60,11 +60,7 @@ fn check_ends(alloc: Global, pair: &PairItem) -> Result<(), TopologyFault>
 }
 
 /// A link port has a link.
-fn check_port(
-    alloc: Global,
-    used: &Used<'_>,
-    row: &(Use<'_>, Spot),
-) -> Result<(), TopologyFault>
+fn check_port(alloc: Global, used: &Used<'_>, row: &(Use<'_>, Spot)) -> Result<(), TopologyFault>
     ensures { Answers TopologyFault.Memory result (unlinked used.now (shown_row row.now)) }
 {
     if row.0.role == Role::Link && !used.contains(&row.0) {
@@ -91,11 +87,7 @@ fn check_end<'a>(
     Ok(())
 }
 
-fn check_link<'a>(
-    alloc: Global,
-    known: &Known<'a>,
-    link: &'a PairItem,
-) -> Result<(), TopologyFault>
+fn check_link<'a>(alloc: Global, known: &Known<'a>, link: &'a PairItem) -> Result<(), TopologyFault>
     ensures { Answers TopologyFault.Memory result (misshapen known.now link.now) }
 {
     check_end(alloc, known, &link.a)?;

@@ -5,7 +5,6 @@
 mod check;
 mod fault;
 mod known;
-
 mod limits;
 pub mod maps;
 mod mixed;
@@ -19,10 +18,10 @@ mod wires;
 mod worked;
 
 pub use fault::TopologyFault;
-pub use maps::Rows;
 pub use limits::{MOST_PAIRS, MOST_PORTS, MOST_SWITCHES};
-pub use topology::Topology;
+pub use maps::Rows;
 pub use plan::{PairItem, PortPlace, SwitchItem, TopologyPlan, VirtualItem, VirtualPort};
+pub use topology::Topology;
 pub use worked::worked_examples;
 
 #[cfg(test)]

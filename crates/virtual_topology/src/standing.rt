@@ -99,14 +99,7 @@ pub(crate) fn standings<'a>(
 {
     let mut standings = Vec::with_capacity(alloc, virtuals.len())?;
     for (number, item) in virtuals.iter().enumerate() {
-        standings.push(standing_at(
-            alloc,
-            known,
-            cable_ways,
-            outside,
-            number as u32,
-            item,
-        )?)?;
+        standings.push(standing_at(alloc, known, cable_ways, outside, number as u32, item)?)?;
     }
     Ok(standings)
 }

@@ -92,9 +92,13 @@ fn plan(alloc: Global, texts: [&str; 4]) -> Result<TopologyPlan, Fail> {
 }
 
 const ROW: &str = "s1=1,2,3 s2=1,3,4 s3=1,3";
+
 const ROW_CABLES: &str = "s1:3-s2:3 s2:4-s3:3";
+
 const SPREAD: &str = "v1/1=s1:1,2=s2:1,3=s1:2,4=s3:1";
+
 const TWO: &str = "v1/1=s1:1,2=s1:2,8=link,9=link v2/1=s1:3,2=s1:4,8=link,9=link";
+
 const TWO_LINKS: &str = "v1:9-v2:9 v1:8-v2:8";
 
 /// The kind and the name of the fault of a plan; of a plan without fault nothing.
@@ -120,15 +124,40 @@ fn plans_have_their_faults(rt: HostRuntime) -> Result<(), Fail> {
         ([ROW, "s1:3-s2:3 s2:4-s2:3", SPREAD, ""], "twice", "s2:3"),
         ([ROW, "", "v1/1=s1:1,1=s1:2", ""], "twice", "v1:1"),
         ([ROW, "", "v1/1=s1:1,2=s1:1", ""], "twice", "s1:1"),
-        (["s1=1,2,3,4", "", TWO, "v1:9-v2:9 v1:9-v2:8"], "twice", "v1:9"),
+        (
+            ["s1=1,2,3,4", "", TWO, "v1:9-v2:9 v1:9-v2:8"],
+            "twice",
+            "v1:9",
+        ),
         ([ROW, "s1:3-s2:3 s2:4-s9:3", SPREAD, ""], "unknown", "s9:3"),
         ([ROW, "", "v1/1=s1:7", ""], "unknown", "s1:7"),
-        (["s1=1,2,3,4", "", TWO, "v1:9-v2:9 v1:8-v3:8"], "unknown", "v3:8"),
+        (
+            ["s1=1,2,3,4", "", TWO, "v1:9-v2:9 v1:8-v3:8"],
+            "unknown",
+            "v3:8",
+        ),
         (["s1=1,2,3,4", "", TWO, "v1:9-v2:9"], "shape", "v1:8"),
-        (["s1=1,2,3,4", "", TWO, "v1:9-v2:9 v1:8-v2:1"], "shape", "v2:8"),
+        (
+            ["s1=1,2,3,4", "", TWO, "v1:9-v2:9 v1:8-v2:1"],
+            "shape",
+            "v2:8",
+        ),
         ([ROW, "s1:3-s1:3", SPREAD, ""], "shape", "s1:3"),
-        (["s1=1", "", "v1/1=s1:1,8=link,9=link", "v1:9-v1:8"], "shape", "v1:9"),
-        (["s1=1 s2=1", "", "v0/1=s1:1,9=link v1/8=link,9=link v2/1=s2:1,8=link", "v0:9-v1:8 v1:9-v2:8"], "mixed", "v0"),
+        (
+            ["s1=1", "", "v1/1=s1:1,8=link,9=link", "v1:9-v1:8"],
+            "shape",
+            "v1:9",
+        ),
+        (
+            [
+                "s1=1 s2=1",
+                "",
+                "v0/1=s1:1,9=link v1/8=link,9=link v2/1=s2:1,8=link",
+                "v0:9-v1:8 v1:9-v2:8",
+            ],
+            "mixed",
+            "v0",
+        ),
     ];
     for (texts, kind, name) in rows {
         let (found, named) = fault(rt.alloc(), texts)?;
@@ -140,14 +169,40 @@ fn plans_have_their_faults(rt: HostRuntime) -> Result<(), Fail> {
 
 #[test]
 fn ports_are_found(rt: HostRuntime) -> Result<(), Fail> {
-    let row = Topology::make(rt.alloc(), &plan(rt.alloc(), [ROW, ROW_CABLES, SPREAD, ""])?)?.copy()?;
-    assert_eq!(rt; (row.outside(0, 4), row.entering(2, 1)), (Some((2, 1)), Some((0, 4))));
-    assert_eq!(rt; (row.far_end(1, 4), row.far_end(1, 3)), (Some((2, 3)), Some((0, 3))));
+    let row = Topology::make(
+        rt.alloc(),
+        &plan(rt.alloc(), [ROW, ROW_CABLES, SPREAD, ""])?,
+    )?
+    .copy()?;
+    assert_eq!(rt;
+        (row.outside(0, 4), row.entering(2, 1)),
+        (Some((2, 1)), Some((0, 4)))
+    );
+    assert_eq!(rt;
+        (row.far_end(1, 4), row.far_end(1, 3)),
+        (Some((2, 3)), Some((0, 3)))
+    );
     assert_eq!(rt; (row.is_spread(0), row.is_lone(0)), (true, false));
-    let two = Topology::make(rt.alloc(), &plan(rt.alloc(), ["s1=1,2,3,4", "", TWO, TWO_LINKS])?)?;
-    assert_eq!(rt; (two.peer(0, 9), two.peer(1, 8), two.peer(0, 1)), (Some((1, 9)), Some((0, 8)), None));
-    assert_eq!(rt; (two.is_spread(1), two.is_lone(1), two.is_lone(2)), (false, false, false));
-    assert_eq!(rt; (two.outside_ports().len(), two.cable_ways().len(), two.plan().links.len()), (4, 0, 2));
+    let two = Topology::make(
+        rt.alloc(),
+        &plan(rt.alloc(), ["s1=1,2,3,4", "", TWO, TWO_LINKS])?,
+    )?;
+    assert_eq!(rt;
+        (two.peer(0, 9), two.peer(1, 8), two.peer(0, 1)),
+        (Some((1, 9)), Some((0, 8)), None)
+    );
+    assert_eq!(rt;
+        (two.is_spread(1), two.is_lone(1), two.is_lone(2)),
+        (false, false, false)
+    );
+    assert_eq!(rt;
+        (
+            two.outside_ports().len(),
+            two.cable_ways().len(),
+            two.plan().links.len()
+        ),
+        (4, 0, 2)
+    );
     worked_examples();
     Ok(())
 }

@@ -69,11 +69,7 @@ fn push_pair<'a>(uses: &mut Vec<Use<'a>>, role: Role, pair: &'a PairItem) -> Res
 }
 
 /// Appends the ends of pairs, in their order.
-fn push_pairs<'a>(
-    uses: &mut Vec<Use<'a>>,
-    role: Role,
-    pairs: &'a [PairItem],
-) -> Result<(), Memory>
+fn push_pairs<'a>(uses: &mut Vec<Use<'a>>, role: Role, pairs: &'a [PairItem]) -> Result<(), Memory>
     ensures { OnOk result (map shown uses.new.items ≡ map shown uses.old.items ++ pair_uses role pairs.now) }
 {
     for pair in pairs {

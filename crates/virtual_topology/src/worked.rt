@@ -6,5 +6,4 @@ pub fn worked_examples()
     ensures ports { PortsAreFound }
     ensures links { LinksLead }
     ensures faults { FaultsAreNamed }
-{
-}
+{}

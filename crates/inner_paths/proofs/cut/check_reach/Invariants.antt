@@ -1,7 +1,7 @@
-use Rattle.std.proofs.Common.{◌≡◌, ◌==◌, ◌+◌, ℕ, ◌<◌, ◌≤◌, Bool, false, Option, Some, None, length, get_or, take, drop, if◌then◌else◌}
-use Rattle.std.specs.List.{enumerate_from, range_with_len}
+use Rattle.std.proofs.Common.{◌≡◌, length, drop}
+use Rattle.std.specs.List.{range_with_len}
 use Rattle.virtual_topology.specs.Faults.{first_answer}
-use Rattle.inner_paths.specs.Cuts.{cut_between, cut_from, cut_of}
+use Rattle.inner_paths.specs.Cuts.{cut_of}
 use Rattle.inner_paths.proofs.cut.check_reach.Given as goal
 
 abbrev pub invariant-loop-v : goal.invariant-loop-v

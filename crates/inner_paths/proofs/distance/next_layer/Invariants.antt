@@ -1,4 +1,4 @@
-use Rattle.std.proofs.Common.{◌≡◌, ◌==◌, ◌+◌, ℕ, ◌<◌, ◌≤◌, Bool, false, Option, Some, None, length, get_or, take, drop, if◌then◌else◌}
+use Rattle.std.proofs.Common.{◌≡◌, ℕ, ◌<◌, false, length, get_or}
 use Rattle.inner_paths.specs.Tables.{leads_into}
 use Rattle.inner_paths.proofs.distance.next_layer.Given as goal
 

@@ -1,4 +1,4 @@
-use Rattle.std.proofs.Common.{◌≡◌, ◌==◌, ◌+◌, ℕ, ◌<◌, ◌≤◌, Bool, false, Option, Some, None, length, get_or, take, drop, if◌then◌else◌}
+use Rattle.std.proofs.Common.{◌≡◌, ℕ, ◌<◌, false, Some, None, length, get_or, if◌then◌else◌}
 use Rattle.std.specs.Option.{option_or}
 use Rattle.inner_paths.proofs.distance.noted.Given as goal
 

@@ -1,4 +1,4 @@
-use Rattle.std.proofs.Common.{◌≡◌, ◌==◌, ◌+◌, ℕ, ◌<◌, ◌≤◌, Bool, false, Option, Some, None, length, get_or, take, drop, if◌then◌else◌}
+use Rattle.std.proofs.Common.{◌≡◌, ◌==◌, ℕ, ◌<◌, false, length, get_or}
 use Rattle.inner_paths.proofs.distance.own_layer.Given as goal
 
 abbrev pub invariant-loop-switch : goal.invariant-loop-switch

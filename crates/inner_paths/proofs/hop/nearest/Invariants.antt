@@ -1,4 +1,4 @@
-use Rattle.std.proofs.Common.{◌≡◌, ◌==◌, ◌+◌, ℕ, ◌<◌, ◌≤◌, Bool, false, Option, Some, None, length, get_or, take, drop, if◌then◌else◌}
+use Rattle.std.proofs.Common.{◌≡◌, ◌≤◌, None, length, get_or, drop}
 use Rattle.std.specs.Prelude.{filter_map}
 use Rattle.inner_paths.specs.Hops.{lead_by, nearest}
 use Rattle.inner_paths.proofs.hop.nearest.Given as goal

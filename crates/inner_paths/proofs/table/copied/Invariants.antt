@@ -1,4 +1,4 @@
-use Rattle.std.proofs.Common.{◌≡◌, ◌==◌, ◌+◌, ℕ, ◌<◌, ◌≤◌, Bool, false, Option, Some, None, length, get_or, take, drop, if◌then◌else◌}
+use Rattle.std.proofs.Common.{◌≡◌, take}
 use Rattle.inner_paths.proofs.table.copied.Given as goal
 
 abbrev pub invariant-loop-row : goal.invariant-loop-row

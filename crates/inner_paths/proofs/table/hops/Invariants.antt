@@ -1,4 +1,4 @@
-use Rattle.std.proofs.Common.{◌≡◌, ◌==◌, ◌+◌, ℕ, ◌<◌, ◌≤◌, Bool, false, Option, Some, None, length, get_or, take, drop, if◌then◌else◌}
+use Rattle.std.proofs.Common.{◌≡◌, ℕ, ◌<◌, None, length, get_or}
 use Rattle.inner_paths.specs.Hops.{hop_between}
 use Rattle.inner_paths.proofs.table.hops.Given as goal
 

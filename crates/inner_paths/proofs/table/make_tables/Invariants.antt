@@ -1,4 +1,4 @@
-use Rattle.std.proofs.Common.{◌≡◌, ◌==◌, ◌+◌, ℕ, ◌<◌, ◌≤◌, Bool, false, Option, Some, None, length, get_or, take, drop, if◌then◌else◌}
+use Rattle.std.proofs.Common.{length}
 use Rattle.inner_paths.specs.Distances.{distance}
 use Rattle.inner_paths.specs.Hops.{hop_between}
 use Rattle.inner_paths.specs.Tables.{IsTable}

@@ -5,7 +5,7 @@ use Rattle.script_text.specs.declared.fault.LineFault.{LineFault}
 use Rattle.script_text.specs.declared.line.Line.{Line}
 use Rattle.script_text.specs.declared.line.Line.TheVariants.{Blank}
 use Rattle.script_text.proofs.Pieces.{first_piece, one_piece, said_one}
-use Rattle.script_text.proofs.Tests.{if_false}
+use Rattle.script_text.proofs.Passed.{if_false}
 use Rattle.script_text.proofs.reading.read_line.Goals as goal
 
 pub returns-in_default : goal.returns-in_default

@@ -1,7 +1,5 @@
-use Rattle.std.proofs.Common.{◌≡◌, map, drop}
-use Rattle.std.specs.List.{enumerate_from}
-use Rattle.virtual_topology.specs.Faults.{first_answer, looped, misshapen, too_many_at, too_many_of, unknown_place, unlinked}
-use Rattle.virtual_topology.specs.Shown.{shown, shown_row}
+use Rattle.std.proofs.Common.{◌≡◌, drop}
+use Rattle.virtual_topology.specs.Faults.{first_answer, misshapen}
 use Rattle.virtual_topology.proofs.check.check_links.Given as goal
 
 abbrev pub invariant-loop-link : goal.invariant-loop-link

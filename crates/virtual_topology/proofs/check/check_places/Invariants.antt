@@ -1,7 +1,6 @@
 use Rattle.std.proofs.Common.{◌≡◌, map, drop}
-use Rattle.std.specs.List.{enumerate_from}
-use Rattle.virtual_topology.specs.Faults.{first_answer, looped, misshapen, too_many_at, too_many_of, unknown_place, unlinked}
-use Rattle.virtual_topology.specs.Shown.{shown, shown_row}
+use Rattle.virtual_topology.specs.Faults.{first_answer, unknown_place}
+use Rattle.virtual_topology.specs.Shown.{shown}
 use Rattle.virtual_topology.proofs.check.check_places.Given as goal
 
 abbrev pub invariant-loop-place : goal.invariant-loop-place

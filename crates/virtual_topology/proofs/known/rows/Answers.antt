@@ -1,4 +1,4 @@
-use Rattle.std.proofs.Common.{◌≡◌, ◌∙◌, ap, ◌++◌, sym, arith, append_assoc, take}
+use Rattle.std.proofs.Common.{◌∙◌, ap, ◌++◌, sym, arith, append_assoc, take}
 use Rattle.std.proofs.lemmas.List.{append-nil}
 use Rattle.std.specs.Prelude.{flat_map}
 use Rattle.std.specs.List.{enumerate_from}
@@ -21,11 +21,11 @@ loop-number-2-preserved c =
     c.in_ok-push_virtual.ensures ∙ (ap (λ rs. rs ++ virtual_rows (c.loop-number-2.number, c.item-item-in-loop-number-2.result)) c.loop-number-2.invariant
     ∙ (append_assoc (all_switch_rows c.args.plan.now.switches) (flat_map virtual_rows (take c.loop-number-2.number (enumerate_from 0 c.as_slice-item-items-2.result.now))) (virtual_rows (c.loop-number-2.number, c.item-item-in-loop-number-2.result))
     ∙ ap (λ rs. all_switch_rows c.args.plan.now.switches ++ rs)
-        (sym (numbered_more virtual_rows c.as_slice-item-items-2.result.now c.loop-number-2.number c.item-item-in-loop-number-2.result c.loop-number-2-test.true c.item-item-in-loop-number-2.is))))
+    (sym (numbered_more virtual_rows c.as_slice-item-items-2.result.now c.loop-number-2.number c.item-item-in-loop-number-2.result c.loop-number-2-test.true c.item-item-in-loop-number-2.is))))
 
 pub returns : goal.returns
 returns c =
     c.loop-number-2.invariant
     ∙ ap (λ rs. all_switch_rows c.args.plan.now.switches ++ rs)
-      (ap (flat_map virtual_rows) (numbered_all c.as_slice-item-items-2.result.now c.loop-number-2.number (omega (arith, c.loop-number-2-test.false)))
-      ∙ ap (λ xs. flat_map virtual_rows (enumerate_from 0 xs)) c.as_slice-item-items-2.ensures)
+    (ap (flat_map virtual_rows) (numbered_all c.as_slice-item-items-2.result.now c.loop-number-2.number (omega (arith, c.loop-number-2-test.false)))
+    ∙ ap (λ xs. flat_map virtual_rows (enumerate_from 0 xs)) c.as_slice-item-items-2.ensures)

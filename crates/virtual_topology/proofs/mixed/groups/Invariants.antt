@@ -1,9 +1,5 @@
-use Rattle.std.proofs.Common.{◌≡◌, ◌==◌, ℕ, ◌<◌, ◌≤◌, length, get_or, map, take, drop}
-use Rattle.std.specs.Prelude.{flat_map, filter_map}
-use Rattle.std.specs.List.{enumerate_from}
+use Rattle.std.proofs.Common.{◌≡◌, ◌==◌, ℕ, ◌<◌, ◌≤◌, length, get_or, drop}
 use Rattle.virtual_topology.specs.Faults.{are_joined}
-use Rattle.virtual_topology.specs.Wires.{both_ways, item_joints, outside_row, pair_joint, turned}
-use Rattle.virtual_topology.specs.Within.{merged}
 use Rattle.virtual_topology.proofs.mixed.groups.Given as goal
 
 abbrev pub invariant-loop-left : goal.invariant-loop-left

@@ -1,4 +1,4 @@
-use Rattle.std.proofs.Common.{◌≡◌, ◌∙◌, ◌&&◌, Bool, ap, sym, filter}
+use Rattle.std.proofs.Common.{◌∙◌, ◌&&◌, Bool, ap, filter}
 use Rattle.virtual_topology.specs.Faults.{are_joined}
 use Rattle.virtual_topology.specs.Wires.{Joint, lie_apart}
 use Rattle.virtual_topology.proofs.Groups.{kept_are}

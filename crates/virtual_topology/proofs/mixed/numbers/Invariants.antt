@@ -1,11 +1,5 @@
-use Rattle.std.proofs.Common.{◌≡◌, ◌==◌, ℕ, ◌<◌, ◌≤◌, length, get_or, map, take, drop}
-use Rattle.std.specs.Prelude.{flat_map, filter_map}
-use Rattle.std.specs.List.{enumerate_from}
-use Rattle.virtual_topology.specs.Faults.{are_joined}
-use Rattle.virtual_topology.specs.Wires.{both_ways, item_joints, outside_row, pair_joint, turned}
-use Rattle.virtual_topology.specs.Within.{merged}
+use Rattle.std.proofs.Common.{◌≡◌, ℕ, ◌<◌, length, get_or}
 use Rattle.virtual_topology.proofs.mixed.numbers.Given as goal
 
 abbrev pub invariant-loop-number : goal.invariant-loop-number
 invariant-loop-number l = (length l.numbers.items ≡ l.number) × ((k : ℕ) → k < l.number → get_or l.numbers.items k 0 ≡ k)
-

@@ -1,4 +1,4 @@
-use Rattle.std.proofs.Common.{◌≡◌, ◌∙◌, ap, map, ◌++◌, ◌∷◌, [], sym, arith}
+use Rattle.std.proofs.Common.{◌∙◌, ap, map, ◌++◌, ◌∷◌, [], sym, arith}
 use Rattle.virtual_topology.specs.Made.{standing_of}
 use Rattle.virtual_topology.proofs.Steps.{numbered_all, numbered_mapped}
 use Rattle.virtual_topology.proofs.standing.standings.Goals as goal

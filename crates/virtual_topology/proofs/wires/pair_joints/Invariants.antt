@@ -1,11 +1,7 @@
-use Rattle.std.proofs.Common.{◌≡◌, ◌==◌, ℕ, ◌<◌, ◌≤◌, length, get_or, map, take, drop}
-use Rattle.std.specs.Prelude.{flat_map, filter_map}
-use Rattle.std.specs.List.{enumerate_from}
-use Rattle.virtual_topology.specs.Faults.{are_joined}
-use Rattle.virtual_topology.specs.Wires.{both_ways, item_joints, outside_row, pair_joint, turned}
-use Rattle.virtual_topology.specs.Within.{merged}
+use Rattle.std.proofs.Common.{◌≡◌, take}
+use Rattle.std.specs.Prelude.{filter_map}
+use Rattle.virtual_topology.specs.Wires.{pair_joint}
 use Rattle.virtual_topology.proofs.wires.pair_joints.Given as goal
 
 abbrev pub invariant-loop-pair : goal.invariant-loop-pair
 invariant-loop-pair l = l.joints.items ≡ filter_map (pair_joint l.known l.role) (take l.pair-index l.pairs)
-

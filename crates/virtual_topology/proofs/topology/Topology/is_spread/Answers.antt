@@ -1,4 +1,4 @@
-use Rattle.std.proofs.Common.{◌≡◌, ◌∙◌, false, ap, sym}
+use Rattle.std.proofs.Common.{◌∙◌, false, ap}
 use Rattle.std.specs.Option.{option_map_or}
 use Rattle.virtual_topology.specs.declared.standing.Standing.{Standing}
 use Rattle.virtual_topology.specs.Wires.{is_spread_of}

@@ -1,11 +1,11 @@
-use Rattle.std.proofs.Common.{◌≡◌, ◌∙◌, ℕ, None, Option, List, length, ap, subst, sym}
+use Rattle.std.proofs.Common.{◌≡◌, ◌∙◌, ℕ, Option, length, ap, subst, sym}
 use Rattle.std.proofs.lemmas.Result.{err_from_is_err_and}
 use Rattle.virtual_topology.specs.declared.fault.TopologyFault.TheVariants.{Memory}
 use Rattle.virtual_topology.specs.declared.fault.TopologyFault.{TopologyFault}
 use Rattle.virtual_topology.specs.declared.uses.Role.TheVariants.{Link}
 use Rattle.virtual_topology.specs.Faults.{crowded, mixed_among, twice_among}
 use Rattle.virtual_topology.specs.Places.{uses}
-use Rattle.virtual_topology.specs.Wires.{Joint, joints_among, link_joints, outside_among, outside_joints}
+use Rattle.virtual_topology.specs.Wires.{joints_among, link_joints, outside_among, outside_joints}
 use Rattle.virtual_topology.specs.Within.{AreWithin, HaveSwitches}
 use Rattle.virtual_topology.proofs.Bounds.{links_within, outside_within}
 use Rattle.virtual_topology.proofs.Checks.{Wanted, after_mixed, after_shape, first_wanted}
@@ -35,7 +35,7 @@ returns-in_err-check_mixed-clause-fault c =
     let p = err_from_is_err_and c.from_residual-in_err-check_mixed.result c.from_residual-in_err-check_mixed.ensures.1 in
     let e = c.in_err-check_mixed.field-0.0 in
     let mixed : Wanted Memory e (mixed_among (link_joints plan) (outside_joints plan) plan.virtuals) =
-        subst (λ (o : Option TopologyFault). Wanted Memory e o) (λ i. mixed_among (links i) (outside i) (c.as_slice-3.ensures i)) c.in_err-check_mixed.ensures in
+    subst (λ (o : Option TopologyFault). Wanted Memory e o) (λ i. mixed_among (links i) (outside i) (c.as_slice-3.ensures i)) c.in_err-check_mixed.ensures in
     rw (p.1, p.2) (subst (λ (o : Option TopologyFault). Wanted Memory e o) (sym left) (first_wanted Memory e _ (crowded plan) mixed))
 
 pub returns-in_err-check_limits-clause-fault : goal.returns-in_err-check_limits-clause-fault

@@ -1,6 +1,5 @@
-use Rattle.std.proofs.Common.{◌≤◌, List, ◌∙◌, ap, length, subst, sym}
-use Rattle.virtual_topology.specs.Wires.{Joint, outside_joints}
-use Rattle.virtual_topology.specs.declared.plan.TopologyPlan.{TopologyPlan}
+use Rattle.std.proofs.Common.{◌≤◌, List, ◌∙◌, length, subst, sym}
+use Rattle.virtual_topology.specs.Wires.{Joint}
 use Rattle.virtual_topology.proofs.Counted.{few_outside}
 use Rattle.virtual_topology.proofs.topology.Topology.outside_ports.Goals as goal
 
