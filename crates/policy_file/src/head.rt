@@ -1,8 +1,9 @@
 //! The top keys.
-ghost use Rattle.std.specs.Prelude.{◌≡◌, IfOk, codes};
+ghost use Rattle.std.specs.Prelude.{◌≡◌, true, IfOk, codes};
 ghost use Rattle.toml.specs.View.{view, table_view};
 ghost use Rattle.toml.specs.Data.{get_member};
-ghost use Rattle.cv_io.specs.Text.{IsAsciiText};
+ghost use Rattle.std.specs.Char.{is_ascii};
+ghost use Rattle.std.specs.List.{list_all};
 ghost use Rattle.policy_file.specs.Values.{number as number_of, address as address_of};
 ghost use Rattle.policy_file.specs.Regions.{if_there};
 ghost use Rattle.policy_file.specs.Heads.{or_absent, lists_tables as lists_tables_of, items_at, head_of};
@@ -54,7 +55,7 @@ pub(crate) fn address_or(
     key: &str,
     absent: &str,
 ) -> Result<Option<Text>, Memory>
-    requires { IsAsciiText absent.now }
+    requires { list_all is_ascii absent.now ≡ true }
     ensures { IfOk result (λ t. t ≡ or_absent absent.now address_of (get_member key.now (table_view table.now))) }
 {
     match at(table, key) {

@@ -1,9 +1,10 @@
 //! Values of keys.
-ghost use Rattle.std.specs.Prelude.{◌≡◌, ◌==◌, ◌<◌, ◌≤◌, ◌&&◌, IfOk, IfSome, length, position, option_map};
+ghost use Rattle.std.specs.Prelude.{◌≡◌, ◌==◌, true, Some, None, if◌then◌else◌, ◌<◌, ◌≤◌, ◌&&◌, IfOk, IfSome, length, position, option_map};
+ghost use Rattle.cv_io.specs.Text.{IsAsciiText};
 ghost use Rattle.std.specs.Char.{is_ascii};
 ghost use Rattle.std.specs.List.{list_all};
 ghost use Rattle.toml.specs.View.{view};
-ghost use Rattle.policy_file.specs.Values.{number as number_of, if_fits, is_printable as is_printable_of, is_address as is_address_of, address as address_of, is_name_byte as is_name_byte_of, is_name as is_name_of, name as name_of, expression as expression_of, digit as digit_of, hexadecimal as hexadecimal_of, dpid as dpid_of, decimal_of, decimal_within as decimal_within_of, split_at_first as split_at_first_of, place as place_of, port_place as port_place_of, virtual_port as virtual_port_of, port as port_of, ports as ports_of};
+ghost use Rattle.policy_file.specs.Values.{number as number_of, if_fits, is_printable as is_printable_of, is_address as is_address_of, address as address_of, is_name_byte as is_name_byte_of, is_name as is_name_of, name as name_of, expression as expression_of, digit as digit_of, hexadecimal as hexadecimal_of, dpid as dpid_of, decimal_of, decimal_digit as decimal_digit_of, is_short as is_short_of, decimal_within as decimal_within_of, split_at_first as split_at_first_of, place as place_of, port_place as port_place_of, virtual_port as virtual_port_of, port as port_of, ports as ports_of};
 
 use crate::tables::list;
 use cv_io::{Bytes, List, Memory, Text};
@@ -26,18 +27,31 @@ pub(crate) fn number(value: &Value, least: u32, greatest: u32) -> Option<u32>
     }
 }
 
+/// Whether each byte is ASCII.
+fn are_ascii(word: &[u8]) -> bool
+    ensures { result ≡ list_all is_ascii word.now }
+{
+    word.iter().all(|byte| byte.is_ascii())
+}
+
+/// A text that passes a test, which no text beyond ASCII passes.
+fn text_if(alloc: Global, word: &str, fits: bool) -> Result<Option<Text>, Memory>
+    requires { fits ≡ true → IsAsciiText word.now }
+    ensures { IfOk result (λ t. t ≡ (if fits then Some word.now else None)) }
+{
+    if fits {
+        Ok(Some(Text::from_slice(alloc, word.as_bytes())?))
+    } else {
+        Ok(None)
+    }
+}
+
 /// A text of ASCII.
+#[tactic(auto, using(crate::proofs::Texts::ascii_all))]
 pub(crate) fn ascii(alloc: Global, word: &str) -> Result<Option<Text>, Memory>
     ensures { IfOk result (λ t. t ≡ if_fits (list_all is_ascii) word.now) }
 {
-    Ok(Text::from_bytes(Bytes::from_slice(alloc, word.as_bytes())?).ok())
-}
-
-/// A text that passes a test, which texts beyond ASCII don't.
-fn text_if(alloc: Global, word: &str, fits: bool) -> Result<Option<Text>, Memory>
-    ensures { IfOk result (λ t. t ≡ if_fits (λ s. fits && list_all is_ascii s) word.now) }
-{
-    if fits { ascii(alloc, word) } else { Ok(None) }
+    text_if(alloc, word, are_ascii(word.as_bytes()))
 }
 
 fn is_printable(byte: u8) -> bool
@@ -59,6 +73,7 @@ fn is_address(word: &[u8]) -> bool
     !word.is_empty() && word.len() <= 64 && are_printable(word)
 }
 
+#[tactic(auto, using(crate::proofs::Texts::ascii_address))]
 /// An address of the network: 1 to 64 bytes of printable ASCII.
 pub(crate) fn address(alloc: Global, value: &Value) -> Result<Option<Text>, Memory>
     ensures { IfOk result (λ t. t ≡ address_of (view value.now)) }
@@ -93,6 +108,7 @@ pub(crate) fn is_name(word: &[u8]) -> bool
     }
 }
 
+#[tactic(auto, using(crate::proofs::Texts::ascii_name))]
 /// A name.
 pub(crate) fn name(alloc: Global, value: &Value) -> Result<Option<Text>, Memory>
     ensures { IfOk result (λ t. t ≡ name_of (view value.now)) }
@@ -151,19 +167,42 @@ pub(crate) fn dpid(value: &Value) -> Option<u64>
     }
 }
 
+/// The value of a decimal digit.
+fn decimal_digit(byte: u8) -> Option<u8>
+    ensures value { result ≡ decimal_digit_of byte }
+    ensures below { IfSome result (λ d. d < 10) }
+{
+    if byte.is_ascii_digit() {
+        Some(byte - b'0')
+    } else {
+        None
+    }
+}
+
+/// Whether they are one to five, without a zero before others.
+fn is_short(digits: &[u8]) -> bool
+    ensures { result ≡ is_short_of digits.now }
+{
+    match digits {
+        [] => false,
+        [_] => true,
+        [first, ..] => *first != b'0' && digits.len() <= 5,
+    }
+}
+
 /// The number of decimal digits, at most five of them and without a zero in front.
 pub(crate) fn decimal(digits: &[u8]) -> Option<u32>
     ensures { result ≡ decimal_of digits.now }
 {
-    if digits.is_empty() || digits.len() > 5 || (digits.len() > 1 && digits[0] == b'0') {
+    if !is_short(digits) {
         return None;
     }
     let mut number: u32 = 0;
     for byte in digits {
-        if !byte.is_ascii_digit() {
-            return None;
+        match decimal_digit(*byte) {
+            Some(digit) => number = number * 10 + u32::from(digit),
+            None => return None,
         }
-        number = number * 10 + u32::from(*byte - b'0');
     }
     Some(number)
 }
