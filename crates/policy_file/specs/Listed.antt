@@ -49,8 +49,11 @@ may_stand (Some only) (Some version) = same_version only version
 may_stand None version = true
 may_stand (Some only) None = true
 
+abbrev pub is_row : Option Version → List ℕ → Row → Bool
+is_row version key row = same_key row.key key && may_stand row.only version
+
 abbrev pub is_listed : List Row → Option Version → List ℕ → Bool
-is_listed rows version key = list_any (λ (row : Row). same_key row.key key && may_stand row.only version) rows
+is_listed rows version key = list_any (is_row version key) rows
 
 -- a key that isn't listed
 abbrev pub unlisted_key : Section → Option Version → List ℕ → Option PolicyFault

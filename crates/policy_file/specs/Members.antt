@@ -87,10 +87,13 @@ abbrev pub is_named : Option (List ℕ) → ℕ → Bool
 is_named None port = true
 is_named (Some ports) port = list_any (λ p. p == port) ports
 
+-- a link port or an outside port that a member names
+abbrev pub on_side : Option (List ℕ) → Bool → VirtualPort → Bool
+on_side listed links p = (if links then is_none p.at else is_some p.at) && is_named listed p.port
+
 -- the ports of a virtual switch that a member names, link ports or outside ports, rising
 abbrev pub side : VirtualItem → Option (List ℕ) → Bool → List ℕ
-side v listed links =
-    rising_with [] (map (λ (p : VirtualPort). p.port) (filter (λ (p : VirtualPort). (if links then is_none p.at else is_some p.at) && is_named listed p.port) v.ports))
+side v listed links = rising_with [] (map (λ (p : VirtualPort). p.port) (filter (on_side listed links) v.ports))
 
 abbrev pub view_of : ℕ → VirtualItem → Option (List ℕ) → PortView
 view_of number v listed = record { v = number; outside = side v listed false; links = side v listed true }

@@ -1,12 +1,12 @@
 //! The top keys.
-ghost use Rattle.std.specs.Prelude.{◌≡◌, true, IfOk, codes};
+ghost use Rattle.std.specs.Prelude.{◌≡◌, true, IfOk, codes, map};
 ghost use Rattle.toml.specs.View.{view, table_view};
 ghost use Rattle.toml.specs.Data.{get_member};
 ghost use Rattle.std.specs.Char.{is_ascii};
 ghost use Rattle.std.specs.List.{list_all};
 ghost use Rattle.policy_file.specs.Values.{number as number_of, address as address_of};
 ghost use Rattle.policy_file.specs.Regions.{if_there};
-ghost use Rattle.policy_file.specs.Heads.{or_absent, lists_tables as lists_tables_of, items_at, head_of};
+ghost use Rattle.policy_file.specs.Heads.{or_absent, is_table, lists_tables as lists_tables_of, items_at, head_of};
 ghost use Rattle.policy_file.specs.Outcomes.{Gives};
 
 use crate::fault::PolicyFault;
@@ -74,12 +74,24 @@ fn standby(alloc: Global, file: &Table) -> Result<Option<Option<Text>>, Memory>
     }
 }
 
+/// Whether each value is a table.
+fn are_tables(items: &[Value]) -> bool
+    ensures { result ≡ list_all is_table (map view items.now) }
+{
+    for item in items {
+        if !item.is_table() {
+            return false;
+        }
+    }
+    true
+}
+
 /// Whether a value is a list of tables.
 fn lists_tables(value: &Value) -> bool
     ensures { result ≡ lists_tables_of (view value.now) }
 {
     match list(value) {
-        Some(items) => items.iter().all(|item| item.is_table()),
+        Some(items) => are_tables(items),
         None => false,
     }
 }

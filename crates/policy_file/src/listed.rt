@@ -3,7 +3,7 @@ ghost use Rattle.std.specs.Prelude.{◌≡◌, map};
 ghost use Rattle.toml.specs.View.{view, table_view};
 ghost use Rattle.virtual_topology.specs.Faults.{Answers};
 ghost use Rattle.policy_file.specs.Shown.{shown_row};
-ghost use Rattle.policy_file.specs.Listed.{version as version_by, version_of as version_in, items as items_of, may_stand as may_stand_of, is_listed as is_listed_of, unlisted, missing, of_table, among_items, unlisted_in, missing_in};
+ghost use Rattle.policy_file.specs.Listed.{version as version_by, version_of as version_in, items as items_of, may_stand as may_stand_of, is_row as is_row_of, is_listed as is_listed_of, unlisted, missing, of_table, among_items, unlisted_in, missing_in};
 
 use crate::fault::PolicyFault;
 use crate::keys::{ITEM_KINDS, ItemKind, KeyRow, Version};
@@ -53,11 +53,22 @@ fn may_stand(row: &KeyRow, version: Option<Version>) -> bool
     }
 }
 
+/// Whether a row is that of a key that may stand in a version.
+fn is_row(row: &KeyRow, version: Option<Version>, key: &str) -> bool
+    ensures { result ≡ is_row_of version key.now (shown_row row.now) }
+{
+    row.key == key && may_stand(row, version)
+}
+
 fn is_listed(rows: &[KeyRow], version: Option<Version>, key: &str) -> bool
     ensures { result ≡ is_listed_of (map shown_row rows.now) version key.now }
 {
-    rows.iter()
-        .any(|row| row.key == key && may_stand(row, version))
+    for row in rows {
+        if is_row(row, version, key) {
+            return true;
+        }
+    }
+    false
 }
 
 /// The keys of a section are listed.

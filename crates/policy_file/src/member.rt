@@ -1,13 +1,14 @@
 //! Members.
 ghost use Rattle.std.specs.Prelude.{◌≡◌, IfOk, codes, option_copied};
 ghost use Rattle.toml.specs.View.{table_view};
+ghost use Rattle.std.specs.List.{list_all};
 ghost use Rattle.toml.specs.Data.{get_member, as_bool};
 ghost use Rattle.policy_file.specs.Values.{number as number_of};
 ghost use Rattle.policy_file.specs.Words.{actions as actions_of};
 ghost use Rattle.policy_file.specs.Regions.{if_there, all_headers};
 ghost use Rattle.policy_file.specs.Heads.{or_absent};
 ghost use Rattle.policy_file.specs.Plans.{read_at};
-ghost use Rattle.policy_file.specs.Members.{virtual_at as virtual_at_of, new_controller as new_controller_of, are_there as are_there_of, ports_there, region_key as region_key_of, region_in, member as member_of, next_member as next_member_of, members_of as members_in};
+ghost use Rattle.policy_file.specs.Members.{has_port as has_port_of, virtual_at as virtual_at_of, new_controller as new_controller_of, are_there as are_there_of, ports_there, region_key as region_key_of, region_in, member as member_of, next_member as next_member_of, members_of as members_in};
 ghost use Rattle.policy_file.specs.Outcomes.{Gives};
 
 use crate::fault::PolicyFault;
@@ -107,12 +108,19 @@ fn bits_at(table: &Table) -> Option<u32>
     }
 }
 
+/// Whether a virtual switch has each of these ports.
+fn has_ports(item: &VirtualItem, ports: &[u16]) -> bool
+    ensures { result ≡ list_all (has_port_of item.now) ports.now }
+{
+    ports.iter().all(|port| has_port(item, *port))
+}
+
 /// Whether a virtual switch, if it is known, has each of these ports.
 fn are_there(item: Option<&VirtualItem>, ports: &List<u16>) -> bool
     ensures { result ≡ are_there_of (option_copied item.entry) ports.now }
 {
     match item {
-        Some(item) => ports.as_slice().iter().all(|port| has_port(item, *port)),
+        Some(item) => has_ports(item, ports.as_slice()),
         None => true,
     }
 }

@@ -91,8 +91,8 @@ fn prefix_of(addr: u32, len: u32) -> Option<Prefix>
     requires most { len ≤ 32 }
     ensures { result ≡ prefix_if addr len }
 {
-    let beyond = if len < 32 { u32::MAX >> len } else { 0 };
-    if addr & beyond == 0 {
+    let beyond: u64 = 1 << (32 - len);
+    if u64::from(addr) % beyond == 0 {
         Some(Prefix {
             addr,
             len: len as u8,

@@ -149,8 +149,10 @@ pub(crate) fn hexadecimal(digits: &[u8]) -> Option<u64>
 {
     let mut number: u64 = 0;
     for byte in digits {
-        let digit = digit(*byte)?;
-        number = (number & 0x0fff_ffff_ffff_ffff) * 16 + u64::from(digit);
+        match digit(*byte) {
+            Some(digit) => number = number * 16 + u64::from(digit),
+            None => return None,
+        }
     }
     Some(number)
 }

@@ -8,4 +8,4 @@ use Rattle.policy_file.proofs.listed.check_needed.Given as goal
 abbrev pub invariant-loop-row : goal.invariant-loop-row
 invariant-loop-row l =
     let f = missing_row l.section (table_view l.table) in
-    first_answer f (drop l.row-index (map shown_row l.row-items)) ≡ first_answer f (map shown_row l.row-items)
+    first_answer f (map shown_row (drop l.row-index l.row-items)) ≡ first_answer f (map shown_row l.row-items)

@@ -5,5 +5,4 @@ use Rattle.policy_file.proofs.words.actions.Given as goal
 
 abbrev pub invariant-loop-item : goal.invariant-loop-item
 invariant-loop-item l =
-    let ds = map view l.items.items in
-    actions_from l.mask (drop l.item-index ds) ≡ actions_from 0 ds
+    actions_from l.mask (map view (drop l.item-index l.items)) ≡ actions_from 0 (map view l.items)

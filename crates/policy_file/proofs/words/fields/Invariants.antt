@@ -5,5 +5,4 @@ use Rattle.policy_file.proofs.words.fields.Given as goal
 
 abbrev pub invariant-loop-item : goal.invariant-loop-item
 invariant-loop-item l =
-    let ds = map view l.items.items in
-    fields_from l.nameable (drop l.item-index ds) ≡ fields_from nothing ds
+    fields_from l.nameable (map view (drop l.item-index l.items)) ≡ fields_from nothing (map view l.items)
