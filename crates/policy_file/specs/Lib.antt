@@ -1,0 +1,15 @@
+pub mod Documents
+pub mod Values
+pub mod Words
+pub mod Regions
+pub mod Keys
+pub mod Shown
+pub mod Sections
+pub mod Outcomes
+pub mod Listed
+pub mod Heads
+pub mod Plans
+pub mod Members
+pub mod Exprs
+pub mod Widths
+pub mod Reading
