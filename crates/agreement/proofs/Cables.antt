@@ -9,14 +9,14 @@ use Rattle.switch_meaning.specs.Fixed.{ends_at}
 use Rattle.switch_meaning.specs.Wirings.{other_end, same_spot}
 use Rattle.switch_meaning.specs.declared.wiring.Cable.{Cable}
 use Rattle.switch_meaning.specs.declared.wiring.Outside.{Outside}
-use Rattle.switch_meaning.specs.declared.wiring.Spot.{Spot}
+use Rattle.switch_meaning.specs.declared.wiring.SwitchPort.{SwitchPort}
 use Rattle.agreement.specs.Premises.{cable_ends}
 use Rattle.agreement.proofs.Alone.{Alone, here, there}
 
-pub spot-is : (a b : Spot) → same_spot a b ≡ true → a ≡ b
+pub spot-is : (a b : SwitchPort) → same_spot a b ≡ true → a ≡ b
 spot-is a b e = let t = split_and (a.switch == b.switch) (a.port == b.port) e in λ i. record { switch = (eqb-true a.switch b.switch t.0) i; port = (eqb-true a.port b.port t.1) i }
 
-pub spot-self : (a : Spot) → same_spot a a ≡ true
+pub spot-self : (a : SwitchPort) → same_spot a a ≡ true
 spot-self a = rw (eq-eqb a.switch a.switch refl, eq-eqb a.port a.port refl) refl
 
 -- items that are told apart by a test
@@ -60,43 +60,43 @@ two-kept false true x y xs = refl
 two-kept false false x y xs = refl
 
 -- the ends of cables at a switch are those of all ends that lie there
-pub ends-as : (switch : ℕ) (cs : List Cable) → ends_at switch cs ≡ filter (λ (s : Spot). s.switch == switch) (cable_ends cs)
+pub ends-as : (switch : ℕ) (cs : List Cable) → ends_at switch cs ≡ filter (λ (s : SwitchPort). s.switch == switch) (cable_ends cs)
 ends-as switch [] = refl
 ends-as switch (c ∷ cs) =
     two-kept (c.one.switch == switch) (c.other.switch == switch) c.one c.other (ends_at switch cs)
-    ∙ ap (λ (xs : List Spot). if c.one.switch == switch then c.one ∷ (if c.other.switch == switch then c.other ∷ xs else xs) else (if c.other.switch == switch then c.other ∷ xs else xs)) (ends-as switch cs)
+    ∙ ap (λ (xs : List SwitchPort). if c.one.switch == switch then c.one ∷ (if c.other.switch == switch then c.other ∷ xs else xs) else (if c.other.switch == switch then c.other ∷ xs else xs)) (ends-as switch cs)
 
 -- an end of a cable
-abbrev pub is_end : List Cable → Spot → Bool
-is_end cs s = list_any (λ (q : Spot). same_spot q s) (cable_ends cs)
+abbrev pub is_end : List Cable → SwitchPort → Bool
+is_end cs s = list_any (λ (q : SwitchPort). same_spot q s) (cable_ends cs)
 
 -- each of them is one
-pub all-self : (xs : List Spot) → AllByRecursion (λ s. list_any (λ (q : Spot). same_spot q s) xs ≡ true) xs
+pub all-self : (xs : List SwitchPort) → AllByRecursion (λ s. list_any (λ (q : SwitchPort). same_spot q s) xs ≡ true) xs
 all-self [] = tt
 all-self (x ∷ xs) =
-    (rw (spot-self x) refl, all-map (λ s. list_any (λ (q : Spot). same_spot q s) xs ≡ true) (λ s. list_any (λ (q : Spot). same_spot q s) (x ∷ xs) ≡ true) xs (λ s e. or_right (same_spot x s) _ e) (all-self xs))
+    (rw (spot-self x) refl, all-map (λ s. list_any (λ (q : SwitchPort). same_spot q s) xs ≡ true) (λ s. list_any (λ (q : SwitchPort). same_spot q s) (x ∷ xs) ≡ true) xs (λ s e. or_right (same_spot x s) _ e) (all-self xs))
 
-by_ends : (b c : Bool) (one other : Spot) (o : Option Spot) (any : Bool) → (o ≡ None → any ≡ false) → (if b then Some other else (if c then Some one else o)) ≡ None → (b || (c || any)) ≡ false
+by_ends : (b c : Bool) (one other : SwitchPort) (o : Option SwitchPort) (any : Bool) → (o ≡ None → any ≡ false) → (if b then Some other else (if c then Some one else o)) ≡ None → (b || (c || any)) ≡ false
 by_ends true c one other o any f e = cc
 by_ends false true one other o any f e = cc
 by_ends false false one other o any f e = f e
 
 -- a port without a far end is no end
-pub no-end : (cs : List Cable) (s : Spot) → other_end cs s ≡ None → is_end cs s ≡ false
+pub no-end : (cs : List Cable) (s : SwitchPort) → other_end cs s ≡ None → is_end cs s ≡ false
 no-end [] s e = refl
 no-end (c ∷ cs) s e = by_ends (same_spot c.one s) (same_spot c.other s) c.one c.other (other_end cs s) (is_end cs s) (no-end cs s) e
 
 or_left : (a b : Bool) → a ≡ true → (a || b) ≡ true
 or_left a b e = rw e refl
 
-peer-by : (b c : Bool) (one other p : Spot) (o : Option Spot) (any : Bool) → (o ≡ Some p → any ≡ true) → (if b then Some other else (if c then Some one else o)) ≡ Some p → (same_spot one p || (same_spot other p || any)) ≡ true
+peer-by : (b c : Bool) (one other p : SwitchPort) (o : Option SwitchPort) (any : Bool) → (o ≡ Some p → any ≡ true) → (if b then Some other else (if c then Some one else o)) ≡ Some p → (same_spot one p || (same_spot other p || any)) ≡ true
 peer-by true c one other p o any f e =
-    or_right (same_spot one p) _ (or_left (same_spot other p) any (subst (λ (z : Spot). same_spot other z ≡ true) (some_injective e) (spot-self other)))
-peer-by false true one other p o any f e = or_left (same_spot one p) _ (subst (λ (z : Spot). same_spot one z ≡ true) (some_injective e) (spot-self one))
+    or_right (same_spot one p) _ (or_left (same_spot other p) any (subst (λ (z : SwitchPort). same_spot other z ≡ true) (some_injective e) (spot-self other)))
+peer-by false true one other p o any f e = or_left (same_spot one p) _ (subst (λ (z : SwitchPort). same_spot one z ≡ true) (some_injective e) (spot-self one))
 peer-by false false one other p o any f e = or_right (same_spot one p) _ (or_right (same_spot other p) any (f e))
 
 -- the far end of a cable is an end
-pub peer-end : (cs : List Cable) (s p : Spot) → other_end cs s ≡ Some p → is_end cs p ≡ true
+pub peer-end : (cs : List Cable) (s p : SwitchPort) → other_end cs s ≡ Some p → is_end cs p ≡ true
 peer-end [] s p e = cc
 peer-end (c ∷ cs) s p e = peer-by (same_spot c.one s) (same_spot c.other s) c.one c.other p (other_end cs s) (is_end cs p) (peer-end cs s p) e
 

@@ -8,7 +8,7 @@ use Rattle.switch_meaning.specs.Fixed.{drop_entry, drops, ends_at, fixed_entries
 use Rattle.switch_meaning.specs.Wirings.{outside_at, same_spot}
 use Rattle.switch_meaning.specs.declared.entry.PhysEntry.{PhysEntry}
 use Rattle.switch_meaning.specs.declared.wiring.Outside.{Outside}
-use Rattle.switch_meaning.specs.declared.wiring.Spot.{Spot}
+use Rattle.switch_meaning.specs.declared.wiring.SwitchPort.{SwitchPort}
 use Rattle.switch_meaning.specs.declared.wiring.Wiring.{Wiring}
 use Rattle.agreement.specs.declared.state.Setting.{Setting}
 use Rattle.agreement.specs.Entries.{dropping, is_whole, ports_at}
@@ -52,16 +52,16 @@ not-dropped w v p o e =
     find-any (λ (o : Outside). (o.v == v) && (o.port == p)) (is_spot o.at.switch o.at.port) w.outside o e (rw (eq-eqb o.at.switch o.at.switch refl, eq-eqb o.at.port o.at.port refl) refl)
 
 -- an end of a cable at a switch
-abbrev pub IsEndHere : Setting → ℕ → Spot → Type 0
+abbrev pub IsEndHere : Setting → ℕ → SwitchPort → Type 0
 IsEndHere s switch p = (is_end s.wiring.cables p ≡ true) × (p.switch ≡ switch)
 
 pub all-ends-here : (s : Setting) (switch : ℕ) → AllByRecursion (IsEndHere s switch) (ends_at switch s.wiring.cables)
 all-ends-here s switch =
-    subst (λ (xs : List Spot). AllByRecursion (IsEndHere s switch) xs) (sym (ends-as switch s.wiring.cables))
-    (all-map (λ (p : Spot). (is_end s.wiring.cables p ≡ true) × ((p.switch == switch) ≡ true)) (IsEndHere s switch) (filter (λ (p : Spot). p.switch == switch) (cable_ends s.wiring.cables)) (λ p g. (g.0, eqb-true p.switch switch g.1))
-    (all-zip (λ (p : Spot). is_end s.wiring.cables p ≡ true) (λ (p : Spot). (p.switch == switch) ≡ true) (filter (λ (p : Spot). p.switch == switch) (cable_ends s.wiring.cables))
-    (all-filter (λ (p : Spot). is_end s.wiring.cables p ≡ true) (λ (p : Spot). p.switch == switch) (cable_ends s.wiring.cables) (all-self (cable_ends s.wiring.cables)))
-    (all-passing (λ (p : Spot). p.switch == switch) (cable_ends s.wiring.cables))))
+    subst (λ (xs : List SwitchPort). AllByRecursion (IsEndHere s switch) xs) (sym (ends-as switch s.wiring.cables))
+    (all-map (λ (p : SwitchPort). (is_end s.wiring.cables p ≡ true) × ((p.switch == switch) ≡ true)) (IsEndHere s switch) (filter (λ (p : SwitchPort). p.switch == switch) (cable_ends s.wiring.cables)) (λ p g. (g.0, eqb-true p.switch switch g.1))
+    (all-zip (λ (p : SwitchPort). is_end s.wiring.cables p ≡ true) (λ (p : SwitchPort). (p.switch == switch) ≡ true) (filter (λ (p : SwitchPort). p.switch == switch) (cable_ends s.wiring.cables))
+    (all-filter (λ (p : SwitchPort). is_end s.wiring.cables p ≡ true) (λ (p : SwitchPort). p.switch == switch) (cable_ends s.wiring.cables) (all-self (cable_ends s.wiring.cables)))
+    (all-passing (λ (p : SwitchPort). p.switch == switch) (cable_ends s.wiring.cables))))
 
 module _ (s : Setting) (good : IsSoundSetting s) (P : PhysEntry → Type 0) (switch : ℕ) where
   -- a guard is one of an outside port
@@ -74,15 +74,15 @@ module _ (s : Setting) (good : IsSoundSetting s) (P : PhysEntry → Type 0) (swi
 
   -- a transit entry is one of an outside port with a tag, at an end of a cable
   abbrev pub ToPort : Outside → Type 0
-  ToPort o = (t : ℕ) (p : Spot) → o.tag ≡ Some t → IsEndHere s switch p → P (transit s.wiring p o t)
+  ToPort o = (t : ℕ) (p : SwitchPort) → o.tag ≡ Some t → IsEndHere s switch p → P (transit s.wiring p o t)
 
   by_tag : (o : Outside) (f : ToPort o) (t : Option ℕ) → o.tag ≡ t
-      → AllByRecursion P (flat_map (λ (tag : ℕ). map (λ (p : Spot). transit s.wiring p o tag) (filter (λ (p : Spot). passes s.wiring p o) (ends_at switch s.wiring.cables))) (option_to_list t))
+      → AllByRecursion P (flat_map (λ (tag : ℕ). map (λ (p : SwitchPort). transit s.wiring p o tag) (filter (λ (p : SwitchPort). passes s.wiring p o) (ends_at switch s.wiring.cables))) (option_to_list t))
   by_tag o f None e = tt
   by_tag o f (Some t) e =
-      all-append P (map (λ (p : Spot). transit s.wiring p o t) (filter (λ (p : Spot). passes s.wiring p o) (ends_at switch s.wiring.cables))) []
-      (all-mapped (IsEndHere s switch) P (λ (p : Spot). transit s.wiring p o t) (filter (λ (p : Spot). passes s.wiring p o) (ends_at switch s.wiring.cables)) (λ p h. f t p e h)
-      (all-filter (IsEndHere s switch) (λ (p : Spot). passes s.wiring p o) (ends_at switch s.wiring.cables) (all-ends-here s switch))) tt
+      all-append P (map (λ (p : SwitchPort). transit s.wiring p o t) (filter (λ (p : SwitchPort). passes s.wiring p o) (ends_at switch s.wiring.cables))) []
+      (all-mapped (IsEndHere s switch) P (λ (p : SwitchPort). transit s.wiring p o t) (filter (λ (p : SwitchPort). passes s.wiring p o) (ends_at switch s.wiring.cables)) (λ p h. f t p e h)
+      (all-filter (IsEndHere s switch) (λ (p : SwitchPort). passes s.wiring p o) (ends_at switch s.wiring.cables) (all-ends-here s switch))) tt
 
   pub transits-to : (o : Outside) → ToPort o → AllByRecursion P (transits_to s.wiring switch o)
   transits-to o f = by_tag o f o.tag refl

@@ -22,7 +22,7 @@ use Rattle.switch_meaning.specs.declared.fired.Fired.{Fired}
 use Rattle.switch_meaning.specs.declared.fired.Seen.{Seen}
 use Rattle.switch_meaning.specs.declared.fired.Sent.{Sent}
 use Rattle.switch_meaning.specs.declared.wiring.Outside.{Outside}
-use Rattle.switch_meaning.specs.declared.wiring.Spot.{Spot}
+use Rattle.switch_meaning.specs.declared.wiring.SwitchPort.{SwitchPort}
 use Rattle.switch_meaning.proofs.Going.{fire-actions_of, goes}
 use Rattle.switch_meaning.proofs.Placed.{firing-gives-outs}
 use Rattle.agreement.specs.declared.state.Setting.{Setting}
@@ -41,7 +41,7 @@ use Rattle.agreement.proofs.Used.{all-speak, untagged-is, used}
 abbrev copied : ℕ → HeaderOf → Copied
 copied switch k = record { switch = switch; header = k }
 
-copies-are : (at : Spot) (h : HeaderOf) (b : Bool) → map (copied at.switch) (if b then comes_by at.port h ∷ [] else []) ≡ (if b then copied at.switch (comes_by at.port h) ∷ [] else [])
+copies-are : (at : SwitchPort) (h : HeaderOf) (b : Bool) → map (copied at.switch) (if b then comes_by at.port h ∷ [] else []) ≡ (if b then copied at.switch (comes_by at.port h) ∷ [] else [])
 copies-are at h true = refl
 copies-are at h false = refl
 

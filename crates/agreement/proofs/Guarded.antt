@@ -15,7 +15,7 @@ use Rattle.switch_meaning.specs.Fixed.{drops, ends_at, guard, guards, is_guarded
 use Rattle.switch_meaning.specs.Wirings.{far_end, outside_at, same_spot}
 use Rattle.switch_meaning.specs.declared.entry.PhysEntry.{PhysEntry}
 use Rattle.switch_meaning.specs.declared.wiring.Outside.{Outside}
-use Rattle.switch_meaning.specs.declared.wiring.Spot.{Spot}
+use Rattle.switch_meaning.specs.declared.wiring.SwitchPort.{SwitchPort}
 use Rattle.agreement.specs.declared.state.Setting.{Setting}
 use Rattle.agreement.specs.Entries.{dropping, entries_of, is_whole, ports_at, stands_on}
 use Rattle.agreement.specs.Premises.{IsSoundSetting, cable_ends}
@@ -89,16 +89,16 @@ module _ (s : Setting) (good : IsSoundSetting s) where
         (quiet holds_it (guard o) (dropping s o.at.switch) (drops-silent s good v x e h o at)))
 
   -- a packet that is carried to a port: it comes by an end of a cable, with the tag of the port
-  module _ (v p t : ℕ) (goal : Outside) (at : outside_at s.wiring v p ≡ Some goal) (tag : goal.tag ≡ Some t) (spot : Spot) (is : is_end s.wiring.cables spot ≡ true) (passing : passes s.wiring spot goal ≡ true)
+  module _ (v p t : ℕ) (goal : Outside) (at : outside_at s.wiring v p ≡ Some goal) (tag : goal.tag ≡ Some t) (spot : SwitchPort) (is : is_end s.wiring.cables spot ≡ true) (passing : passes s.wiring spot goal ≡ true)
       (hd : HeaderOf) (comes : hd.in_port ≡ spot.port) (carries : hd.dl_vlan ≡ t) where
     abbrev carries_it : PhysEntry → Bool
     carries_it d = holds d.m hd
 
     -- a spot without a far end is another
-    not-here : (q : Spot) → far_end s.wiring q ≡ None → q.switch ≡ spot.switch → q.port ≡ spot.port → ⊥
+    not-here : (q : SwitchPort) → far_end s.wiring q ≡ None → q.switch ≡ spot.switch → q.port ≡ spot.port → ⊥
     not-here q none a b =
         let same : q ≡ spot = λ i. record { switch = a i; port = b i } in
-        let f : is_end s.wiring.cables spot ≡ false = ap (λ (z : Spot). is_end s.wiring.cables z) (sym same) ∙ no-end s.wiring.cables q none in cc
+        let f : is_end s.wiring.cables spot ≡ false = ap (λ (z : SwitchPort). is_end s.wiring.cables z) (sym same) ∙ no-end s.wiring.cables q none in cc
 
     ends-open : (u q : ℕ) (b : Outside) → outside_at s.wiring u q ≡ Some b → far_end s.wiring b.at ≡ None
     ends-open u q b f = let g : IfSome (Some b) (λ o. far_end s.wiring o.at ≡ None) = rw f at (good.placing.open_ends u q) in g
@@ -116,38 +116,38 @@ module _ (s : Setting) (good : IsSoundSetting s) where
         all-guards s good (λ d. carries_it d ≡ false) spot.switch (λ o f same.
         ap (λ (b : Bool). b && rest (guard o).m hd) (fits-other (Some o.at.port) o.at.port hd.in_port refl (λ e. not-here o.at (ends-open o.v o.port o f) same (sym e ∙ comes))))
 
-    other-transit : (o : Outside) (u : ℕ) (q : Spot) → is_port o goal ≡ false → outside_at s.wiring o.v o.port ≡ Some o → o.tag ≡ Some u → carries_it (transit s.wiring q o u) ≡ false
+    other-transit : (o : Outside) (u : ℕ) (q : SwitchPort) → is_port o goal ≡ false → outside_at s.wiring o.v o.port ≡ Some o → o.tag ≡ Some u → carries_it (transit s.wiring q o u) ≡ false
     other-transit o u q n f g =
         let vlan : fits (Some u) hd.dl_vlan ≡ false = fits-other (Some u) u hd.dl_vlan refl (λ e.
         let m = good.placing.own_tags v p o.v o.port t goal o at f tag (g ∙ ap Some (sym e ∙ carries)) in one-port v p goal o at (sym m.0, sym m.1) n) in
         rw vlan (and_false (fits (Some q.port) hd.in_port) false refl)
 
-    other-end : (q : Spot) → (same_spot q spot ≡ false) × IsEndHere s spot.switch q → carries_it (transit s.wiring q goal t) ≡ false
+    other-end : (q : SwitchPort) → (same_spot q spot ≡ false) × IsEndHere s spot.switch q → carries_it (transit s.wiring q goal t) ≡ false
     other-end q g =
         let port : fits (Some q.port) hd.in_port ≡ false = fits-other (Some q.port) q.port hd.in_port refl (λ e.
         let u : same_spot q spot ≡ true = rw (eq-eqb q.switch spot.switch g.1.1, eq-eqb q.port spot.port (sym e ∙ comes)) refl in cc) in
         ap (λ (b : Bool). b && rest (transit s.wiring q goal t).m hd) port
 
-    abbrev made : Spot → PhysEntry
+    abbrev made : SwitchPort → PhysEntry
     made q = transit s.wiring q goal t
 
     own-passes : carries_it (made spot) ≡ true
     own-passes = rw (comes, carries, eq-eqb spot.port spot.port refl, eq-eqb t t refl) refl
 
-    best-end : IsBest carries_it by (map made (filter (λ (q : Spot). passes s.wiring q goal) (ends_at spot.switch s.wiring.cables))) (made spot)
+    best-end : IsBest carries_it by (map made (filter (λ (q : SwitchPort). passes s.wiring q goal) (ends_at spot.switch s.wiring.cables))) (made spot)
     best-end =
         best-alone carries_it by own-passes
         (alone-map (λ q. (same_spot q spot ≡ false) × IsEndHere s spot.switch q) (λ d. carries_it d ≡ false) made other-end
-        (alone-filter (λ q. (same_spot q spot ≡ false) × IsEndHere s spot.switch q) (λ (q : Spot). passes s.wiring q goal) passing
+        (alone-filter (λ q. (same_spot q spot ≡ false) × IsEndHere s spot.switch q) (λ (q : SwitchPort). passes s.wiring q goal) passing
         (alone-zip (λ q. same_spot q spot ≡ false) (IsEndHere s spot.switch)
-        (subst (λ (xs : List Spot). Alone (λ q. same_spot q spot ≡ false) xs spot) (sym (ends-as spot.switch s.wiring.cables))
-        (alone-filter (λ q. same_spot q spot ≡ false) (λ (q : Spot). q.switch == spot.switch) (eq-eqb spot.switch spot.switch refl)
+        (subst (λ (xs : List SwitchPort). Alone (λ q. same_spot q spot ≡ false) xs spot) (sym (ends-as spot.switch s.wiring.cables))
+        (alone-filter (λ q. same_spot q spot ≡ false) (λ (q : SwitchPort). q.switch == spot.switch) (eq-eqb spot.switch spot.switch refl)
         (alone-by same_spot spot-is (cable_ends s.wiring.cables) spot good.placing.one_cable is)))
         (all-ends-here s spot.switch))))
 
     best-goal : IsBest carries_it by (transits_to s.wiring spot.switch goal) (made spot)
     best-goal =
-        subst (λ (o : Option ℕ). IsBest carries_it by (flat_map (λ (tag : ℕ). map (λ (q : Spot). transit s.wiring q goal tag) (filter (λ (q : Spot). passes s.wiring q goal) (ends_at spot.switch s.wiring.cables))) (option_to_list o)) (made spot)) (sym tag)
+        subst (λ (o : Option ℕ). IsBest carries_it by (flat_map (λ (tag : ℕ). map (λ (q : SwitchPort). transit s.wiring q goal tag) (filter (λ (q : SwitchPort). passes s.wiring q goal) (ends_at spot.switch s.wiring.cables))) (option_to_list o)) (made spot)) (sym tag)
         (best-above carries_it by [] best-end tt)
 
     best-transits : IsBest carries_it by (transits s.wiring spot.switch) (made spot)

@@ -33,7 +33,7 @@ use Rattle.switch_meaning.specs.declared.entry.PhysEntry.{PhysEntry}
 use Rattle.switch_meaning.specs.declared.entry.Site.{Site}
 use Rattle.switch_meaning.specs.declared.placing.Way.{Way}
 use Rattle.switch_meaning.specs.declared.wiring.Outside.{Outside}
-use Rattle.switch_meaning.specs.declared.wiring.Spot.{Spot}
+use Rattle.switch_meaning.specs.declared.wiring.SwitchPort.{SwitchPort}
 use Rattle.switch_meaning.specs.declared.wiring.Wiring.{Wiring}
 use Rattle.switch_meaning.proofs.Items.{all-filter}
 use Rattle.agreement.specs.declared.state.Setting.{Setting}
@@ -183,7 +183,7 @@ module _ (n m : ℕ) where
     carried false p None = omega (arith, size-none)
     carried false p (Some q) = omega (arith, size-cons (Output q 0) [], size-none)
 
-    transit-short : (w : Wiring) (at : Spot) (goal : Outside) (tag : ℕ) → Short (transit w at goal tag)
+    transit-short : (w : Wiring) (at : SwitchPort) (goal : Outside) (tag : ℕ) → Short (transit w at goal tag)
     unfolding size
     transit-short w at goal tag =
         let a : size (transit_actions w at.switch goal) ≤ 16 = carried (goal.at.switch == at.switch) goal.at.port (next_hop w at.switch goal.at.switch) in
@@ -195,7 +195,7 @@ module _ (n m : ℕ) where
         (all-mapped (λ (o : Outside). Unit {0}) Short guard (filter (is_guarded switch) w.outside) (λ o _. omega arith) (all-each (λ (o : Outside). Unit {0}) (filter (is_guarded switch) w.outside) (λ o. tt)))
         (all-flat_map (λ (o : Outside). Unit {0}) Short (transits_to w switch) w.outside
         (λ o _. all-flat_map (λ (t : ℕ). Unit {0}) Short _ (option_to_list o.tag)
-        (λ t _. all-mapped (λ (s : Spot). Unit {0}) Short (λ (s : Spot). transit w s o t) _ (λ s _. transit-short w s o t) (all-each (λ (s : Spot). Unit {0}) _ (λ s. tt))) (all-each (λ (t : ℕ). Unit {0}) (option_to_list o.tag) (λ t. tt)))
+        (λ t _. all-mapped (λ (s : SwitchPort). Unit {0}) Short (λ (s : SwitchPort). transit w s o t) _ (λ s _. transit-short w s o t) (all-each (λ (s : SwitchPort). Unit {0}) _ (λ s. tt))) (all-each (λ (t : ℕ). Unit {0}) (option_to_list o.tag) (λ t. tt)))
         (all-each (λ (o : Outside). Unit {0}) w.outside (λ o. tt)))
 
     drops-short : (w : Wiring) (switch : ℕ) (ports : List ℕ) (b : Bool) → AllByRecursion Short (if b then drops w switch ports else [])

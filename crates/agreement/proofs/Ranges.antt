@@ -29,7 +29,7 @@ use Rattle.switch_meaning.specs.declared.entry.PhysEntry.{PhysEntry}
 use Rattle.switch_meaning.specs.declared.entry.Site.{Site}
 use Rattle.switch_meaning.specs.declared.placing.Way.{Way}
 use Rattle.switch_meaning.specs.declared.wiring.Outside.{Outside}
-use Rattle.switch_meaning.specs.declared.wiring.Spot.{Spot}
+use Rattle.switch_meaning.specs.declared.wiring.SwitchPort.{SwitchPort}
 use Rattle.switch_meaning.specs.declared.wiring.Wiring.{Wiring}
 use Rattle.switch_meaning.proofs.Items.{all-filter}
 use Rattle.agreement.specs.declared.state.Setting.{Setting}
@@ -170,7 +170,7 @@ module _ (w : Wiring) (tags : AreTagsInRange w) where
   carried-good true p o = (tt, (tt, tt))
   carried-good false p o = on-good o
 
-  transit-good : (at : Spot) (goal : Outside) (tag : ℕ) → EntryGood (transit w at goal tag)
+  transit-good : (at : SwitchPort) (goal : Outside) (tag : ℕ) → EntryGood (transit w at goal tag)
   transit-good at goal tag = carried-good (goal.at.switch == at.switch) goal.at.port (next_hop w at.switch goal.at.switch)
 
   fixed-good : (switch : ℕ) → AllByRecursion EntryGood (fixed_entries w switch)
@@ -179,7 +179,7 @@ module _ (w : Wiring) (tags : AreTagsInRange w) where
       (all-mapped (λ (o : Outside). Unit {0}) EntryGood guard (filter (is_guarded switch) w.outside) (λ o _. tt) (all-each (λ (o : Outside). Unit {0}) (filter (is_guarded switch) w.outside) (λ o. tt)))
       (all-flat_map (λ (o : Outside). Unit {0}) EntryGood (transits_to w switch) w.outside
       (λ o _. all-flat_map (λ (t : ℕ). Unit {0}) EntryGood _ (option_to_list o.tag)
-      (λ t _. all-mapped (λ (s : Spot). Unit {0}) EntryGood (λ (s : Spot). transit w s o t) _ (λ s _. transit-good s o t) (all-each (λ (s : Spot). Unit {0}) _ (λ s. tt))) (all-each (λ (t : ℕ). Unit {0}) (option_to_list o.tag) (λ t. tt)))
+      (λ t _. all-mapped (λ (s : SwitchPort). Unit {0}) EntryGood (λ (s : SwitchPort). transit w s o t) _ (λ s _. transit-good s o t) (all-each (λ (s : SwitchPort). Unit {0}) _ (λ s. tt))) (all-each (λ (t : ℕ). Unit {0}) (option_to_list o.tag) (λ t. tt)))
       (all-each (λ (o : Outside). Unit {0}) w.outside (λ o. tt)))
 
   drops-good : (switch : ℕ) (ports : List ℕ) (b : Bool) → AllByRecursion EntryGood (if b then drops w switch ports else [])

@@ -20,12 +20,12 @@ use Rattle.switch_meaning.specs.Wirings.{far_end, outside_at}
 use Rattle.switch_meaning.specs.declared.fired.Seen.{Seen}
 use Rattle.switch_meaning.specs.declared.fired.Sent.{Sent}
 use Rattle.switch_meaning.specs.declared.wiring.Outside.{Outside}
-use Rattle.switch_meaning.specs.declared.wiring.Spot.{Spot}
+use Rattle.switch_meaning.specs.declared.wiring.SwitchPort.{SwitchPort}
 use Rattle.switch_meaning.specs.declared.wiring.Wiring.{Wiring}
 use Rattle.agreement.specs.Seeing.{Alike, but_in_port, comes_by, copy_at, expected, left_at}
 use Rattle.agreement.specs.Followed.{AreNumbered, IsNumbered}
 
-module _ (w : Wiring) (open_ends : (v p : ℕ) → IfSome (outside_at w v p) (λ o. far_end w o.at ≡ None)) (at : Spot) (h : HeaderOf) (on : List ℕ → ℕ → HeaderOf → Seen) where
+module _ (w : Wiring) (open_ends : (v p : ℕ) → IfSome (outside_at w v p) (λ o. far_end w o.at ≡ None)) (at : SwitchPort) (h : HeaderOf) (on : List ℕ → ℕ → HeaderOf → Seen) where
   -- what the packet gives that some outs send
   abbrev pub gone : List Sent → ℕ → Seen
   gone sent place = all_go w on [] at.switch place sent
@@ -42,7 +42,7 @@ module _ (w : Wiring) (open_ends : (v p : ℕ) → IfSome (outside_at w v p) (λ
   port-shows v p r None e end lies sent outs s place = rw e (s place)
   port-shows v p r (Some o) e end lies sent outs s place =
       let spot : record { switch = at.switch; port = o.at.port } ≡ o.at = λ i. record { switch = (sym lies) i; port = o.at.port } in
-      let far : far_end w (record { switch = at.switch; port = o.at.port }) ≡ None = ap (λ (z : Spot). far_end w z) spot ∙ end in
+      let far : far_end w (record { switch = at.switch; port = o.at.port }) ≡ None = ap (λ (z : SwitchPort). far_end w z) spot ∙ end in
       rw (e, far) (λ i. record { at = spot i; header = comes_by 0 (apply r h) } ∷ (s (suc place)).0 i, (s (suc place)).1)
 
   out-shows : (r : RewriteOf) (d : Dest) → StaysOn w at.switch d → IsNumbered d → (sent : List Sent) (outs : List PortOut) → Shows sent outs → Shows (cons_option (leaves_by w (comes_by at.port h) r d) sent) (cons_option (leaving r d) outs)
@@ -71,7 +71,7 @@ tells-any : (outs : List Out) → tells outs ≡ is_any (filter_map (λ (o : Out
 tells-any [] = refl
 tells-any (o ∷ os) = tells-next o.rewrite o.dest (tells os) (filter_map (λ (o : Out). told_by o.rewrite o.dest) os) (tells-any os)
 
-pub copies-by : (at : Spot) (h : HeaderOf) (told : List Told) (b : Bool) → b ≡ is_any told →
+pub copies-by : (at : SwitchPort) (h : HeaderOf) (told : List Told) (b : Bool) → b ≡ is_any told →
     map (λ k. record { switch = at.switch; header = k }) (if b then comes_by at.port h ∷ [] else []) ≡ copy_at at h told
 copies-by at h [] true e = cc
 copies-by at h [] false e = refl
@@ -82,12 +82,12 @@ any-map : {A B : Type 0} (f : A → B) (xs : List A) → is_any (map f xs) ≡ i
 any-map f [] = refl
 any-map f (x ∷ xs) = refl
 
-pub copies-told : (at : Spot) (h : HeaderOf) (outs : List Out) (walked : Walked) → AreThose outs walked →
+pub copies-told : (at : SwitchPort) (h : HeaderOf) (outs : List Out) (walked : Walked) → AreThose outs walked →
     map (λ k. record { switch = at.switch; header = k }) (if tells outs then comes_by at.port h ∷ [] else []) ≡ copy_at at h walked.told
 copies-told at h outs walked those = copies-by at h walked.told (tells outs) (tells-any outs ∙ (ap is_any those.tellings ∙ any-map without_in_port walked.told))
 
 -- a switch whose packets show those of the walk, and that makes a copy where an out tells, shows what the walk says
-pub fired-shows : (w : Wiring) (open_ends : (v p : ℕ) → IfSome (outside_at w v p) (λ o. far_end w o.at ≡ None)) (at : Spot) (h : HeaderOf) (on : List ℕ → ℕ → HeaderOf → Seen) (sent : List Sent) (outs : List Out) (walked : Walked)
+pub fired-shows : (w : Wiring) (open_ends : (v p : ℕ) → IfSome (outside_at w v p) (λ o. far_end w o.at ≡ None)) (at : SwitchPort) (h : HeaderOf) (on : List ℕ → ℕ → HeaderOf → Seen) (sent : List Sent) (outs : List Out) (walked : Walked)
     → Shows w open_ends at h on sent (filter_map (λ (o : Out). leaving o.rewrite o.dest) outs) → AreThose outs walked
     → Alike (fires_on w on [] at.switch (record { outs = sent; copies = if tells outs then comes_by at.port h ∷ [] else [] })) (expected w at h walked)
 fired-shows w open_ends at h on sent outs walked s those =
@@ -98,7 +98,7 @@ fired-shows w open_ends at h on sent outs walked s those =
     }
 
 -- a switch that sends what the outs of a rule say shows what the walk says
-pub said-shows : (w : Wiring) → ((v p : ℕ) → IfSome (outside_at w v p) (λ o. far_end w o.at ≡ None)) → (at : Spot) (h : HeaderOf) (on : List ℕ → ℕ → HeaderOf → Seen) (outs : List Out) (walked : Walked)
+pub said-shows : (w : Wiring) → ((v p : ℕ) → IfSome (outside_at w v p) (λ o. far_end w o.at ≡ None)) → (at : SwitchPort) (h : HeaderOf) (on : List ℕ → ℕ → HeaderOf → Seen) (outs : List Out) (walked : Walked)
     → AllByRecursion (λ (o : Out). StaysOn w at.switch o.dest) outs → AreNumbered outs → AreThose outs walked → Alike (fires_on w on [] at.switch (said w (comes_by at.port h) outs)) (expected w at h walked)
 said-shows w open_ends at h on outs walked stays n those =
     fired-shows w open_ends at h on (filter_map (λ (o : Out). leaves_by w (comes_by at.port h) o.rewrite o.dest) outs) outs walked (outs-show w open_ends at h on outs stays n) those

@@ -25,7 +25,7 @@ use Rattle.switch_meaning.specs.declared.fired.Seen.{Seen}
 use Rattle.switch_meaning.specs.declared.fired.Sent.{Sent}
 use Rattle.switch_meaning.specs.declared.placing.Way.{Way}
 use Rattle.switch_meaning.specs.declared.wiring.Outside.{Outside}
-use Rattle.switch_meaning.specs.declared.wiring.Spot.{Spot}
+use Rattle.switch_meaning.specs.declared.wiring.SwitchPort.{SwitchPort}
 use Rattle.switch_meaning.proofs.Going.{GoesWell, IsGood, by_way, goes, leaves}
 use Rattle.switch_meaning.proofs.Items.{apart}
 use Rattle.agreement.specs.declared.state.Setting.{Setting}
@@ -104,7 +104,7 @@ module _ (s : Setting) (good : IsSoundSetting s) (v : ℕ) (h : HeaderOf) (o : O
   not-back : (q : ℕ) (b : Outside) (f : Far q b) → f.way.port ≢ o.at.port
   not-back q b f e =
       let spot : record { switch = here; port = f.way.port } ≡ o.at = λ i. record { switch = here; port = e i } in
-      let none : far_end s.wiring (record { switch = here; port = f.way.port }) ≡ None = ap (λ (z : Spot). far_end s.wiring z) spot ∙ open_end in
+      let none : far_end s.wiring (record { switch = here; port = f.way.port }) ≡ None = ap (λ (z : SwitchPort). far_end s.wiring z) spot ∙ open_end in
       let some = f.way.cable in cc
 
   abbrev way_there : Outside → Option Way

@@ -22,7 +22,7 @@ use Rattle.switch_meaning.specs.Wirings.{far_end, outside_at}
 use Rattle.switch_meaning.specs.declared.entry.PhysEntry.{PhysEntry}
 use Rattle.switch_meaning.specs.declared.entry.Site.{Site}
 use Rattle.switch_meaning.specs.declared.wiring.Outside.{Outside}
-use Rattle.switch_meaning.specs.declared.wiring.Spot.{Spot}
+use Rattle.switch_meaning.specs.declared.wiring.SwitchPort.{SwitchPort}
 use Rattle.agreement.specs.declared.state.Setting.{Setting}
 use Rattle.agreement.specs.Entries.{dropping, entries_for, entries_of, flat, lies_on, placed, site_at, stands_on}
 use Rattle.agreement.specs.Premises.{IsSoundSetting, outside_ports}
@@ -152,11 +152,11 @@ module _ (s : Setting) (good : IsSoundSetting s) where
         (λ t l. absurd (ne (sym (((good.virtuals u y f).whole t).alone v l.port h.in_port l.lies.o o l.lies.at at l.lies.here))))
 
     -- no end of a cable is an outside port
-    not-end : (p : Spot) → is_end s.wiring.cables p ≡ true → p.switch ≡ o.at.switch → o.at.port ≢ p.port
+    not-end : (p : SwitchPort) → is_end s.wiring.cables p ≡ true → p.switch ≡ o.at.switch → o.at.port ≢ p.port
     not-end p is here same =
         let ends : IfSome (Some o) (λ o. far_end s.wiring o.at ≡ None) = rw at at (good.placing.open_ends v h.in_port) in
         let spot : o.at ≡ p = λ i. record { switch = (sym here) i; port = same i } in
-        let none : is_end s.wiring.cables p ≡ false = ap (λ (z : Spot). is_end s.wiring.cables z) (sym spot) ∙ no-end s.wiring.cables o.at ends in cc
+        let none : is_end s.wiring.cables p ≡ false = ap (λ (z : SwitchPort). is_end s.wiring.cables z) (sym spot) ∙ no-end s.wiring.cables o.at ends in cc
 
     pub transits-silent : Silent holding by (transits s.wiring o.at.switch)
     transits-silent =

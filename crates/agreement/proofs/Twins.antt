@@ -31,7 +31,7 @@ use Rattle.switch_meaning.specs.Wirings.{outside_at, same_spot}
 use Rattle.switch_meaning.specs.declared.entry.PhysEntry.{PhysEntry}
 use Rattle.switch_meaning.specs.declared.entry.Site.{Site}
 use Rattle.switch_meaning.specs.declared.wiring.Outside.{Outside}
-use Rattle.switch_meaning.specs.declared.wiring.Spot.{Spot}
+use Rattle.switch_meaning.specs.declared.wiring.SwitchPort.{SwitchPort}
 use Rattle.switch_meaning.specs.declared.wiring.Wiring.{Wiring}
 use Rattle.switch_meaning.proofs.Alike.{leaf_decides}
 use Rattle.switch_meaning.proofs.ByKey.{installed-has-one-a-key}
@@ -334,32 +334,32 @@ module _ (s : Setting) (good : IsSoundSetting s) (once : IsNamedOnce s) (switch 
     tag : o.tag ≡ Some t
     names : d.m.dl_vlan ≡ Some t
 
-  here-once : EachPair (λ (a b : Spot). same_spot b a ≡ false) (ends_at switch s.wiring.cables)
+  here-once : EachPair (λ (a b : SwitchPort). same_spot b a ≡ false) (ends_at switch s.wiring.cables)
   here-once =
-      subst (λ (xs : List Spot). EachPair (λ (a b : Spot). same_spot b a ≡ false) xs) (sym (ends-as switch s.wiring.cables))
-      (pairs-filter (λ (a b : Spot). same_spot b a ≡ false) (λ (q : Spot). q.switch == switch) (cable_ends s.wiring.cables) good.placing.one_cable)
+      subst (λ (xs : List SwitchPort). EachPair (λ (a b : SwitchPort). same_spot b a ≡ false) xs) (sym (ends-as switch s.wiring.cables))
+      (pairs-filter (λ (a b : SwitchPort). same_spot b a ≡ false) (λ (q : SwitchPort). q.switch == switch) (cable_ends s.wiring.cables) good.placing.one_cable)
 
   one-goal : (o : Outside) (t : Option ℕ)
-      → EachPair Apart (flat_map (λ (tag : ℕ). map (λ (p : Spot). transit s.wiring p o tag) (filter (λ (p : Spot). passes s.wiring p o) (ends_at switch s.wiring.cables))) (option_to_list t))
+      → EachPair Apart (flat_map (λ (tag : ℕ). map (λ (p : SwitchPort). transit s.wiring p o tag) (filter (λ (p : SwitchPort). passes s.wiring p o) (ends_at switch s.wiring.cables))) (option_to_list t))
   one-goal o None = tt
   one-goal o (Some t) =
-      pairs-append Apart (map (λ (p : Spot). transit s.wiring p o t) (filter (λ (p : Spot). passes s.wiring p o) (ends_at switch s.wiring.cables))) []
-      (pairs-mapped (λ (a b : Spot). same_spot b a ≡ false) Apart (IsEndHere s switch) (λ (p : Spot). transit s.wiring p o t)
+      pairs-append Apart (map (λ (p : SwitchPort). transit s.wiring p o t) (filter (λ (p : SwitchPort). passes s.wiring p o) (ends_at switch s.wiring.cables))) []
+      (pairs-mapped (λ (a b : SwitchPort). same_spot b a ≡ false) Apart (IsEndHere s switch) (λ (p : SwitchPort). transit s.wiring p o t)
       (λ a b f g ne u.
       let port : a.port ≡ b.port = some_injective (ap (λ (z : MatchOf). z.in_port) u.m) in
       let there : same_spot b a ≡ true = rw (eq-eqb b.switch a.switch (g.1 ∙ sym f.1), eq-eqb b.port a.port (sym port)) refl in cc)
-      (filter (λ (p : Spot). passes s.wiring p o) (ends_at switch s.wiring.cables))
-      (all-filter (IsEndHere s switch) (λ (p : Spot). passes s.wiring p o) (ends_at switch s.wiring.cables) (all-ends-here s switch))
-      (pairs-filter (λ (a b : Spot). same_spot b a ≡ false) (λ (p : Spot). passes s.wiring p o) (ends_at switch s.wiring.cables) here-once)) tt
+      (filter (λ (p : SwitchPort). passes s.wiring p o) (ends_at switch s.wiring.cables))
+      (all-filter (IsEndHere s switch) (λ (p : SwitchPort). passes s.wiring p o) (ends_at switch s.wiring.cables) (all-ends-here s switch))
+      (pairs-filter (λ (a b : SwitchPort). same_spot b a ≡ false) (λ (p : SwitchPort). passes s.wiring p o) (ends_at switch s.wiring.cables) here-once)) tt
       (all-each (λ d. AllByRecursion (Apart d) []) _ (λ d. tt))
 
   carried-by : (o : Outside) (t : Option ℕ) → o.tag ≡ t
-      → AllByRecursion (Carries o) (flat_map (λ (tag : ℕ). map (λ (p : Spot). transit s.wiring p o tag) (filter (λ (p : Spot). passes s.wiring p o) (ends_at switch s.wiring.cables))) (option_to_list t))
+      → AllByRecursion (Carries o) (flat_map (λ (tag : ℕ). map (λ (p : SwitchPort). transit s.wiring p o tag) (filter (λ (p : SwitchPort). passes s.wiring p o) (ends_at switch s.wiring.cables))) (option_to_list t))
   carried-by o None e = tt
   carried-by o (Some t) e =
-      all-append (Carries o) (map (λ (p : Spot). transit s.wiring p o t) (filter (λ (p : Spot). passes s.wiring p o) (ends_at switch s.wiring.cables))) []
-      (all-mapped (λ (p : Spot). Unit {0}) (Carries o) (λ (p : Spot). transit s.wiring p o t) (filter (λ (p : Spot). passes s.wiring p o) (ends_at switch s.wiring.cables))
-      (λ p _. record { t = t; tag = e; names = refl }) (all-each (λ (p : Spot). Unit {0}) _ (λ p. tt))) tt
+      all-append (Carries o) (map (λ (p : SwitchPort). transit s.wiring p o t) (filter (λ (p : SwitchPort). passes s.wiring p o) (ends_at switch s.wiring.cables))) []
+      (all-mapped (λ (p : SwitchPort). Unit {0}) (Carries o) (λ (p : SwitchPort). transit s.wiring p o t) (filter (λ (p : SwitchPort). passes s.wiring p o) (ends_at switch s.wiring.cables))
+      (λ p _. record { t = t; tag = e; names = refl }) (all-each (λ (p : SwitchPort). Unit {0}) _ (λ p. tt))) tt
 
   goals-apart : (a b : Outside) (d e : PhysEntry) → is_port b a ≡ false → IsFound s.wiring.outside a → IsFound s.wiring.outside b → Carries a d → Carries b e → Apart d e
   goals-apart a b d e ne f g c k u =

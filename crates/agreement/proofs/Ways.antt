@@ -8,7 +8,7 @@ use Rattle.policy_meaning.proofs.Booleans.{or_right, some_injective, split_and}
 use Rattle.policy_meaning.proofs.Lists.{all-map, all-zip}
 use Rattle.switch_meaning.specs.Wirings.{far_end, next_hop, other_end, same_spot}
 use Rattle.switch_meaning.specs.declared.wiring.Cable.{Cable}
-use Rattle.switch_meaning.specs.declared.wiring.Spot.{Spot}
+use Rattle.switch_meaning.specs.declared.wiring.SwitchPort.{SwitchPort}
 use Rattle.switch_meaning.specs.declared.wiring.Wiring.{Wiring}
 use Rattle.agreement.specs.declared.state.PhysicalSwitch.{PhysicalSwitch}
 use Rattle.agreement.specs.declared.state.Setting.{Setting}
@@ -78,10 +78,10 @@ module _ {A B : Type 0} (on : A → B → Bool) where
 
 -- the other end of a cable leads back
 
-flips : (a b : Spot) → same_spot a b ≡ same_spot b a
+flips : (a b : SwitchPort) → same_spot a b ≡ same_spot b a
 flips a b = both_ways (same_spot a b) (same_spot b a) (λ t. subst (λ z. same_spot z a ≡ true) (spot-is a b t) (spot-self a)) (λ t. subst (λ z. same_spot z b ≡ true) (spot-is b a t) (spot-self b))
 
-apart-any : (x p : Spot) (ends : List Spot) → AllByRecursion (λ b. same_spot b x ≡ false) ends → list_any (λ q. same_spot q p) ends ≡ true → same_spot x p ≡ false
+apart-any : (x p : SwitchPort) (ends : List SwitchPort) → AllByRecursion (λ b. same_spot b x ≡ false) ends → list_any (λ q. same_spot q p) ends ≡ true → same_spot x p ≡ false
 apart-any x p [] a e = cc
 apart-any x p (b ∷ bs) a e = by (same_spot b p) refl e (λ t. apart-any x p bs a.1 t)
   where
@@ -89,7 +89,7 @@ apart-any x p (b ∷ bs) a e = by (same_spot b p) refl e (λ t. apart-any x p bs
     by true t u f = flips x p ∙ subst (λ z. same_spot z x ≡ false) (spot-is b p t) a.0
     by false t u f = f u
 
-back : (cs : List Cable) (s p : Spot) → EachPair (λ (a b : Spot). same_spot b a ≡ false) (cable_ends cs) → other_end cs s ≡ Some p → other_end cs p ≡ Some s
+back : (cs : List Cable) (s p : SwitchPort) → EachPair (λ (a b : SwitchPort). same_spot b a ≡ false) (cable_ends cs) → other_end cs s ≡ Some p → other_end cs p ≡ Some s
 back [] s p once e = cc
 back (c ∷ cs) s p once e = by (same_spot c.one s) (same_spot c.other s) refl refl e (λ f. back cs s p once.1.1 f)
   where
@@ -112,13 +112,13 @@ back (c ∷ cs) s p once e = by (same_spot c.one s) (same_spot c.other s) refl r
 
 -- one step of a way
 pub record Step : Type 0 where
-  pub from : Spot
-  pub peer : Spot
+  pub from : SwitchPort
+  pub peer : SwitchPort
 
 abbrev joins : Step → Cable → Bool
 joins st c = (same_spot c.one st.from && same_spot c.other st.peer) || (same_spot c.other st.from && same_spot c.one st.peer)
 
-joined : (cs : List Cable) (s p : Spot) → other_end cs s ≡ Some p → list_any (joins (record { from = s; peer = p })) cs ≡ true
+joined : (cs : List Cable) (s p : SwitchPort) → other_end cs s ≡ Some p → list_any (joins (record { from = s; peer = p })) cs ≡ true
 joined [] s p e = cc
 joined (c ∷ cs) s p e = by (same_spot c.one s) (same_spot c.other s) refl e (λ f. joined cs s p f)
   where
@@ -154,10 +154,10 @@ module _ (w : Wiring) (to : ℕ) where
   -- where a step starts, no step from nearer starts or ends
   module _ (n : ℕ) (st : Step) (far : IsDistance w to (suc n) st.from.switch) (x : Step) (near : Falls n x) where
     not-start : st.from ≡ x.from → ⊥
-    not-start e = let b = near.below in one-distance (suc n) (suc near.k) st.from.switch far (subst (λ (z : Spot). IsDistance w to (suc near.k) z.switch) (sym e) near.start) (λ same. absurd (omega arith))
+    not-start e = let b = near.below in one-distance (suc n) (suc near.k) st.from.switch far (subst (λ (z : SwitchPort). IsDistance w to (suc near.k) z.switch) (sym e) near.start) (λ same. absurd (omega arith))
 
     not-goal : st.from ≡ x.peer → ⊥
-    not-goal e = let b = near.below in one-distance (suc n) near.k st.from.switch far (subst (λ (z : Spot). IsDistance w to near.k z.switch) (sym e) near.goal) (λ same. absurd (omega arith))
+    not-goal e = let b = near.below in one-distance (suc n) near.k st.from.switch far (subst (λ (z : SwitchPort). IsDistance w to near.k z.switch) (sym e) near.goal) (λ same. absurd (omega arith))
 
     apart-by : (c : Cable) → ((c.one ≡ st.from) × (c.other ≡ st.peer)) ⊎ ((c.other ≡ st.from) × (c.one ≡ st.peer)) → ((c.one ≡ x.from) × (c.other ≡ x.peer)) ⊎ ((c.other ≡ x.from) × (c.one ≡ x.peer)) → ⊥
     apart-by c (inl a) (inl b) = not-start (sym a.0 ∙ b.0)
@@ -197,11 +197,11 @@ module _ (s : Setting) (good : AreSoundCables s) (to : ℕ) (hops : HasShortestH
     by_cable : EachPair (Away joins) steps
     by_switch : EachPair (Away stands) steps
 
-  nearer : (n v : ℕ) (peer : Spot) (port : ℕ) → far_end w (record { switch = v; port = port }) ≡ Some peer → IsDistance w to (suc n) v → HasPath w to n peer.switch → IsDistance w to n peer.switch
+  nearer : (n v : ℕ) (peer : SwitchPort) (port : ℕ) → far_end w (record { switch = v; port = port }) ≡ Some peer → IsDistance w to (suc n) v → HasPath w to n peer.switch → IsDistance w to n peer.switch
   nearer n v peer port cable d path = record { path = path; least = λ m lt p. d.least (suc m) (omega arith) (record { port = port; peer = peer; cable = cable; rest = p }) }
 
   -- the next hop from a peer doesn't lead back
-  onward : (n v : ℕ) (peer : Spot) (port : ℕ) → far_end w (record { switch = v; port = port }) ≡ Some peer → IsDistance w to (suc n) v → IsDistance w to n peer.switch → IfSome (next_hop w peer.switch to) (λ q. q ≢ peer.port)
+  onward : (n v : ℕ) (peer : SwitchPort) (port : ℕ) → far_end w (record { switch = v; port = port }) ≡ Some peer → IsDistance w to (suc n) v → IsDistance w to n peer.switch → IfSome (next_hop w peer.switch to) (λ q. q ≢ peer.port)
   onward zero v peer port cable d e = rw (e.path, hops.stays) tt
   onward (suc n) v peer port cable d e =
       let h = hops.hops n peer.switch e in
@@ -209,7 +209,7 @@ module _ (s : Setting) (good : AreSoundCables s) (to : ℕ) (hops : HasShortestH
       let again : far_end w peer ≡ Some h.peer = subst (λ q. far_end w (record { switch = peer.switch; port = q }) ≡ Some h.peer) same h.cable in
       let home : far_end w peer ≡ Some (record { switch = v; port = port }) = back w.cables (record { switch = v; port = port }) peer good.once cable in
       let is : h.peer ≡ record { switch = v; port = port } = some_injective (sym again ∙ home) in
-      d.least n (omega arith) (subst (λ (z : Spot). HasPath w to n z.switch) is h.path))
+      d.least n (omega arith) (subst (λ (z : SwitchPort). HasPath w to n z.switch) is h.path))
 
   number-apart : (n : ℕ) (st x : Step) → IsDistance w to (suc n) st.from.switch → Falls w to n x → (i : ℕ × PhysicalSwitch) → stands st i ≡ true → stands x i ≡ true → ⊥
   number-apart n st x far near i e f =

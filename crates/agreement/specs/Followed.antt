@@ -20,7 +20,7 @@ use Rattle.switch_meaning.specs.declared.entry.FlowEntry.{FlowEntry}
 use Rattle.switch_meaning.specs.declared.entry.PhysEntry.{PhysEntry}
 use Rattle.switch_meaning.specs.declared.fired.Seen.{Seen}
 use Rattle.switch_meaning.specs.declared.wiring.Outside.{Outside}
-use Rattle.switch_meaning.specs.declared.wiring.Spot.{Spot}
+use Rattle.switch_meaning.specs.declared.wiring.SwitchPort.{SwitchPort}
 use Rattle.switch_meaning.specs.declared.wiring.Wiring.{Wiring}
 use Rattle.agreement.specs.Agree.{AreInstalled}
 use Rattle.agreement.specs.Entries.{site_at}
@@ -50,7 +50,7 @@ pub record IsForPort (w : Wiring) (v : ℕ) (x : VirtualSwitch) (o : Outside) (p
 
 -- what outs say is seen of a packet that comes in at a physical port: each packet where its port lies, in order, and
 -- one copy where somebody is told
-abbrev pub outs_seen : Wiring → Spot → HeaderOf → List Out → Seen
+abbrev pub outs_seen : Wiring → SwitchPort → HeaderOf → List Out → Seen
 outs_seen w at h outs = record {
   outs = filter_map (left_at w h) (filter_map (λ (d : Out). leaving d.rewrite d.dest) outs);
   copies = if tells outs then record { switch = at.switch; header = comes_by at.port h } ∷ [] else [];

@@ -18,7 +18,7 @@ use Rattle.switch_meaning.specs.FiringLaw.{IsSoundWiring}
 use Rattle.switch_meaning.specs.Wirings.{far_end, next_hop, outside_at, same_spot}
 use Rattle.switch_meaning.specs.declared.wiring.Cable.{Cable}
 use Rattle.switch_meaning.specs.declared.wiring.Outside.{Outside}
-use Rattle.switch_meaning.specs.declared.wiring.Spot.{Spot}
+use Rattle.switch_meaning.specs.declared.wiring.SwitchPort.{SwitchPort}
 use Rattle.switch_meaning.specs.declared.wiring.Wiring.{Wiring}
 use Rattle.agreement.specs.declared.state.Setting.{Setting}
 use Rattle.agreement.specs.Fitting.{SizesFit}
@@ -77,13 +77,13 @@ pub record IsSoundVirtual (s : Setting) (v : ℕ) (x : VirtualSwitch) : Type 0 w
   pub whole : x.whole ≡ true → IsAlone s v x
 
 -- the ends of cables
-abbrev pub cable_ends : List Cable → List Spot
+abbrev pub cable_ends : List Cable → List SwitchPort
 cable_ends cables = flat_map (λ (c : Cable). c.one ∷ c.other ∷ []) cables
 
 -- a packet that came in at a port goes on to another switch: by a cable, and not back
 pub record GoesOn (w : Wiring) (to : ℕ) (Then : ℕ → Type 0) (from : ℕ) : Type 0 where
   pub port : ℕ
-  pub peer : Spot
+  pub peer : SwitchPort
   pub hop : next_hop w from to ≡ Some port
   pub number : port < MAX
   pub cable : far_end w (record { switch = from; port = port }) ≡ Some peer
@@ -116,7 +116,7 @@ pub record IsSoundPlacing (s : Setting) : Type 0 where
       (v p u q t : ℕ) (a b : Outside) → outside_at s.wiring v p ≡ Some a → outside_at s.wiring u q ≡ Some b → a.tag ≡ Some t → b.tag ≡ Some t
       → (v ≡ u) × (p ≡ q)
   -- no port has two cables
-  pub one_cable : EachPair (λ (a b : Spot). same_spot b a ≡ false) (cable_ends s.wiring.cables)
+  pub one_cable : EachPair (λ (a b : SwitchPort). same_spot b a ≡ false) (cable_ends s.wiring.cables)
   -- packets get from each outside port of a virtual switch to each other
   pub ways : (v p q : ℕ) (a b : Outside) → outside_at s.wiring v p ≡ Some a → outside_at s.wiring v q ≡ Some b → HasWay s a.at.switch b.at.switch
   -- no cable ends at an outside port

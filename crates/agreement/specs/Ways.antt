@@ -3,7 +3,7 @@ use Rattle.std.specs.Prelude.{◌≡◌, ℕ, zero, suc, ◌<◌, false, Some, N
 use Rattle.of10_actions.specs.Numbers.{MAX}
 use Rattle.policy_meaning.specs.LeafFact.{EachPair}
 use Rattle.switch_meaning.specs.Wirings.{far_end, next_hop, same_spot}
-use Rattle.switch_meaning.specs.declared.wiring.Spot.{Spot}
+use Rattle.switch_meaning.specs.declared.wiring.SwitchPort.{SwitchPort}
 use Rattle.switch_meaning.specs.declared.wiring.Wiring.{Wiring}
 use Rattle.agreement.specs.declared.state.Setting.{Setting}
 use Rattle.agreement.specs.Premises.{HasWay, cable_ends}
@@ -11,7 +11,7 @@ use Rattle.agreement.specs.Premises.{HasWay, cable_ends}
 -- a cable leads from a switch to one that is such
 pub record ByCable (w : Wiring) (Then : ℕ → Type 0) (from : ℕ) : Type 0 where
   pub port : ℕ
-  pub peer : Spot
+  pub peer : SwitchPort
   pub cable : far_end w (record { switch = from; port = port }) ≡ Some peer
   pub rest : Then peer.switch
 
@@ -28,7 +28,7 @@ pub record IsDistance (w : Wiring) (to n from : ℕ) : Type 0 where
 -- the next hop leads by a cable to a switch from which a path of so many cables leads on
 pub record LeadsNearer (w : Wiring) (to n from : ℕ) : Type 0 where
   pub port : ℕ
-  pub peer : Spot
+  pub peer : SwitchPort
   pub hop : next_hop w from to ≡ Some port
   pub number : port < MAX
   pub cable : far_end w (record { switch = from; port = port }) ≡ Some peer
@@ -41,8 +41,8 @@ pub record HasShortestHops (w : Wiring) (to : ℕ) : Type 0 where
 
 -- what is asked of cables: they end at switches of the policy, and no port has two
 pub record AreSoundCables (s : Setting) : Type 0 where
-  pub ends : (a b : Spot) → far_end s.wiring a ≡ Some b → b.switch < length s.switches
-  pub once : EachPair (λ (a b : Spot). same_spot b a ≡ false) (cable_ends s.wiring.cables)
+  pub ends : (a b : SwitchPort) → far_end s.wiring a ≡ Some b → b.switch < length s.switches
+  pub once : EachPair (λ (a b : SwitchPort). same_spot b a ≡ false) (cable_ends s.wiring.cables)
 
 -- by such next hops there is a way from each switch from which a path leads, over no more cables than there are
 abbrev pub ShortestHopsAreWays : Type 0

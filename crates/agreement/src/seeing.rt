@@ -6,7 +6,7 @@ use cv_io::{List, Memory};
 use of10_match::Header;
 use policy_meaning::{PortOut, Told, Walked};
 use std::alloc::Global;
-use switch_meaning::{Copied, Left, Seen, Spot, Wiring};
+use switch_meaning::{Copied, Left, Seen, SwitchPort, Wiring};
 
 /// The header of a packet as it comes in at a port.
 fn comes_by(port: u16, header: &Header) -> Header
@@ -60,7 +60,7 @@ fn all_left(
 /// One copy of the packet as it came, where somebody is told.
 fn copy_at(
     alloc: Global,
-    at: Spot,
+    at: SwitchPort,
     header: &Header,
     told: &List<Told>,
 ) -> Result<List<Copied>, Memory>
@@ -81,7 +81,7 @@ fn copy_at(
 pub fn expected(
     alloc: Global,
     wiring: &Wiring,
-    at: Spot,
+    at: SwitchPort,
     header: &Header,
     walked: &Walked,
 ) -> Result<Seen, Memory>

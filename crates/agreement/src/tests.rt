@@ -6,7 +6,7 @@ use policy_expr::Expr;
 use policy_meaning::{Entering, LeafEntry, LeafTable, Network, Rule, VirtualSwitch, walk};
 use std::alloc::Global;
 use std::test::Fail;
-use switch_meaning::{Copied, FlowEntry, Left, Outside, PhysEntry, Site, Spot, Wiring};
+use switch_meaning::{Copied, FlowEntry, Left, Outside, PhysEntry, Site, SwitchPort, Wiring};
 
 const SERVER: u32 = 0x0200_0001;
 
@@ -17,7 +17,7 @@ fn one_switch(alloc: Global) -> Result<Wiring, Fail> {
         outside.push(Outside {
             v: 0,
             port,
-            at: Spot { switch: 0, port },
+            at: SwitchPort { switch: 0, port },
             tag: None,
         })?;
     }
@@ -115,14 +115,14 @@ fn packets_are_to_be_seen(rt: HostRuntime) -> Result<(), Fail> {
     // To the server a packet leaves by port 1, but not where it came by it; of others a copy is made.
     for (in_port, address, outs, copies) in [(2, SERVER, 1, 0), (1, SERVER, 0, 0), (3, 5, 0, 1)] {
         let header = packet(in_port, address);
-        let at = Spot {
+        let at = SwitchPort {
             switch: 0,
             port: in_port,
         };
         let walked = walk(alloc, &network, 4, 0, &header)?;
         let seen = expected(alloc, &wiring, at, &header, &walked)?;
         let left = Left {
-            at: Spot { switch: 0, port: 1 },
+            at: SwitchPort { switch: 0, port: 1 },
             header,
         };
         let copied = Copied { switch: 0, header };

@@ -112,86 +112,67 @@ const SIX: [(u16, Option<u16>, u16); 6] = [
     (5, Some(4), port::FLOOD),
 ];
 
+/// Adds an entry of a priority and an in_port, which sends to a port.
+fn add(alloc: Global, table: &mut Table, row: (u16, Option<u16>, u16)) -> Result<(), Fail> {
+    let (priority, in_port, output) = row;
+    let m = message(alloc, ADD, priority, from_port(in_port), output, port::NONE)?;
+    Ok(apply(table, &m, 7)?)
+}
+
 fn six(alloc: Global, limit: u32) -> Result<Table, Fail> {
     let mut table = Table::new(alloc, limit);
-    for (priority, in_port, output) in SIX {
-        let m = message(alloc, ADD, priority, from_port(in_port), output, port::NONE)?;
-        apply(&mut table, &m, 7)?;
+    for row in SIX {
+        add(alloc, &mut table, row)?;
     }
     Ok(table)
 }
 
-/// A message to the six entries: the limit of the table, the command, the priority, the in_port and the
+/// A message to the six entries in a table of six: the command, the priority, the in_port and the
 /// out_port.
 #[derive(Clone, Copy)]
-struct Row(u32, u16, u16, Option<u16>, u16);
+struct Row(u16, u16, Option<u16>, u16);
 
-/// What a message makes of the six entries, or why it is refused.
-fn shown_after(alloc: Global, row: Row) -> Result<String, Fail> {
-    let Row(limit, command, priority, in_port, out_port) = row;
-    let mut table = six(alloc, limit)?;
+/// Changes a table by the message of a row, and shows it, or why the message is refused.
+fn changed(alloc: Global, table: &mut Table, row: Row) -> Result<String, Fail> {
+    let Row(command, priority, in_port, out_port) = row;
     let m = message(alloc, command, priority, from_port(in_port), 9, out_port)?;
-    match apply(&mut table, &m, 8) {
-        Ok(()) => shown(alloc, &table),
+    match apply(table, &m, 8) {
+        Ok(()) => shown(alloc, table),
         Err(fault) => Ok(format!(in alloc; "{fault}")?),
     }
 }
 
-const ROWS: [(Row, &str); 16] = [
+/// What a message makes of the six entries.
+fn shown_after(alloc: Global, row: Row) -> Result<String, Fail> {
+    let mut table = six(alloc, 6)?;
+    changed(alloc, &mut table, row)
+}
+
+const ROWS: [(Row, &str); 7] = [
     (
-        Row(7, ADD, 10, Some(2), port::NONE),
+        Row(ADD, 10, Some(2), port::NONE),
         " 1>1 7>9 3>3 4>4 5>1 6>65531",
     ),
     (
-        Row(7, ADD, 10, Some(5), port::NONE),
-        " 1>1 2>2 3>3 4>4 5>1 6>65531 7>9",
-    ),
-    (
-        Row(7, MODIFY, 0, Some(1), port::NONE),
+        Row(MODIFY, 0, Some(1), port::NONE),
         " 1>9 2>2 3>9 4>4 5>1 6>65531",
     ),
     (
-        Row(7, MODIFY, 3, Some(9), port::NONE),
-        " 1>1 2>2 3>3 4>4 5>1 6>65531 7>9",
-    ),
-    (
-        Row(7, MODIFY_STRICT, 20, Some(1), port::NONE),
+        Row(MODIFY_STRICT, 20, Some(1), port::NONE),
         " 1>1 2>2 3>9 4>4 5>1 6>65531",
     ),
-    (Row(7, DELETE, 0, None, port::NONE), ""),
-    (Row(7, DELETE, 0, None, 1), " 2>2 3>3 4>4 6>65531"),
-    (Row(7, DELETE, 0, None, port::FLOOD), " 1>1 2>2 3>3 4>4 5>1"),
+    (Row(DELETE, 0, None, 1), " 2>2 3>3 4>4 6>65531"),
     (
-        Row(7, DELETE_STRICT, 30, None, port::NONE),
+        Row(DELETE_STRICT, 30, None, port::NONE),
         " 1>1 2>2 3>3 5>1 6>65531",
     ),
     (
-        Row(7, DELETE_STRICT, 30, None, 9),
-        " 1>1 2>2 3>3 4>4 5>1 6>65531",
-    ),
-    (
-        Row(7, ADD, 10, None, port::NONE),
+        Row(ADD, 10, None, port::NONE),
         "the entry 1 has the same rank and overlaps",
     ),
     (
-        Row(7, ADD, 5, None, port::NONE),
-        "the entry 5 has the same rank and overlaps",
-    ),
-    (
-        Row(6, MODIFY_STRICT, 10, None, port::NONE),
-        "the entry 1 has the same rank and overlaps",
-    ),
-    (
-        Row(6, ADD, 10, Some(5), port::NONE),
+        Row(ADD, 10, Some(5), port::NONE),
         "the table holds its limit of 6 entries",
-    ),
-    (
-        Row(6, MODIFY, 10, Some(5), port::NONE),
-        "the table holds its limit of 6 entries",
-    ),
-    (
-        Row(6, ADD, 20, Some(1), port::NONE),
-        " 1>1 2>2 7>9 4>4 5>1 6>65531",
     ),
 ];
 
@@ -204,40 +185,33 @@ fn five_commands_over_six_entries(rt: HostRuntime) -> Result<(), Fail> {
     Ok(())
 }
 
-/// Four entries that are added at 100, with their idle and hard timeouts.
-fn timed(alloc: Global) -> Result<Table, Fail> {
-    let mut table = Table::new(alloc, 4);
-    for (priority, idle_timeout, hard_timeout) in [(1, 0, 10), (2, 5, 0), (3, 0, 0), (4, 5, 5)] {
-        let mut m = message(alloc, ADD, priority, from_port(None), 1, port::NONE)?;
-        m.idle_timeout = idle_timeout;
-        m.hard_timeout = hard_timeout;
-        apply(&mut table, &m, 100)?;
-    }
-    Ok(table)
+/// Adds an entry at 100, of a priority, an idle and a hard timeout.
+fn add_timed(alloc: Global, table: &mut Table, row: (u16, u16, u16)) -> Result<(), Fail> {
+    let (priority, idle_timeout, hard_timeout) = row;
+    let mut m = message(alloc, ADD, priority, from_port(None), 1, port::NONE)?;
+    m.idle_timeout = idle_timeout;
+    m.hard_timeout = hard_timeout;
+    Ok(apply(table, &m, 100)?)
 }
 
-/// The numbers that are due, by their hard timeouts and by their idle ones, once the second entry has had
-/// a packet.
+/// The numbers that are due, by their hard timeouts and by their idle ones, once the second of three
+/// entries has had a packet.
 fn due_shown(alloc: Global, touched: u64, now: u64) -> Result<String, Fail> {
-    let mut table = timed(alloc)?;
-    let there = table.touch(2, touched);
-    let due = table.due(now)?;
-    Ok(format!(in alloc;
-        "{there} {:?} {:?}",
-        due.hard.as_slice(),
-        due.idle.as_slice()
-    )?)
+    let mut table = Table::new(alloc, 3);
+    for row in [(1, 0, 10), (2, 5, 0), (4, 5, 5)] {
+        add_timed(alloc, &mut table, row)?;
+    }
+    table.touch(2, touched);
+    let Due { hard, idle } = table.due(now)?;
+    Ok(format!(in alloc; "{:?} {:?}", hard.as_slice(), idle.as_slice())?)
 }
 
 #[test]
 fn timeouts_are_due_at_their_second(rt: HostRuntime) -> Result<(), Fail> {
     for (touched, now, want) in [
-        (100, 104, "true [] []"),
-        (100, 105, "true [4] [2]"),
-        (100, 109, "true [4] [2]"),
-        (100, 110, "true [1, 4] [2]"),
-        (106, 110, "true [1, 4] []"),
-        (106, 111, "true [1, 4] [2]"),
+        (100, 104, "[] []"),
+        (100, 105, "[3] [2]"),
+        (106, 110, "[1, 3] []"),
     ] {
         let got = due_shown(rt.alloc(), touched, now)?;
         assert_eq!(rt; got.as_str(), want);
@@ -263,54 +237,26 @@ fn packet() -> Header {
     }
 }
 
-/// The match of that packet alone, written without a wildcard.
-fn exact() -> [u8; MATCH] {
-    OfpMatch {
-        wildcards: 0,
-        in_port: 1,
-        dl_src: 1,
-        dl_dst: 2,
-        dl_vlan: 65535,
-        dl_vlan_pcp: 0,
-        dl_type: 0x0806,
-        nw_tos: 0,
-        nw_proto: 1,
-        nw_src: 3,
-        nw_dst: 4,
-        tp_src: 0,
-        tp_dst: 0,
-    }
-    .to_bytes()
-}
-
-/// What is found in a table: the best entry of the packet, whether ranks 10 and 65536 are there, and the
-/// priority of the entry of number 5.
+/// What is found in a table: the best entry of the packet, whether rank 30 is there, and the priority
+/// of the entry of number 5.
 fn found(alloc: Global, table: &Table) -> Result<String, Fail> {
     let best = table.best(&packet()).unwrap_or(0);
     let priority = table.get(5).map_or(0, |entry| entry.priority);
-    Ok(format!(in alloc;
-        "{best} {} {} {priority}",
-        table.has_rank(10),
-        table.has_rank(65536)
-    )?)
+    Ok(format!(in alloc; "{best} {} {priority}", table.has_rank(30))?)
 }
 
-/// Adds the exact match to the six entries, and copies the table before and after.
-fn copies(alloc: Global) -> Result<(Table, Table), Fail> {
-    let mut table = six(alloc, 9)?;
-    let before = table.copy()?;
-    let m = message(alloc, ADD, 0, exact(), 1, port::NONE)?;
-    apply(&mut table, &m, 8)?;
-    Ok((before, table.copy()?))
+/// What is found in a copy of the six entries without one of them.
+fn found_without(alloc: Global, serial: u64) -> Result<String, Fail> {
+    let mut copied = six(alloc, 6)?.copy()?;
+    copied.drop_serial(serial);
+    found(alloc, &copied)
 }
 
 #[test]
 fn entries_are_found(rt: HostRuntime) -> Result<(), Fail> {
-    let (mut before, after) = copies(rt.alloc())?;
-    assert_eq!(rt; found(rt.alloc(), &before)?.as_str(), "4 true false 5");
-    assert_eq!(rt; found(rt.alloc(), &after)?.as_str(), "7 true true 5");
-    before.drop_serial(5);
-    before.drop_serial(4);
-    assert_eq!(rt; found(rt.alloc(), &before)?.as_str(), "3 true false 0");
+    for (serial, want) in [(0, "4 true 5"), (4, "3 false 5"), (5, "4 true 0")] {
+        let got = found_without(rt.alloc(), serial)?;
+        assert_eq!(rt; got.as_str(), want);
+    }
     Ok(())
 }

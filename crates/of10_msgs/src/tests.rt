@@ -115,49 +115,44 @@ fn what_a_controller_may_send(rt: HostRuntime) -> Result<(), Fail> {
     Ok(())
 }
 
+/// The ADD whose action has type 12, which there is none of.
+const ADD_OF_TYPE_12: &str =
+    "010e005000000007003020ee000100000000000000000000000000000000080000000000000000000a0000010000000000000000000000000000000000008000ffffffffffff0000000c000800020000";
+
+const REFUSALS: [(&str, Option<FormFault>); 6] = [
+    ("0400000800000000", None),
+    (
+        "0405000800000000",
+        Some(FormFault::BadVersion { version: 4 }),
+    ),
+    ("0116000800000000", Some(FormFault::BadType { kind: 22 })),
+    ("0104000c0000000000002320", Some(FormFault::BadVendor)),
+    (
+        "010d001800000000ffffffffffff00090000000800010000",
+        Some(FormFault::BadLen {
+            kind: 13,
+            length: 24,
+        }),
+    ),
+    (
+        ADD_OF_TYPE_12,
+        Some(FormFault::Action {
+            fault: ActionFault::BadType { at: 0 },
+        }),
+    ),
+];
+
+/// The fault of a message.
+fn fault_of(rt: &(impl Abort + AllocGlobal), digits: &str) -> Result<Option<FormFault>, Fail> {
+    let frame = hex::decode(rt.alloc(), digits)?;
+    Ok(read(rt, &frame).err())
+}
+
 #[test]
 fn refusals(rt: HostRuntime) -> Result<(), Fail> {
-    for (digits, want) in [
-        ("0400000800000000", None),
-        (
-            "0405000800000000",
-            Some(FormFault::BadVersion { version: 4 }),
-        ),
-        (
-            "0016000800000000",
-            Some(FormFault::BadVersion { version: 0 }),
-        ),
-        ("0116000800000000", Some(FormFault::BadType { kind: 22 })),
-        ("01ff000800000000", Some(FormFault::BadType { kind: 255 })),
-        ("0104000c0000000000002320", Some(FormFault::BadVendor)),
-        (
-            "010d001800000000ffffffffffff00090000000800010000",
-            Some(FormFault::BadLen {
-                kind: 13,
-                length: 24,
-            }),
-        ),
-    ] {
-        let frame = hex::decode(rt.alloc(), digits)?;
-        assert_eq!(rt; read(&rt, &frame).err(), want, "at {digits}");
-    }
-    let mut add = hex::decode(rt.alloc(), ADD)?;
-    for (byte, fault) in [
-        (12, ActionFault::BadType { at: 0 }),
-        (1, ActionFault::BadArgument { at: 0 }),
-        (5, ActionFault::BadLen { at: 0 }),
-    ] {
-        if let Some(kind) = add.get_mut(73) {
-            *kind = byte;
-        }
-        if let Some(vid) = add.get_mut(76) {
-            *vid = 0x10;
-        }
-        assert_eq!(rt;
-            read(&rt, &add).err(),
-            Some(FormFault::Action { fault }),
-            "at {byte}"
-        );
+    for (digits, want) in REFUSALS {
+        let fault = fault_of(&rt, digits)?;
+        assert_eq!(rt; fault, want, "at {digits}");
     }
     Ok(())
 }
@@ -188,21 +183,33 @@ const LENGTHS: [(usize, usize); 22] = [
     (16, 1),
 ];
 
+/// Whether a message of zeros of this type is refused for its length.
+fn is_too_short_or_long(
+    rt: &(impl Abort + AllocGlobal),
+    kind: u8,
+    length: u16,
+) -> Result<bool, Fail> {
+    let mut frame = Bytes::from_slice(rt.alloc(), &header(kind, length, 0))?;
+    for _ in 8..length {
+        frame.push(0)?;
+    }
+    let fault = read(rt, frame.as_slice()).err();
+    Ok(fault == Some(FormFault::BadLen { kind, length }))
+}
+
+fn has(least: usize, step: usize, length: u16) -> bool {
+    let long = usize::from(length);
+    let above = long.saturating_sub(least);
+    long >= least && (above == 0 || step > 0 && above % step == 0)
+}
+
 #[test]
 fn lengths(rt: HostRuntime) -> Result<(), Fail> {
     for (number, (least, step)) in LENGTHS.into_iter().enumerate() {
+        let kind = number as u8;
         for length in 8..130u16 {
-            let kind = number as u8;
-            let mut frame = Bytes::from_slice(rt.alloc(), &header(kind, length, 0))?;
-            for _ in 8..length {
-                frame.push(0)?;
-            }
-            let long = usize::from(length);
-            let above = long.saturating_sub(least);
-            let fits = long >= least && (above == 0 || (step > 0 && above % step == 0));
-            let refused = read(&rt, frame.as_slice()).err()
-                == Some(FormFault::BadLen { kind, length });
-            assert_eq!(rt; refused, !fits, "type {kind} at {length}");
+            let refused = is_too_short_or_long(&rt, kind, length)?;
+            assert_eq!(rt; refused, !has(least, step, length), "type {kind}");
         }
     }
     Ok(())

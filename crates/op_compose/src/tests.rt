@@ -116,26 +116,38 @@ fn paired<G: Ledger>(
     })
 }
 
-#[test]
-fn worked_pairs(rt: HostRuntime) -> Result<(), Fail> {
-    let alloc = rt.alloc();
+/// A monitor and a router, side by side.
+fn monitored_or_routed(alloc: Global) -> Result<Option<(Match, u64, usize)>, Memory> {
     let monitor = entry(alloc, monitored(), 4, Tail::Nothing)?;
     let router = entry(alloc, routed(), 4, Tail::Nothing)?;
-    let both = paired::<Brand>(Op::Par, monitor, router, 8, Blank::new(1))?;
-    assert_eq!(rt; both, Some((monitored_and_routed(), 8, 2)));
+    paired::<Brand>(Op::Par, monitor, router, 8, Blank::new(1))
+}
+
+/// A load balancer before an entry of a router.
+fn balanced_first(alloc: Global, right: Match) -> Result<Option<(Match, u64, usize)>, Memory> {
     let balancer = entry(alloc, balanced(), 4, Tail::Pass(to_server()))?;
-    let server = entry(alloc, served(), 4, Tail::Nothing)?;
-    let passed = paired::<Brand>(Op::Seq, balancer, server, 8, Blank::new(1))?;
-    assert_eq!(rt; passed, Some((balanced(), 36, 2)));
-    // What goes to the server isn't in the router's net.
-    let balancer = entry(alloc, balanced(), 4, Tail::Pass(to_server()))?;
-    let router = entry(alloc, routed(), 4, Tail::Nothing)?;
-    let apart = paired::<Brand>(Op::Seq, balancer, router, 8, Blank::new(1))?;
-    assert_eq!(rt; apart, None);
-    // The peer's rule holds what comes by its own port, whichever port the packet came by.
+    let router = entry(alloc, right, 4, Tail::Nothing)?;
+    paired::<Brand>(Op::Seq, balancer, router, 8, Blank::new(1))
+}
+
+/// An entry that sends to link 9, and one of the peer for what comes by its port 9.
+fn over_a_link(alloc: Global) -> Result<Option<(Match, u64, usize)>, Memory> {
     let first = entry(alloc, by_port(1), 4, Tail::Link(Rewrite::new(), 9))?;
     let second = entry(alloc, by_port(9), 288, Tail::Nothing)?;
-    let crossed = paired::<Brand>(Op::Hop, first, second, 512, Blank::new(1))?;
+    paired::<Brand>(Op::Hop, first, second, 512, Blank::new(1))
+}
+
+#[test]
+fn worked_pairs(rt: HostRuntime) -> Result<(), Fail> {
+    let both = monitored_or_routed(rt.alloc())?;
+    assert_eq!(rt; both, Some((monitored_and_routed(), 8, 2)));
+    // What goes to the server isn't in the router's net.
+    for (right, want) in [(served(), Some((balanced(), 36, 2))), (routed(), None)] {
+        let passed = balanced_first(rt.alloc(), right)?;
+        assert_eq!(rt; passed, want);
+    }
+    // The peer's rule holds what comes by its own port, whichever port the packet came by.
+    let crossed = over_a_link(rt.alloc())?;
     assert_eq!(rt; crossed, Some((by_port(1), 2336, 2)));
     Ok(())
 }
@@ -157,20 +169,24 @@ fn lone<G: Ledger>(
     Ok((rule.m, rule.level))
 }
 
+/// A firewall's rule, over or under another's.
+fn overriding(alloc: Global, side: Side) -> Result<(Match, u64), Memory> {
+    let rule = entry(alloc, monitored(), 4, Tail::Nothing)?;
+    lone::<Brand>(Op::Over, side, rule, 8, Blank::new(1))
+}
+
+/// A rule that stays at its node.
+fn ended(alloc: Global) -> Result<(Match, u64), Memory> {
+    let rule = entry(alloc, by_port(1), 1, Tail::Nothing)?;
+    lone::<Brand>(Op::Hop, Side::Left, rule, 512, Blank::new(1))
+}
+
 #[test]
 fn worked_lone_rules(rt: HostRuntime) -> Result<(), Fail> {
-    let alloc = rt.alloc();
-    let rule = entry(alloc, routed(), 1, Tail::Nothing)?;
-    let kept = lone::<Brand>(Op::Seq, Side::Left, rule, 8, Blank::new(1))?;
-    assert_eq!(rt; kept, (routed(), 8));
-    let rule = entry(alloc, monitored(), 4, Tail::Nothing)?;
-    let above = lone::<Brand>(Op::Over, Side::Left, rule, 8, Blank::new(1))?;
-    assert_eq!(rt; above, (monitored(), 12));
-    let rule = entry(alloc, routed(), 4, Tail::Nothing)?;
-    let below = lone::<Brand>(Op::Over, Side::Right, rule, 8, Blank::new(1))?;
-    assert_eq!(rt; below, (routed(), 4));
-    let rule = entry(alloc, by_port(1), 1, Tail::Nothing)?;
-    let ended = lone::<Brand>(Op::Hop, Side::Left, rule, 512, Blank::new(1))?;
-    assert_eq!(rt; ended, (by_port(1), 512));
+    for (side, level) in [(Side::Left, 12), (Side::Right, 4)] {
+        let found = overriding(rt.alloc(), side)?;
+        assert_eq!(rt; found, (monitored(), level));
+    }
+    assert_eq!(rt; ended(rt.alloc())?, (by_port(1), 512));
     Ok(())
 }

@@ -1,5 +1,5 @@
 //! The members of the tests.
-use crate::{LeafEntry, LeafTable};
+use crate::{LeafEntry, LeafTable, Rule};
 use cv_io::List;
 use of10_actions::{Dest, Effects, Out, Rewrite, Tail};
 use of10_match::{Header, Match, Prefix};
@@ -59,7 +59,34 @@ pub(crate) fn packet() -> Header {
     }
 }
 
-/// An entry of priority 100.
+/// The list of two items.
+pub(crate) fn two<T: Drop>(alloc: Global, first: T, second: T) -> Result<List<T>, Fail> {
+    let mut list = List::new(alloc);
+    list.push(first)?;
+    list.push(second)?;
+    Ok(list)
+}
+
+/// The levels of rules.
+pub(crate) fn levels(alloc: Global, rules: &List<Rule>) -> Result<List<u64>, Fail> {
+    let mut levels = List::new(alloc);
+    for rule in rules.as_slice() {
+        levels.push(rule.level)?;
+    }
+    Ok(levels)
+}
+
+/// What sends to a place, unchanged.
+fn outs_to(alloc: Global, dest: Option<Dest>) -> Result<List<Out>, Fail> {
+    let mut outs = List::new(alloc);
+    outs.push_some(dest.map(|dest| Out {
+        rewrite: Rewrite::new(),
+        dest,
+    }))?;
+    Ok(outs)
+}
+
+/// An entry of priority 100 and level 4.
 pub(crate) fn entry(
     alloc: Global,
     serial: u64,
@@ -67,20 +94,22 @@ pub(crate) fn entry(
     dest: Option<Dest>,
     tail: Tail,
 ) -> Result<LeafEntry, Fail> {
-    let mut outs = List::new(alloc);
-    if let Some(dest) = dest {
-        outs.push(Out {
-            rewrite: Rewrite::new(),
-            dest,
-        })?;
-    }
     Ok(LeafEntry {
         serial,
         rank: 100,
         m,
         level: 4,
-        effects: Effects { outs, tail },
+        effects: Effects {
+            outs: outs_to(alloc, dest)?,
+            tail,
+        },
     })
+}
+
+fn one<T: Drop>(alloc: Global, item: T) -> Result<List<T>, Fail> {
+    let mut list = List::new(alloc);
+    list.push(item)?;
+    Ok(list)
 }
 
 /// A table of 8 levels that may act on all headers and sees these ports.
@@ -91,16 +120,12 @@ pub(crate) fn table(
     misses: bool,
     first: LeafEntry,
 ) -> Result<LeafTable, Fail> {
-    let mut region = List::new(alloc);
-    region.push(Match::everything())?;
-    let mut entries = List::new(alloc);
-    entries.push(first)?;
     Ok(LeafTable {
         member,
         size: 8,
-        region,
+        region: one(alloc, Match::everything())?,
         visible: List::from_slice(alloc, visible)?,
         misses,
-        entries,
+        entries: one(alloc, first)?,
     })
 }

@@ -91,7 +91,7 @@ pub fn audit_line(alloc: Global, told: &Audit) -> Result<Text, Memory>
             say(&mut line, " vsw=")?;
             line.push_text(vsw)?;
             say(&mut line, " xid=")?;
-            say_number(alloc, &mut line, *xid)?;
+            say_number(alloc, &mut line, u64::from(*xid))?;
             say(&mut line, " rule=")?;
             line.push_text(rule)?;
             say(&mut line, " ")?;

@@ -18,7 +18,7 @@ pub use line::Line;
 pub use name::{is_member, is_name, is_session};
 pub use number::decimal_number;
 pub use reading::read_line;
-pub use report::report_line;
+pub use report::{report_line, say, say_number};
 
 #[cfg(test)]
 mod tests;

@@ -32,7 +32,7 @@ pub fn say(line: &mut Text, more: &str) -> Result<(), Memory>
 }
 
 /// Appends a number in decimal.
-pub fn say_number(alloc: Global, line: &mut Text, number: u32) -> Result<(), Memory>
+pub fn say_number(alloc: Global, line: &mut Text, number: u64) -> Result<(), Memory>
     ensures { OnOk result (line.new ≡ line.old ++ decimal number) }
 {
     let digits = format!(in alloc; "{number}")?;

@@ -9,7 +9,7 @@ use Rattle.switch_meaning.specs.Wirings.{same_spot, next_hop, far_end}
 use Rattle.switch_meaning.specs.declared.entry.PhysEntry.{PhysEntry}
 use Rattle.switch_meaning.specs.declared.wiring.Cable.{Cable}
 use Rattle.switch_meaning.specs.declared.wiring.Outside.{Outside}
-use Rattle.switch_meaning.specs.declared.wiring.Spot.{Spot}
+use Rattle.switch_meaning.specs.declared.wiring.SwitchPort.{SwitchPort}
 use Rattle.switch_meaning.specs.declared.wiring.Wiring.{Wiring}
 
 -- the tags of ports are numbers of VLANs
@@ -29,18 +29,18 @@ abbrev pub guards : Wiring → ℕ → List PhysEntry
 guards w switch = map guard (filter (is_guarded switch) w.outside)
 
 -- where a packet comes to over the first cable of its way from one switch to another
-abbrev pub step : Wiring → ℕ → ℕ → Option Spot
+abbrev pub step : Wiring → ℕ → ℕ → Option SwitchPort
 step w from to = option_and_then (λ p. far_end w (record { switch = from; port = p })) (next_hop w from to)
 
 -- where a packet comes to on the way from one switch to another, over at most so many cables
-abbrev pub arrivals : Wiring → ℕ → ℕ → ℕ → List Spot
+abbrev pub arrivals : Wiring → ℕ → ℕ → ℕ → List SwitchPort
 arrivals w zero from to = []
 arrivals w (suc n) from to =
     if from == to then []
-    else flat_map (λ (s : Spot). s ∷ arrivals w n s.switch to) (option_to_list (step w from to))
+    else flat_map (λ (s : SwitchPort). s ∷ arrivals w n s.switch to) (option_to_list (step w from to))
 
 -- a packet from some port of a virtual switch comes to this spot on its way to another port of it
-abbrev pub passes : Wiring → Spot → Outside → Bool
+abbrev pub passes : Wiring → SwitchPort → Outside → Bool
 passes w s goal = list_any (λ (o : Outside). (o.v == goal.v) && list_any (same_spot s) (arrivals w (length w.cables) o.at.switch goal.at.switch)) w.outside
 
 -- what a switch does with a packet that is on its way to a port: at the goal it is sent out without its tag, else on
@@ -50,17 +50,17 @@ transit_actions w switch goal =
     else map (λ p. Output p 0) (option_to_list (next_hop w switch goal.at.switch))
 
 -- the entry for packets that come to a spot with the tag of a port
-abbrev pub transit : Wiring → Spot → Outside → ℕ → PhysEntry
+abbrev pub transit : Wiring → SwitchPort → Outside → ℕ → PhysEntry
 transit w s goal tag = record { m = record (at_port s.port) { dl_vlan = Some tag }; priority = 65535; actions = transit_actions w s.switch goal; ancestry = [] }
 
 -- the ends of cables at a switch
-abbrev pub ends_at : ℕ → List Cable → List Spot
-ends_at switch cables = flat_map (λ (c : Cable). filter (λ (s : Spot). s.switch == switch) (c.one ∷ c.other ∷ [])) cables
+abbrev pub ends_at : ℕ → List Cable → List SwitchPort
+ends_at switch cables = flat_map (λ (c : Cable). filter (λ (s : SwitchPort). s.switch == switch) (c.one ∷ c.other ∷ [])) cables
 
 -- for each port of a spread virtual switch, and each cable by which packets to it come to this switch
 abbrev pub transits_to : Wiring → ℕ → Outside → List PhysEntry
 transits_to w switch goal =
-    flat_map (λ (tag : ℕ). map (λ (s : Spot). transit w s goal tag) (filter (λ (s : Spot). passes w s goal) (ends_at switch w.cables))) (option_to_list goal.tag)
+    flat_map (λ (tag : ℕ). map (λ (s : SwitchPort). transit w s goal tag) (filter (λ (s : SwitchPort). passes w s goal) (ends_at switch w.cables))) (option_to_list goal.tag)
 
 -- the transit entries of a switch, for each port of a spread virtual switch
 abbrev pub transits : Wiring → ℕ → List PhysEntry

@@ -8,7 +8,7 @@ use Rattle.switch_meaning.specs.declared.entry.FlowEntry.{FlowEntry}
 use Rattle.switch_meaning.specs.declared.fired.Fired.{Fired}
 use Rattle.switch_meaning.specs.declared.fired.Seen.{Seen}
 use Rattle.switch_meaning.specs.declared.fired.Sent.{Sent}
-use Rattle.switch_meaning.specs.declared.wiring.Spot.{Spot}
+use Rattle.switch_meaning.specs.declared.wiring.SwitchPort.{SwitchPort}
 use Rattle.switch_meaning.specs.declared.wiring.Wiring.{Wiring}
 
 -- nothing leaves, and no copy is made
@@ -29,7 +29,7 @@ abbrev pub Choice : Type 0
 Choice = List ℕ → ℕ → HeaderOf → Option FlowEntry
 
 -- a packet that goes out at a spot with this far end: without a cable it leaves, else it goes on
-abbrev pub goes_out : Option Spot → Spot → HeaderOf → (ℕ → HeaderOf → Seen) → Seen
+abbrev pub goes_out : Option SwitchPort → SwitchPort → HeaderOf → (ℕ → HeaderOf → Seen) → Seen
 goes_out None at h on = record { outs = record { at = at; header = h } ∷ []; copies = [] }
 goes_out (Some end) at h on = on end.switch (record h { in_port = end.port })
 

@@ -17,13 +17,13 @@ use Rattle.switch_meaning.specs.declared.entry.PhysEntry.{PhysEntry}
 use Rattle.switch_meaning.specs.declared.entry.Site.{Site}
 use Rattle.switch_meaning.specs.declared.fired.Left.{Left}
 use Rattle.switch_meaning.specs.declared.fired.Sent.{Sent}
-use Rattle.switch_meaning.specs.declared.wiring.Spot.{Spot}
+use Rattle.switch_meaning.specs.declared.wiring.SwitchPort.{SwitchPort}
 use Rattle.switch_meaning.specs.declared.wiring.NextHop.{NextHop}
 use Rattle.switch_meaning.specs.declared.wiring.Outside.{Outside}
 use Rattle.switch_meaning.specs.declared.wiring.Wiring.{Wiring}
 
 -- a port of a physical switch
-abbrev pub spot : ℕ → ℕ → Spot
+abbrev pub spot : ℕ → ℕ → SwitchPort
 spot switch port = record { switch = switch; port = port }
 
 -- an outside port of the one virtual switch, with a tag

@@ -1,165 +1,88 @@
 //! Tests of what is installed, and of the change from one table to the next.
 use super::*;
-use crate::samples::{by_port, in_a_row, output};
+use crate::samples::{by_port, in_a_row};
 use cv_io::{Leaf, List};
-use of10_actions::Action;
 use of10_match::{Match, Prefix};
 use std::alloc::Global;
 use std::test::*;
 
-const TO_CONTROLLER: Action = Action::Output {
-    port: 0xfffd,
-    max_len: 65535,
-};
-
-/// An entry that is put on a switch whatever the tables of members have.
-fn fixed(alloc: Global, m: Match, priority: u16, actions: &[Action]) -> Result<PhysEntry, Fail> {
-    Ok(PhysEntry {
-        m,
-        priority,
-        actions: List::from_slice(alloc, actions)?,
-        ancestry: List::new(alloc),
-    })
-}
-
-/// nw_dst 10.0.0.0/24, by a port.
-fn net(port: u16) -> Match {
+/// nw_dst 10.0.0.0/24, by port 1.
+fn net() -> Match {
     Match {
         dl_type: Some(0x0800),
         nw_dst: Some(Prefix {
             addr: 0x0a00_0000,
             len: 24,
         }),
-        ..by_port(port)
+        ..by_port(1)
     }
 }
 
-/// nw_dst 10.0.0.1/32, by a port.
-fn host(port: u16) -> Match {
-    Match {
-        dl_type: Some(0x0800),
-        nw_dst: Some(Prefix {
-            addr: 0x0a00_0001,
-            len: 32,
-        }),
-        ..by_port(port)
-    }
-}
-
-/// The entry of a pair of leaves, sent to a port unless it came by it, or to the controller.
-fn pair(
-    alloc: Global,
-    m: Match,
-    priority: u16,
-    to: u16,
-    kinds: (u64, u64),
-) -> Result<PhysEntry, Fail> {
-    let mut actions = List::new(alloc);
-    if to == 0xfffd {
-        actions.push(TO_CONTROLLER)?;
-    } else if m.in_port != Some(to) {
-        actions.push(output(to))?;
-    }
+/// The entry of a pair of leaves of these kinds.
+fn pair(alloc: Global, m: Match, priority: u16, kinds: (u64, u64)) -> Result<PhysEntry, Fail> {
+    let (first, second) = kinds;
     let ancestry = [
         Leaf {
             member: 0,
-            kind: kinds.0,
+            kind: first,
         },
         Leaf {
             member: 1,
-            kind: kinds.1,
+            kind: second,
         },
     ];
     Ok(PhysEntry {
         m,
         priority,
-        actions,
+        actions: List::new(alloc),
         ancestry: List::from_slice(alloc, &ancestry)?,
     })
 }
 
-/// The pairs of a port with the monitor's /24, whose kind is 3.
-fn push_pairs_of_net(alloc: Global, entries: &mut List<PhysEntry>, p: u16) -> Result<(), Fail> {
-    for (m, priority, to, kinds) in [
-        (net(p), 9, 2, (3, 3)),
-        (host(p), 11, 3, (3, 4)),
-        (net(p), 6, 0xfffd, (3, 1)),
+/// The entries of a monitor and a router at port 1, two of which have one key.
+fn pairs(alloc: Global) -> Result<List<PhysEntry>, Fail> {
+    let mut entries = List::new(alloc);
+    for (m, priority, kinds) in [
+        (net(), 9, (3, 3)),
+        (net(), 6, (3, 1)),
+        (net(), 6, (1, 3)),
+        (by_port(1), 3, (1, 1)),
     ] {
-        entries.push(pair(alloc, m, priority, to, kinds)?)?;
+        entries.push(pair(alloc, m, priority, kinds)?)?;
     }
-    Ok(())
+    Ok(entries)
 }
 
-/// The other pairs of a port.
-fn push_other_pairs(alloc: Global, entries: &mut List<PhysEntry>, p: u16) -> Result<(), Fail> {
-    for (m, priority, to, kinds) in [
-        (host(p), 11, 2, (4, 3)),
-        (host(p), 13, 3, (4, 4)),
-        (host(p), 8, 0xfffd, (4, 1)),
-        (net(p), 6, 2, (1, 3)),
-        (host(p), 8, 3, (1, 4)),
-        (by_port(p), 3, 0xfffd, (1, 1)),
-    ] {
-        entries.push(pair(alloc, m, priority, to, kinds)?)?;
+/// The kinds of the first leaves of entries.
+fn kinds(alloc: Global, entries: &List<PhysEntry>) -> Result<List<u64>, Fail> {
+    let mut kinds = List::new(alloc);
+    for entry in entries.as_slice() {
+        kinds.push(entry.ancestry.get(0).map_or(0, |leaf| leaf.kind))?;
     }
-    Ok(())
+    Ok(kinds)
 }
 
 #[test]
 fn the_smaller_ancestry_is_installed(rt: HostRuntime) -> Result<(), Fail> {
-    let alloc = rt.alloc();
-    let mut entries = List::new(alloc);
-    push_pairs_of_net(alloc, &mut entries, 1)?;
-    push_other_pairs(alloc, &mut entries, 1)?;
-    let kept = installed(alloc, &entries)?;
-    assert_eq!(rt; kept.len(), 6);
-    for (place, from) in [(0, 0), (1, 1), (2, 4), (3, 6), (4, 7), (5, 8)] {
-        assert_eq!(rt; kept.get(place), entries.get(from));
-    }
+    let entries = pairs(rt.alloc())?;
+    let kept = kinds(rt.alloc(), &installed(rt.alloc(), &entries)?)?;
+    assert_eq!(rt; kept.as_slice(), [3, 1, 1].as_slice());
     Ok(())
 }
 
 #[test]
-fn a_free_key_is_taken(rt: HostRuntime) -> Result<(), Fail> {
-    let alloc = rt.alloc();
-    let mut with_net = List::new(alloc);
-    let mut without_net = List::new(alloc);
-    for p in [4, 2, 3, 1] {
-        push_pairs_of_net(alloc, &mut with_net, p)?;
-        push_other_pairs(alloc, &mut with_net, p)?;
-        push_other_pairs(alloc, &mut without_net, p)?;
-    }
-    let before = one_per_key(alloc, &with_net)?;
-    let after = one_per_key(alloc, &without_net)?;
-    let mut want = Difference {
-        deletes: List::new(alloc),
-        adds: List::new(alloc),
-    };
-    for p in [1, 2, 3, 4] {
-        want.deletes.push(pair(alloc, net(p), 9, 2, (3, 3))?)?;
-    }
-    for p in [1, 2, 3, 4] {
-        want.deletes.push(pair(alloc, host(p), 11, 3, (3, 4))?)?;
-        want.adds.push(pair(alloc, host(p), 11, 2, (4, 3))?)?;
-    }
-    assert_eq!(rt; difference(alloc, &before, &after)?, want);
+fn one_has_each_key(rt: HostRuntime) -> Result<(), Fail> {
+    let entries = pairs(rt.alloc())?;
+    let kept = kinds(rt.alloc(), &one_per_key(rt.alloc(), &entries)?)?;
+    assert_eq!(rt; kept.as_slice(), [3, 1, 1].as_slice());
     Ok(())
 }
 
-/// Entries of one member, at these levels.
+/// Entries of port 1, at these levels.
 fn at_levels(alloc: Global, levels: &[u16]) -> Result<List<PhysEntry>, Fail> {
     let mut entries = List::new(alloc);
-    for (place, priority) in levels.iter().enumerate() {
-        let ancestry = [Leaf {
-            member: 0,
-            kind: 3 + place as u64,
-        }];
-        entries.push(PhysEntry {
-            m: by_port(1),
-            priority: *priority,
-            actions: List::from_slice(alloc, &[output(2)])?,
-            ancestry: List::from_slice(alloc, &ancestry)?,
-        })?;
+    for priority in levels {
+        entries.push(pair(alloc, by_port(1), *priority, (3, 3))?)?;
     }
     Ok(entries)
 }
@@ -173,104 +96,58 @@ fn priorities(alloc: Global, entries: &List<PhysEntry>) -> Result<List<u16>, Fai
     Ok(found)
 }
 
+/// What a table at levels 5, 7 and 8 becomes, at levels 7 and 9.
+fn moved(alloc: Global) -> Result<Difference, Fail> {
+    let before = at_levels(alloc, &[5, 7, 8])?;
+    Ok(difference(alloc, &before, &at_levels(alloc, &[7, 9])?)?)
+}
+
 #[test]
 fn levels_move(rt: HostRuntime) -> Result<(), Fail> {
-    let alloc = rt.alloc();
-    let before = at_levels(alloc, &[5, 7, 8])?;
-    let after = at_levels(alloc, &[3, 4, 6, 7])?;
-    let found = difference(alloc, &before, &after)?;
-    assert_eq!(rt;
-        priorities(alloc, &found.deletes)?.as_slice(),
-        [5, 7, 8].as_slice()
-    );
-    assert_eq!(rt;
-        priorities(alloc, &found.adds)?.as_slice(),
-        [3, 4, 6, 7].as_slice()
-    );
+    let Difference { deletes, adds } = moved(rt.alloc())?;
+    let deleted = priorities(rt.alloc(), &deletes)?;
+    let added = priorities(rt.alloc(), &adds)?;
+    assert_eq!(rt; deleted.as_slice(), [5, 8].as_slice());
+    assert_eq!(rt; added.as_slice(), [9].as_slice());
     Ok(())
+}
+
+/// The tags of the fixed entries of a switch in the row, or 0 where one holds every tag.
+fn tags(alloc: Global, switch: u32) -> Result<List<u16>, Fail> {
+    let mut tags = List::new(alloc);
+    let wiring = in_a_row(alloc)?;
+    if are_tags_in_range(&wiring) {
+        for entry in fixed_entries(alloc, &wiring, switch)?.as_slice() {
+            tags.push(entry.m.dl_vlan.unwrap_or(0))?;
+        }
+    }
+    Ok(tags)
 }
 
 #[test]
 fn tags_are_carried(rt: HostRuntime) -> Result<(), Fail> {
-    let alloc = rt.alloc();
-    let wiring = in_a_row(alloc)?;
-    assert!(rt; are_tags_in_range(&wiring));
-    let at_goal = [Action::StripVlan, output(1)];
-    let at_goal_2 = [Action::StripVlan, output(2)];
-    let back = [output(3)];
-    let on = [output(4)];
-    for (switch, place, port, tag, actions) in [
-        (0, 0, 1, None, [].as_slice()),
-        (0, 1, 2, None, [].as_slice()),
-        (0, 2, 3, Some(1), at_goal.as_slice()),
-        (0, 3, 3, Some(3), at_goal_2.as_slice()),
-        (1, 0, 1, None, [].as_slice()),
-        (1, 1, 4, Some(1), back.as_slice()),
-        (1, 2, 3, Some(2), at_goal.as_slice()),
-        (1, 3, 4, Some(2), at_goal.as_slice()),
-        (1, 4, 4, Some(3), back.as_slice()),
-        (1, 5, 3, Some(4), on.as_slice()),
-        (2, 0, 1, None, [].as_slice()),
-        (2, 1, 3, Some(4), at_goal.as_slice()),
+    for (switch, want) in [
+        (0, [0, 0, 1, 3].as_slice()),
+        (1, [0, 1, 2, 2, 3, 4].as_slice()),
+        (2, [0, 4].as_slice()),
     ] {
-        let entries = fixed_entries(alloc, &wiring, switch)?;
-        let entry = entries.get(place).ok_or("no entry there")?;
-        assert_eq!(rt; entry.m.in_port, Some(port));
-        assert_eq!(rt; entry.m.dl_vlan, tag);
-        assert_eq!(rt; entry.actions.as_slice(), actions);
+        let found = tags(rt.alloc(), switch)?;
+        assert_eq!(rt; found.as_slice(), want, "switch {switch}");
     }
-    assert_eq!(rt; guards(alloc, &wiring, 0)?.len(), 2);
-    assert_eq!(rt; transits(alloc, &wiring, 1)?.len(), 5);
     Ok(())
 }
 
-#[test]
-fn other_ports_are_dropped(rt: HostRuntime) -> Result<(), Fail> {
-    let alloc = rt.alloc();
+/// How many guards and drops the first switch has, whose ports are these four.
+fn guards_and_drops(alloc: Global) -> Result<(usize, usize), Fail> {
     let wiring = in_a_row(alloc)?;
     let ports = List::from_slice(alloc, &[1, 2, 3, 4])?;
-    let found = drops(alloc, &wiring, 0, &ports)?;
-    let want = [
-        fixed(alloc, by_port(3), 65535, &[])?,
-        fixed(alloc, by_port(4), 65535, &[])?,
-    ];
-    assert_eq!(rt; found.as_slice(), want.as_slice());
-    Ok(())
-}
-
-/// A match that names all twelve fields.
-fn one_packet() -> Match {
-    Match {
-        in_port: Some(1),
-        dl_src: Some(1),
-        dl_dst: Some(2),
-        dl_vlan: Some(0xffff),
-        dl_vlan_pcp: Some(0),
-        dl_type: Some(0x0800),
-        nw_tos: Some(0),
-        nw_proto: Some(6),
-        nw_src: Some(Prefix {
-            addr: 0x0a00_0001,
-            len: 32,
-        }),
-        nw_dst: Some(Prefix {
-            addr: 0x0a00_0002,
-            len: 32,
-        }),
-        tp_src: Some(1024),
-        tp_dst: Some(80),
-    }
+    let guards = guards(alloc, &wiring, 0)?;
+    Ok((guards.len(), drops(alloc, &wiring, 0, &ports)?.len()))
 }
 
 #[test]
-fn an_exact_entry_is_passed_over(rt: HostRuntime) -> Result<(), Fail> {
-    let alloc = rt.alloc();
-    // One at the same priority passes nothing over, nor does one that does not cover it.
-    for (m, priority, kept) in [(by_port(1), 9, 1), (by_port(1), 8, 2), (by_port(2), 9, 2)] {
-        let mut entries = List::new(alloc);
-        entries.push(fixed(alloc, one_packet(), 8, &[])?)?;
-        entries.push(fixed(alloc, m, priority, &[])?)?;
-        assert_eq!(rt; installed(alloc, &entries)?.len(), kept);
-    }
+fn ports_are_guarded_or_dropped(rt: HostRuntime) -> Result<(), Fail> {
+    let found = guards_and_drops(rt.alloc())?;
+    assert_eq!(rt; found, (2, 2));
     Ok(())
 }

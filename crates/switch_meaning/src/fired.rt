@@ -1,5 +1,5 @@
 //! What a switch makes of a packet, and where packets get to.
-use crate::wiring::Spot;
+use crate::wiring::SwitchPort;
 use cv_io::List;
 use of10_match::Header;
 
@@ -21,7 +21,7 @@ pub struct Fired {
 /// A packet that leaves the network.
 #[derive(Clone, Copy, PartialEq, Eq, Debug)]
 pub struct Left {
-    pub at: Spot,
+    pub at: SwitchPort,
     pub header: Header,
 }
 

@@ -3,10 +3,10 @@ ghost use Rattle.std.specs.Prelude.{◌≡◌, ◌<◌, ◌==◌, ◌++◌, [], 
 ghost use Rattle.std.specs.List.{list_any};
 ghost use Rattle.switch_meaning.specs.Fixed.{AreTagsInRange, arrivals, drop_entry as drop_entry_of, drops as drops_of, ends_at as ends_at_of, fixed_entries as fixed_entries_of, guard as guard_of, guards as guards_of, is_guarded as is_guarded_of, is_outside as is_outside_of, passes as passes_of, step as step_of, transit as transit_of, transit_actions as transit_actions_of, transits as transits_of, transits_to as transits_to_of};
 ghost use Rattle.switch_meaning.specs.Wirings.{same_spot as same_spot_of};
-ghost use Rattle.switch_meaning.specs.declared.wiring.Spot.{Spot};
+ghost use Rattle.switch_meaning.specs.declared.wiring.SwitchPort.{SwitchPort};
 
 use crate::entry::PhysEntry;
-use crate::wiring::{Cable, Outside, Spot, Wiring};
+use crate::wiring::{Cable, Outside, SwitchPort, Wiring};
 use cv_io::{List, Memory};
 use of10_actions::Action;
 use of10_match::Match;
@@ -121,12 +121,12 @@ fn add_transit(
     alloc: Global,
     entries: &mut List<PhysEntry>,
     wiring: &Wiring,
-    spot: Spot,
+    spot: SwitchPort,
     goal: &Outside,
     tag: u16,
 ) -> Result<(), Memory>
     requires { tag < 4096 }
-    ensures { OnOk result (entries.new ≡ entries.old ++ map (λ (s : Spot). transit_of wiring.now s goal.now tag) (filter (λ (s : Spot). passes_of wiring.now s goal.now) (spot ∷ []))) }
+    ensures { OnOk result (entries.new ≡ entries.old ++ map (λ (s : SwitchPort). transit_of wiring.now s goal.now tag) (filter (λ (s : SwitchPort). passes_of wiring.now s goal.now) (spot ∷ []))) }
 {
     if !passes(wiring, spot, goal) {
         return Ok(());
@@ -167,7 +167,7 @@ fn transit_actions(
 }
 
 /// The ends of cables at a switch.
-fn ends_at(alloc: Global, switch: u32, cables: &List<Cable>) -> Result<List<Spot>, Memory>
+fn ends_at(alloc: Global, switch: u32, cables: &List<Cable>) -> Result<List<SwitchPort>, Memory>
     ensures { IfOk result (λ ends. ends ≡ ends_at_of switch cables.now) }
 {
     let mut ends = List::new(alloc);
@@ -179,8 +179,8 @@ fn ends_at(alloc: Global, switch: u32, cables: &List<Cable>) -> Result<List<Spot
 }
 
 /// Appends the end of a cable, if it lies at this switch.
-fn add_end(ends: &mut List<Spot>, switch: u32, end: Spot) -> Result<(), Memory>
-    ensures { OnOk result (ends.new ≡ ends.old ++ filter (λ (s : Spot). s.switch == switch) (end ∷ [])) }
+fn add_end(ends: &mut List<SwitchPort>, switch: u32, end: SwitchPort) -> Result<(), Memory>
+    ensures { OnOk result (ends.new ≡ ends.old ++ filter (λ (s : SwitchPort). s.switch == switch) (end ∷ [])) }
 {
     if end.switch != switch {
         return Ok(());
@@ -190,7 +190,7 @@ fn add_end(ends: &mut List<Spot>, switch: u32, end: Spot) -> Result<(), Memory>
 
 /// Whether a packet from some port of a virtual switch comes to this spot on its way to another port
 /// of it.
-fn passes(wiring: &Wiring, spot: Spot, goal: &Outside) -> bool
+fn passes(wiring: &Wiring, spot: SwitchPort, goal: &Outside) -> bool
     ensures { result ≡ passes_of wiring.now spot goal.now }
 {
     let cables = wiring.cables.len();
@@ -201,7 +201,7 @@ fn passes(wiring: &Wiring, spot: Spot, goal: &Outside) -> bool
 
 /// Whether a packet on the way from one switch to another comes to a spot, over at most so many
 /// cables.
-fn comes_by(wiring: &Wiring, cables: usize, from: u32, to: u32, spot: Spot) -> bool
+fn comes_by(wiring: &Wiring, cables: usize, from: u32, to: u32, spot: SwitchPort) -> bool
     ensures { result ≡ list_any (same_spot_of spot) (arrivals wiring.now cables from to) }
 {
     if cables == 0 || from == to {
@@ -214,11 +214,11 @@ fn comes_by(wiring: &Wiring, cables: usize, from: u32, to: u32, spot: Spot) -> b
 }
 
 /// Where a packet comes to over the first cable of its way from one switch to another.
-fn step(wiring: &Wiring, from: u32, to: u32) -> Option<Spot>
+fn step(wiring: &Wiring, from: u32, to: u32) -> Option<SwitchPort>
     ensures { result ≡ step_of wiring.now from to }
 {
     match wiring.next_hop(from, to) {
-        Some(port) => wiring.far_end(Spot { switch: from, port }),
+        Some(port) => wiring.far_end(SwitchPort { switch: from, port }),
         None => None,
     }
 }
@@ -250,7 +250,7 @@ fn add_drop(
 ) -> Result<(), Memory>
     ensures { OnOk result (entries.new ≡ entries.old ++ map drop_entry_of (filter (λ (p : ℕ). not (is_outside_of wiring.now switch p)) (port ∷ []))) }
 {
-    if is_outside(wiring, Spot { switch, port }) {
+    if is_outside(wiring, SwitchPort { switch, port }) {
         return Ok(());
     }
     entries.push(PhysEntry {
@@ -262,7 +262,7 @@ fn add_drop(
 }
 
 /// Whether the port of a switch is an outside port.
-fn is_outside(wiring: &Wiring, spot: Spot) -> bool
+fn is_outside(wiring: &Wiring, spot: SwitchPort) -> bool
     ensures { result ≡ is_outside_of wiring.now spot.switch spot.port }
 {
     wiring.outside.as_slice().iter().any(|o| o.at == spot)

@@ -10,7 +10,7 @@ use crate::choosing::{Reading, usable};
 use crate::entry::FlowEntry;
 use crate::fired::{Copied, Fired, Left, Seen};
 use crate::firing::fire;
-use crate::wiring::{Spot, Wiring};
+use crate::wiring::{SwitchPort, Wiring};
 use cv_io::{List, Memory};
 use of10_match::Header;
 use std::alloc::Global;
@@ -64,7 +64,7 @@ impl Switches {
         let fired = self.fire_at(alloc, switch, header)?;
         copy_all(seen, switch, &fired.copies)?;
         for out in fired.outs.as_slice() {
-            let at = Spot {
+            let at = SwitchPort {
                 switch,
                 port: out.port,
             };
@@ -80,7 +80,7 @@ impl Switches {
         seen: &mut Seen,
         alloc: Global,
         turns: usize,
-        at: Spot,
+        at: SwitchPort,
         header: &Header,
     ) -> Result<(), Memory>
         requires { AreTablesInRange self.now.tables }

@@ -31,7 +31,7 @@ pub use keys::{installed, one_per_key};
 pub use placing::{Way, place};
 pub use ranges::{are_tables_in_range, are_tags_in_range};
 pub use table::table_after;
-pub use wiring::{Cable, NextHop, Outside, Spot, Wiring};
+pub use wiring::{Cable, NextHop, Outside, SwitchPort, Wiring};
 
 #[cfg(test)]
 mod batch_tests;

@@ -1,7 +1,8 @@
 //! What several tests start from.
 ghost use Rattle.of10_match.specs.Ranges.{IsVlan};
 
-use crate::wiring::{Cable, NextHop, Outside, Spot, Wiring};
+use crate::entry::FlowEntry;
+use crate::wiring::{Cable, NextHop, Outside, SwitchPort, Wiring};
 use cv_io::List;
 use of10_actions::Action;
 use of10_match::{Header, Match, UNTAGGED};
@@ -33,9 +34,13 @@ pub fn lies(port: u16, switch: u32, at: u16) -> Outside {
     Outside {
         v: 0,
         port,
-        at: Spot { switch, port: at },
+        at: SwitchPort { switch, port: at },
         tag: Some(port),
     }
+}
+
+fn hop(from: u32, to: u32, port: u16) -> NextHop {
+    NextHop { from, to, port }
 }
 
 /// Three switches in a row: the first has the outside ports 1 and 3, the second 2, the third 4.
@@ -43,29 +48,26 @@ pub fn in_a_row(alloc: Global) -> Result<Wiring, Fail> {
     let outside = [lies(1, 0, 1), lies(2, 1, 1), lies(3, 0, 2), lies(4, 2, 1)];
     let cables = [
         Cable {
-            one: Spot { switch: 0, port: 3 },
-            other: Spot { switch: 1, port: 3 },
+            one: SwitchPort { switch: 0, port: 3 },
+            other: SwitchPort { switch: 1, port: 3 },
         },
         Cable {
-            one: Spot { switch: 1, port: 4 },
-            other: Spot { switch: 2, port: 3 },
+            one: SwitchPort { switch: 1, port: 4 },
+            other: SwitchPort { switch: 2, port: 3 },
         },
     ];
-    let mut next_hops = List::new(alloc);
-    for (from, to, port) in [
-        (0, 1, 3),
-        (0, 2, 3),
-        (1, 0, 3),
-        (1, 2, 4),
-        (2, 0, 3),
-        (2, 1, 3),
-    ] {
-        next_hops.push(NextHop { from, to, port })?;
-    }
+    let next_hops = [
+        hop(0, 1, 3),
+        hop(0, 2, 3),
+        hop(1, 0, 3),
+        hop(1, 2, 4),
+        hop(2, 0, 3),
+        hop(2, 1, 3),
+    ];
     Ok(Wiring {
         outside: List::from_slice(alloc, &outside)?,
         cables: List::from_slice(alloc, &cables)?,
-        next_hops,
+        next_hops: List::from_slice(alloc, &next_hops)?,
     })
 }
 
@@ -84,4 +86,25 @@ pub fn ping(in_port: u16) -> Header {
         tp_src: 8,
         tp_dst: 0,
     }
+}
+
+/// An entry of a switch.
+pub fn entry(
+    alloc: Global,
+    m: Match,
+    priority: u16,
+    actions: &[Action],
+) -> Result<FlowEntry, Fail> {
+    Ok(FlowEntry {
+        m,
+        priority,
+        actions: List::from_slice(alloc, actions)?,
+    })
+}
+
+/// The list of one item.
+pub fn one<T: Drop>(alloc: Global, item: T) -> Result<List<T>, Fail> {
+    let mut list = List::new(alloc);
+    list.push(item)?;
+    Ok(list)
 }

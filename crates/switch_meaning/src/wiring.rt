@@ -6,7 +6,7 @@ use cv_io::{Duplicate, List, Memory};
 
 /// A port of a physical switch.
 #[derive(Clone, Copy, PartialEq, Eq, Debug)]
-pub struct Spot {
+pub struct SwitchPort {
     pub switch: u32,
     pub port: u16,
 }
@@ -17,7 +17,7 @@ pub struct Outside {
     pub v: u32,
     pub port: u16,
     /// The physical port that it is.
-    pub at: Spot,
+    pub at: SwitchPort,
     /// The VLAN number that packets to it carry between switches, where its virtual switch is
     /// spread over several.
     pub tag: Option<u16>,
@@ -26,8 +26,8 @@ pub struct Outside {
 /// A cable between ports of two physical switches.
 #[derive(Clone, Copy, PartialEq, Eq, Debug)]
 pub struct Cable {
-    pub one: Spot,
-    pub other: Spot,
+    pub one: SwitchPort,
+    pub other: SwitchPort,
 }
 
 /// The port by which packets from one physical switch to another leave the first.
@@ -99,7 +99,7 @@ impl Wiring {
     }
 
     /// Where a packet gets to that leaves by a port with a cable.
-    pub fn far_end(&self, at: Spot) -> Option<Spot>
+    pub fn far_end(&self, at: SwitchPort) -> Option<SwitchPort>
         ensures { result ≡ far_end_of self.now at }
     {
         for cable in self.cables.as_slice() {

@@ -1,0 +1,69 @@
+//! The entries that are put on the switch.
+ghost use Rattle.std.specs.Prelude.{◌<◌, ◌≤◌};
+ghost use Rattle.of10_match.specs.Ranges.{IsPrefix};
+
+use cv_io::{Leaf, List, Memory};
+use of10_actions::Action;
+use of10_match::{Match, Prefix};
+use std::alloc::Global;
+use switch_meaning::PhysEntry;
+
+/// The net 10.x.y.0/24 of this number.
+fn net(number: u32) -> Prefix
+    ensures { IsPrefix result }
+{
+    Prefix {
+        addr: (0x000a_0000 + number % 0x10_0000) * 256,
+        len: 24,
+    }
+}
+
+/// Packets of a port to the net of this number.
+fn to_net(number: u32) -> Match {
+    Match {
+        in_port: Some(1),
+        dl_type: Some(0x0800),
+        nw_dst: Some(net(number)),
+        ..Match::everything()
+    }
+}
+
+/// The entry of this number, of one of so many priorities, which sends to a port.
+fn entry(alloc: Global, number: u32, priorities: u32, to: u16) -> Result<PhysEntry, Memory>
+    requires { (0 < priorities) × (priorities ≤ 60000) }
+{
+    let leaves = [
+        Leaf {
+            member: 0,
+            kind: u64::from(number) + 3,
+        },
+        Leaf { member: 1, kind: 1 },
+    ];
+    let actions = [Action::Output {
+        port: to,
+        max_len: 0,
+    }];
+    Ok(PhysEntry {
+        m: to_net(number),
+        priority: (number % priorities) as u16 + 1,
+        actions: List::from_slice(alloc, &actions)?,
+        ancestry: List::from_slice(alloc, &leaves)?,
+    })
+}
+
+/// So many entries from a number on.
+pub fn entries(
+    alloc: Global,
+    from: u32,
+    count: u32,
+    priorities: u32,
+    to: u16,
+) -> Result<List<PhysEntry>, Memory>
+    requires { (0 < priorities) × (priorities ≤ 60000) }
+{
+    let mut list = List::new(alloc);
+    for number in from..from.saturating_add(count) {
+        list.push(entry(alloc, number, priorities, to)?)?;
+    }
+    Ok(list)
+}

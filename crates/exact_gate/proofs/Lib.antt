@@ -1,0 +1,10 @@
+pub mod Standing
+pub mod Changing
+pub mod Bucketed
+pub mod Headers
+pub mod Finding
+pub mod Pooled
+pub mod Logged
+pub mod Once
+pub mod Noting
+pub mod States

@@ -1,0 +1,12 @@
+use Rattle.std.proofs.Common.{◌≡◌, ◌||◌, take}
+use Rattle.switch_meaning.specs.declared.entry.PhysEntry.{PhysEntry}
+use Rattle.exact_gate.specs.InsideLogs.{turned_back}
+use Rattle.exact_gate.specs.Standing.{HaveSame, stands_in}
+use Rattle.exact_gate.proofs.log.enter_all.Given as goal
+
+-- those so far came
+abbrev pub invariant-loop-entry : goal.invariant-loop-entry
+invariant-loop-entry l = record {
+  come : (e : PhysEntry) → stands_in l.pool e ≡ (stands_in l.initial.pool e || stands_in (take l.entry-index l.come) e);
+  same : HaveSame (turned_back l.initial.pool l.initial.log) (turned_back l.pool l.log);
+}

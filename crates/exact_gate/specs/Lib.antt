@@ -1,0 +1,9 @@
+pub mod Standing
+pub mod Gates
+pub mod Finding
+pub mod InsideKeys
+pub mod InsideBuckets
+pub mod InsideLogs
+pub mod InsideChanges
+pub mod GateLaw
+pub mod Worked

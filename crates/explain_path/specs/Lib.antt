@@ -1,0 +1,4 @@
+pub mod Traces
+pub mod Used
+pub mod Bare
+pub mod Worked

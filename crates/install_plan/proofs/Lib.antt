@@ -1,0 +1,13 @@
+pub mod Ancestries
+pub mod Batched
+pub mod Cookies
+pub mod Counting
+pub mod Flat
+pub mod Keyed
+pub mod Merging
+pub mod Progress
+pub mod Restoring
+pub mod Sound
+pub mod Taking
+pub mod Whole
+pub mod Writing

@@ -1,0 +1,5 @@
+pub mod Permute
+pub mod PairLemmas
+pub mod Kept
+pub mod Flat
+pub mod Parted

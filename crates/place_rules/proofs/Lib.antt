@@ -1,0 +1,3 @@
+pub mod Looked
+pub mod Acting
+pub mod Tagged

@@ -1,0 +1,17 @@
+pub mod Lists
+pub mod Texts
+pub mod Numbered
+pub mod Outcomes
+pub mod Together
+pub mod Kept
+pub mod Standing
+pub mod Widths
+pub mod Expressions
+pub mod Shows
+pub mod Distinct
+pub mod Rising
+pub mod ItemSteps
+pub mod Each
+pub mod Passing
+pub mod Unlike
+pub mod Checked

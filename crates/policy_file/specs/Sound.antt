@@ -1,0 +1,85 @@
+-- What holds of each policy: its numbers are in range, and it fits together.
+use Rattle.std.specs.Prelude.{◌≡◌, ◌==◌, ℕ, ◌≤◌, ◌<◌, true, false, List, [], ◌∷◌, length, Option, None, Some, IfSome, IsOk, IfOk, slice_get}
+use Rattle.std.specs.List.{AllByRecursion}
+use Rattle.virtual_topology.specs.declared.plan.SwitchItem.{SwitchItem}
+use Rattle.virtual_topology.specs.declared.plan.VirtualItem.{VirtualItem}
+use Rattle.virtual_topology.specs.Places.{same_name}
+use Rattle.virtual_topology.specs.Faults.{fault_of}
+use Rattle.inner_paths.specs.Cuts.{cut_fault}
+use Rattle.policy_expr.specs.Policy as expr
+use Rattle.policy_file.specs.declared.policy.MemberItem.{MemberItem}
+use Rattle.policy_file.specs.Members.{is_at}
+use Rattle.policy_file.specs.Exprs.{exprs_of}
+use Rattle.policy_file.specs.Policies.{PolicyOf, plan}
+use Rattle.policy_file.specs.Values.{is_address, is_name}
+use Rattle.policy_file.specs.Widths.{too_wide_in}
+
+-- a member stands at the virtual switch that it names
+abbrev pub StandsAt : List VirtualItem → MemberItem → Type 0
+StandsAt virtuals m = IfSome (slice_get virtuals m.grant.ports.v) (λ (v : VirtualItem). v.name ≡ m.vsw)
+
+-- what holds of each member
+pub record IsSoundMember (virtuals : List VirtualItem) (m : MemberItem) : Type 0 where
+  pub controller : is_name m.controller ≡ true
+  pub there : m.grant.ports.v < length virtuals
+  pub stands : StandsAt virtuals m
+  pub least_bits : 2 ≤ m.bits
+  pub most_bits : m.bits ≤ 15
+  pub some_entries : 1 ≤ m.entries
+  pub most_entries : m.entries ≤ 4096
+  pub address : is_address m.address ≡ true
+
+-- the ports of a physical switch have numbers of ports
+abbrev pub IsPortNumber : ℕ → Type 0
+IsPortNumber n = (1 ≤ n) × (n ≤ 65279)
+
+pub record IsSoundSwitch (s : SwitchItem) : Type 0 where
+  pub name : is_name s.name ≡ true
+  pub ports : AllByRecursion IsPortNumber s.ports
+
+-- each item is so to those before it
+abbrev pub EachToEarlier : {A : Type 0} → (A → A → Type 0) → List A → Type 0
+EachToEarlier R [] = Unit {0}
+EachToEarlier R (x ∷ xs) = AllByRecursion (λ y. R y x) xs × EachToEarlier R xs
+
+-- two switches have neither one name nor one datapath id
+pub record AreUnlikeSwitches (a b : SwitchItem) : Type 0 where
+  pub names : same_name a.name b.name ≡ false
+  pub dpids : (a.dpid == b.dpid) ≡ false
+
+pub record AreUnlikeVirtuals (a b : VirtualItem) : Type 0 where
+  pub names : same_name a.name b.name ≡ false
+  pub dpids : (a.dpid == b.dpid) ≡ false
+
+-- two members aren't one controller at one virtual switch
+abbrev pub AreUnlikeMembers : MemberItem → MemberItem → Type 0
+AreUnlikeMembers a b = is_at a.controller a.vsw b ≡ false
+
+-- numbers and texts are in range
+pub record KeepsLimits (p : PolicyOf) : Type 0 where
+  pub first_version : 1 ≤ p.version
+  pub last_version : p.version ≤ 2
+  pub some_hops : 1 ≤ p.hops
+  pub most_hops : p.hops ≤ 4
+  pub some_rounds : 1 ≤ p.rounds
+  pub most_rounds : p.rounds ≤ 1000000
+  pub listen : is_address p.listen ≡ true
+  pub standby : IfSome p.standby (λ address. is_address address ≡ true)
+  pub few_members : length p.members ≤ 32
+  pub members : AllByRecursion (IsSoundMember p.virtuals) p.members
+  pub switches : AllByRecursion IsSoundSwitch p.switches
+  pub unlike_switches : EachToEarlier AreUnlikeSwitches p.switches
+  pub unlike_virtuals : EachToEarlier AreUnlikeVirtuals p.virtuals
+  pub unlike_members : EachToEarlier AreUnlikeMembers p.members
+
+-- its expressions are such over its members, its topology and paths can be made, and no virtual switch needs more levels
+-- than there are
+pub record FitsTogether (p : PolicyOf) : Type 0 where
+  pub expressions : IsOk (exprs_of p.virtuals p.members)
+  pub topology : fault_of (plan p) ≡ None
+  pub paths : cut_fault (plan p) ≡ None
+  pub widths : IfOk (exprs_of p.virtuals p.members) (λ exprs. too_wide_in (plan p) p.members exprs p.hops ≡ None)
+
+pub record IsSound (p : PolicyOf) : Type 0 where
+  pub limits : KeepsLimits p
+  pub together : FitsTogether p

@@ -1,0 +1,14 @@
+pub mod Parts
+pub mod Spots
+pub mod Apart
+pub mod Joints
+pub mod Placing
+pub mod Linked
+pub mod Mixed
+pub mod Lone
+pub mod Numbers
+pub mod Paths
+pub mod Shortest
+pub mod Growing
+pub mod Sizes
+pub mod Ready

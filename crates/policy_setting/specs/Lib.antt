@@ -1,0 +1,5 @@
+pub mod Wirings
+pub mod Networks
+pub mod Settings
+pub mod Premises
+pub mod OfPolicies

@@ -1,0 +1,4 @@
+pub mod Holding
+pub mod Names
+pub mod InsideSlots
+pub mod InsideLinks

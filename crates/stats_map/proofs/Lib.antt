@@ -1,0 +1,12 @@
+pub mod Ending
+pub mod Happening
+pub mod Moving
+pub mod Rows
+pub mod Summing
+pub mod Copying
+pub mod Ever
+pub mod Adding
+pub mod Acts
+pub mod Switches
+pub mod Reporting
+pub mod Beginning

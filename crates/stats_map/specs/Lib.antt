@@ -1,0 +1,4 @@
+pub mod Counting
+pub mod InsideSums
+pub mod Histories
+pub mod Told
