@@ -27,7 +27,7 @@ use Rattle.policy_meaning.proofs.WrittenRules.{nodes-are-written, nodes-have-lea
 use Rattle.policy_meaning.proofs.Writes.{sets-set, writes-ended, writes-lower}
 use Rattle.switch_meaning.specs.Fixed.{drop_entry, drops, fixed_entries, guard, guards, is_guarded, transit, transit_actions, transits, transits_to}
 use Rattle.switch_meaning.specs.Placing.{actions_from, actions_of, entry_of, going, ingress_of, is_silent, outs_written, retag, set_unless, sets, tells, way_of}
-use Rattle.switch_meaning.specs.Same.{same_action}
+use Rattle.of10_actions.specs.Same.{same_action}
 use Rattle.switch_meaning.specs.Wirings.{next_hop}
 use Rattle.switch_meaning.specs.declared.entry.PhysEntry.{PhysEntry}
 use Rattle.switch_meaning.specs.declared.entry.Site.{Site}

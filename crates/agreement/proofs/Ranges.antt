@@ -23,7 +23,7 @@ use Rattle.policy_meaning.proofs.Lists.{all-append, all-each, all-filter_map, al
 use Rattle.policy_meaning.proofs.RangedRules.{nodes-are-in-range, switch-range}
 use Rattle.switch_meaning.specs.Fixed.{AreTagsInRange, drop_entry, drops, fixed_entries, guard, guards, is_guarded, transit, transits, transits_to}
 use Rattle.switch_meaning.specs.Placing.{actions_from, actions_of, entry_of, field_sets, going, ingress_of, is_silent, outs_written, retag, set_unless, sets, sets_after, tells, way_across, way_of, way_to, written_port}
-use Rattle.switch_meaning.specs.Same.{same_action}
+use Rattle.of10_actions.specs.Same.{same_action}
 use Rattle.switch_meaning.specs.Wirings.{next_hop, outside_at}
 use Rattle.switch_meaning.specs.declared.entry.PhysEntry.{PhysEntry}
 use Rattle.switch_meaning.specs.declared.entry.Site.{Site}

@@ -4,6 +4,7 @@ pub mod Ports
 pub mod Ranges
 pub mod Rewriting
 pub mod Actions
+pub mod Same
 pub mod Effects
 pub mod Kinds
 pub mod Spelling

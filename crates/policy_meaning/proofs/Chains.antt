@@ -79,13 +79,13 @@ module _ (h : HeaderOf) (k : ℕ) (bs : List Rule) (g : AllByRecursion HasNormal
       (λ x ux. chain-part x IsUntouched ux (λ r b y c l. sym (ap (λ (z : Rule). z.touched) c.is) ∙ ux c.left) x.tail) u
 
   -- a best rule without a pass stands alone
-  best-alone : (xs : List Rule) (a : Rule) → 0 < k → chains_with k bs a ≡ lifted (concat_level a.level 0 k) a ∷ [] → IsBest h xs a → IsBest h (flat_map (chains_with k bs) xs) (lifted (concat_level a.level 0 k) a)
+  pub best-alone : (xs : List Rule) (a : Rule) → 0 < k → chains_with k bs a ≡ lifted (concat_level a.level 0 k) a ∷ [] → IsBest h xs a → IsBest h (flat_map (chains_with k bs) xs) (lifted (concat_level a.level 0 k) a)
   best-alone xs a pos e p =
       best-flat_map h (chains_with k bs) (lifted (concat_level a.level 0 k) a) (rw e (first (best_holds h p) tt))
       (λ x lt. at-below h (a.level * k) (concat_level a.level 0 k) (chains_with k bs x) (omega arith) (chain-lower a.level x pos lt)) p
 
   -- a best rule with a pass is joined with the best one for the rewritten header
-  best-pass : (xs : List Rule) (a b : Rule) (r : RewriteOf) → a.tail ≡ Pass r → b.level < k → IsBest h xs a → IsBest (apply r h) bs b → IsBest h (flat_map (chains_with k bs) xs) (chain_of k r a b)
+  pub best-pass : (xs : List Rule) (a b : Rule) (r : RewriteOf) → a.tail ≡ Pass r → b.level < k → IsBest h xs a → IsBest (apply r h) bs b → IsBest h (flat_map (chains_with k bs) xs) (chain_of k r a b)
   best-pass xs a b r e lt p q =
       let there = chain-there h k r a b (best_each (apply r h) HasNormal q g) (best_holds h p) (best_holds (apply r h) q) in
       best-flat_map h (chains_with k bs) (chain_of k r a b)

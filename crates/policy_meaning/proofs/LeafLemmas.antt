@@ -24,7 +24,7 @@ use Rattle.policy_meaning.proofs.Cells.{narrowed, IsOnly, cell-part, none-in_cel
 
 module _ (h : HeaderOf) (t : LeafTable) where
   -- what the best of some entries says: none holds the header, or its rule is the best
-  abbrev EntrySays : List LeafEntry → Option LeafEntry → Type 0
+  abbrev pub EntrySays : List LeafEntry → Option LeafEntry → Type 0
   EntrySays es None = EachAt h Never (map (entry_rule t) es)
   EntrySays es (Some d) =
       IsBest h (map (entry_rule t) es) (entry_rule t d)
@@ -47,7 +47,7 @@ module _ (h : HeaderOf) (t : LeafTable) where
   entry-next e es None s a false u = (λ v. true_not_false (sym v ∙ u), s)
   entry-next e es (Some d) s a false u = (later (λ v. absurd (true_not_false (sym v ∙ u))) s.0, λ x ax. s.1 x ax.1, λ n l. s.2 n l.1)
 
-  entry-says : (es : List LeafEntry) → EachPair AreApart es → EntrySays es (best_entry es h)
+  pub entry-says : (es : List LeafEntry) → EachPair AreApart es → EntrySays es (best_entry es h)
   entry-says [] a = tt
   entry-says (e ∷ es) a = entry-next e es (best_entry es h) (entry-says es a.1) a.0 (holds e.m h) refl
 
@@ -85,7 +85,7 @@ module _ (ports : List ℕ) (t : LeafTable) (good : IsSoundTable t) where
     outer-untouched false = tt
 
     -- the best of the rules for any header, in the one cell that holds the header, is the best of all
-    best-placed : (b : Bool) (r : Rule) (c : MatchOf) → IsOnly h (cells ports t) c → 0 < r.level → IsBest h inside r → IsBest h (outer b ++ placed) (narrowed r (both r.m c))
+    pub best-placed : (b : Bool) (r : Rule) (c : MatchOf) → IsOnly h (cells ports t) c → 0 < r.level → IsBest h inside r → IsBest h (outer b ++ placed) (narrowed r (both r.m c))
     best-placed b r c o pos p =
         best-append_right h (outer b) (outer-low b r.level pos)
         (best-flat_map h (in_cells (cells ports t)) (narrowed r (both r.m c)) (best-in_cells h r o (best_holds h p)) (λ x low. cell-part h x (Below r.level) (cells ports t) (λ u m. low u)) p)

@@ -52,7 +52,7 @@ pub record Linked (h : HeaderOf) (size : ℕ) (r : RewriteOf) (to : ℕ) (a x y 
   pub right : holds x.m (arriving r to h) ≡ true
   pub level : y.level ≡ concat_level a.level x.level size
 
-linked-holds : (h : HeaderOf) (k : ℕ) (r : RewriteOf) (to : ℕ) (a x y : Rule) → AtPort to x → hop_rule k r a x ≡ Some y → holds y.m h ≡ true → Linked h k r to a x y
+pub linked-holds : (h : HeaderOf) (k : ℕ) (r : RewriteOf) (to : ℕ) (a x y : Rule) → AtPort to x → hop_rule k r a x ≡ Some y → holds y.m h ≡ true → Linked h k r to a x y
 linked-holds h k r to a x y g e t =
     let n = without_port x.m in
     let s : (can_pull r n ≡ true) × (overlaps a.m (pulled r n) ≡ true) × (link_of k r a x ≡ y) = some_pulled (hopped k r a x) a.m n r y e in
@@ -61,7 +61,7 @@ linked-holds h k r to a x y g e t =
     let pull = holds-pulled r n h (normal-guarded n (normal-without_port x.m g.sound.is_normal)) in
     record { left = w.0; right = port-holds x.m (apply r h) to g.port ∙ (sym pull ∙ join_and _ _ w.1 s.0); level = sym (ap (λ (z : Rule). z.level) s.2) }
 
-link-there : (h : HeaderOf) (k : ℕ) (r : RewriteOf) (to : ℕ) (a b : Rule) → AtPort to b → holds a.m h ≡ true → holds b.m (arriving r to h) ≡ true → (hop_rule k r a b ≡ Some (link_of k r a b)) × (holds (both a.m (pulled r (without_port b.m))) h ≡ true)
+pub link-there : (h : HeaderOf) (k : ℕ) (r : RewriteOf) (to : ℕ) (a b : Rule) → AtPort to b → holds a.m h ≡ true → holds b.m (arriving r to h) ≡ true → (hop_rule k r a b ≡ Some (link_of k r a b)) × (holds (both a.m (pulled r (without_port b.m))) h ≡ true)
 link-there h k r to a b g p q =
     let n = without_port b.m in
     let pull = holds-pulled r n h (normal-guarded n (normal-without_port b.m g.sound.is_normal)) in
@@ -85,7 +85,7 @@ met-lower h n k x y u t low =
 abbrev met_at : ℕ → Rule → Option Rule
 met_at port a = rule_met a (at_port port)
 
-best-met : (h : HeaderOf) (n : MatchOf) {xs : List Rule} {a : Rule} → AllByRecursion IsSound xs → holds n h ≡ true → IsBest h xs a → IsBest h (filter_map (λ x. rule_met x n) xs) (narrowed a (both a.m n))
+pub best-met : (h : HeaderOf) (n : MatchOf) {xs : List Rule} {a : Rule} → AllByRecursion IsSound xs → holds n h ≡ true → IsBest h xs a → IsBest h (filter_map (λ x. rule_met x n) xs) (narrowed a (both a.m n))
 best-met h n {a = a} g e p =
     let m = meet_there a.m n h (best_holds h p) e in
     best-filter_map h h (λ x. rule_met x n) IsSound (narrowed a (both a.m n)) (is_met (narrowed a) a.m n m.1) m.0 (λ x y _ u t low. met-lower h n a.level x y u t low) g p

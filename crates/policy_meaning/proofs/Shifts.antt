@@ -22,7 +22,7 @@ shift-part : (k : ℕ) (x : Rule) (P : Rule → Type 0) (h : HeaderOf) → (hold
 shift-part k x P h up = part k x P h up x.touched refl
 
 module _ (h : HeaderOf) (xs bs : List Rule) where
-  best-touched : (k : ℕ) (a b : Rule) → a.touched ≡ true → IsBest h xs a → IsBest h bs b → b.level < k →
+  pub best-touched : (k : ℕ) (a b : Rule) → a.touched ≡ true → IsBest h xs a → IsBest h bs b → b.level < k →
       IsBest h (flat_map (shifts_with k) xs ++ bs) (lifted (shift_level a.level k) a)
   best-touched k a b t p q lt =
       best-append_left h

@@ -53,7 +53,7 @@ below-size a b n k p q = omega arith
 
 module _ (h : HeaderOf) (xs bs : List Rule) where
   -- the rule of the two best ones is the best
-  best-sum : (a b : Rule) → IsBest h xs a → IsBest h bs b → IsBest h (flat_map (sums_with bs) xs) (sum_of a b)
+  pub best-sum : (a b : Rule) → IsBest h xs a → IsBest h bs b → IsBest h (flat_map (sums_with bs) xs) (sum_of a b)
   best-sum a b p q =
       let m = meet_there a.m b.m h (best_holds h p) (best_holds h q) in
       best-flat_map h (sums_with bs) (sum_of a b)

@@ -11,7 +11,8 @@ use Rattle.of10_match.proofs.Same.{match_decides}
 use Rattle.of10_actions.specs.contracts.action.ActionPartialEq.TheImpl.{ghosts as derived_action}
 use Rattle.of10_actions.specs.declared.action.Action.{Action}
 use Rattle.of10_actions.specs.declared.action.Action.TheVariants.{Output, SetVlanVid, SetVlanPcp, StripVlan, SetDlSrc, SetDlDst, SetNwSrc, SetNwDst, SetNwTos, SetTpSrc, SetTpDst, Enqueue}
-use Rattle.switch_meaning.specs.Same.{same_action, same_entry}
+use Rattle.of10_actions.specs.Same.{same_action}
+use Rattle.switch_meaning.specs.Same.{same_entry}
 use Rattle.switch_meaning.specs.declared.entry.PhysEntry.{PhysEntry}
 use Rattle.switch_meaning.proofs.Items.{split_and}
 

@@ -8,7 +8,7 @@ use Rattle.of10_actions.specs.declared.action.Action.{Action}
 use Rattle.of10_actions.specs.declared.action.Action.TheVariants.{SetDlSrc, SetDlDst, SetNwSrc, SetNwDst, SetNwTos, SetTpSrc, SetTpDst}
 use Rattle.switch_meaning.specs.Firing.{fire}
 use Rattle.switch_meaning.specs.Placing.{sets, set_unless}
-use Rattle.switch_meaning.specs.Same.{same_action}
+use Rattle.of10_actions.specs.Same.{same_action}
 
 -- a field that is set to what it is
 set-twice : (b : Bool) (o : Option ℕ) (v x : ℕ) → o ≡ Some v → set_to b (Some v) (set_to b o x) ≡ set_to b o x

@@ -13,7 +13,7 @@ use Rattle.of10_actions.specs.declared.effects.Dest.{Dest}
 use Rattle.of10_actions.specs.declared.effects.Dest.TheVariants.{Port, Flood, Ingress, Tell}
 use Rattle.of10_actions.specs.declared.effects.Out.{Out}
 use Rattle.of10_actions.specs.Numbers.{IN_PORT, CONTROLLER}
-use Rattle.switch_meaning.specs.Same.{same_action}
+use Rattle.of10_actions.specs.Same.{same_action}
 use Rattle.switch_meaning.specs.Wirings.{outside_at, next_hop}
 use Rattle.switch_meaning.specs.declared.entry.FlatRule.{FlatRule}
 use Rattle.switch_meaning.specs.declared.entry.PhysEntry.{PhysEntry}
