@@ -9,3 +9,4 @@ pub mod Wildcards
 pub mod Order
 pub mod Examples
 pub mod Same
+pub mod Highest
