@@ -39,7 +39,8 @@ use Rattle.policy_meaning.proofs.Everywhere.{sound-fabric, switch-sound, table-s
 use Rattle.policy_meaning.proofs.LeafLemmas.{leaf_fact}
 use Rattle.policy_meaning.proofs.Lists.{all-map}
 use Rattle.policy_meaning.proofs.Meeting.{is_met, is_pulled, meet_holds, meet_there, some_met, some_pulled}
-use Rattle.policy_meaning.proofs.Nodes.{AtPort, link_of, node-at, port-holds}
+use Rattle.policy_meaning.proofs.Cells.{narrowed}
+use Rattle.policy_meaning.proofs.Nodes.{AtPort, best-met, link-there, link_of, linked-holds, node-at}
 use Rattle.policy_meaning.proofs.Normality.{normal-without_port}
 use Rattle.policy_meaning.proofs.Peers.{leading, peer-size, positive}
 use Rattle.explain_path.specs.Traces.{asked, asked_member, does, trace, traced_on}
@@ -93,47 +94,8 @@ pub record HopUses (h : HeaderOf) (rules : List Rule) (size : ℕ) (leaves : Lis
 abbrev met_at : ℕ → Rule → Option Rule
 met_at port a = rule_met a (at_port port)
 
-abbrev at_meet : Rule → MatchOf → Rule
-at_meet a m = record a { m = m }
-
-met-lower : (h : HeaderOf) (n : MatchOf) (k : ℕ) (x y : Rule) → rule_met x n ≡ Some y → holds y.m h ≡ true → (holds x.m h ≡ true → x.level < k) → y.level < k
-met-lower h n k x y u t low =
-    let s = some_met (at_meet x) x.m n y u in
-    let w : holds (both x.m n) h ≡ true = ap (λ (z : Rule). holds z.m h) s.1 ∙ t in
-    let l : x.level < k = low (meet_holds x.m n h w s.0).0 in
-    let e : x.level ≡ y.level = ap (λ (z : Rule). z.level) s.1 in
-    omega arith
-
 at_port-holds : (h : HeaderOf) → holds (at_port h.in_port) h ≡ true
 at_port-holds h = rw (eq-eqb h.in_port h.in_port refl)
-
-best-met : (h : HeaderOf) (n : MatchOf) {xs : List Rule} {a : Rule} → AllByRecursion IsSound xs → holds n h ≡ true → IsBest h xs a → IsBest h (filter_map (λ x. rule_met x n) xs) (at_meet a (both a.m n))
-best-met h n {a = a} g e p =
-    let m = meet_there a.m n h (best_holds h p) e in
-    best-filter_map h h (λ x. rule_met x n) IsSound (at_meet a (both a.m n)) (is_met (at_meet a) a.m n m.1) m.0 (λ x y _ u t low. met-lower h n a.level x y u t low) g p
-
--- what is known of a rule of two that holds a header
-record Linked (h : HeaderOf) (size : ℕ) (r : RewriteOf) (to : ℕ) (a x y : Rule) : Type 0 where
-  left : holds a.m h ≡ true
-  right : holds x.m (arriving r to h) ≡ true
-  level : y.level ≡ concat_level a.level x.level size
-
-linked : (h : HeaderOf) (k : ℕ) (r : RewriteOf) (to : ℕ) (a x y : Rule) → AtPort to x → hop_rule k r a x ≡ Some y → holds y.m h ≡ true → Linked h k r to a x y
-linked h k r to a x y g e t =
-    let n = without_port x.m in
-    let s : (can_pull r n ≡ true) × (overlaps a.m (pulled r n) ≡ true) × (link_of k r a x ≡ y) = some_pulled (hopped k r a x) a.m n r y e in
-    let u : holds (both a.m (pulled r n)) h ≡ true = ap (λ (z : Rule). holds z.m h) s.2 ∙ t in
-    let w = meet_holds a.m (pulled r n) h u s.1 in
-    let pull = holds-pulled r n h (normal-guarded n (normal-without_port x.m g.sound.is_normal)) in
-    record { left = w.0; right = port-holds x.m (apply r h) to g.port ∙ (sym pull ∙ join_and _ _ w.1 s.0); level = sym (ap (λ (z : Rule). z.level) s.2) }
-
-link-there : (h : HeaderOf) (k : ℕ) (r : RewriteOf) (to : ℕ) (a b : Rule) → AtPort to b → holds a.m h ≡ true → holds b.m (arriving r to h) ≡ true → (hop_rule k r a b ≡ Some (link_of k r a b)) × (holds (both a.m (pulled r (without_port b.m))) h ≡ true)
-link-there h k r to a b g p q =
-    let n = without_port b.m in
-    let pull = holds-pulled r n h (normal-guarded n (normal-without_port b.m g.sound.is_normal)) in
-    let s = split_and (holds (pulled r n) h) (can_pull r n) (pull ∙ (sym (port-holds b.m (apply r h) to g.port) ∙ q)) in
-    let m = meet_there a.m (pulled r n) h p s.0 in
-    (is_pulled (hopped k r a b) a.m n r s.1 m.1, m.0)
 
 module _ (net : Network) (good : IsSoundNetwork net) where
   abbrev f : Fabric
@@ -174,14 +136,14 @@ module _ (net : Network) (good : IsSoundNetwork net) where
     lower-by k x lt None e = (λ t. high x.level k over 0 (lt t) over-positive, tt)
     lower-by k x lt (Some on) e =
         at-filter_map h (arriving on.rewrite on.place.port h) (hop_rule over on.rewrite x) (AtPort on.place.port) (Below over) (Below (k * over)) (node f n on.place.v on.place.port)
-        (λ b y gb w t low. let c = linked h over on.rewrite on.place.port x b y gb w t in let at = c.level in let up = high x.level k over b.level (lt c.left) (low c.right) in omega arith)
+        (λ b y gb w t low. let c = linked-holds h over on.rewrite on.place.port x b y gb w t in let at = c.level in let up = high x.level k over b.level (lt c.left) (low c.right) in omega arith)
         (nodes n on.place.v on.place.port) (bounded x.tail on e)
 
     lower : (k : ℕ) (x : Rule) → (holds x.m h ≡ true → x.level < k) → EachAt h (Below (k * over)) (makes x)
     lower k x lt = lower-by k (at_node v h.in_port x) lt (leads x.tail links h.in_port) refl
 
     abbrev base : Rule
-    base = at_meet u.says.rule (both u.says.rule.m (at_port h.in_port))
+    base = narrowed u.says.rule (both u.says.rule.m (at_port h.in_port))
 
     base-best : IsBest h (filter_map (met_at h.in_port) xs) base
     base-best = best-met h (at_port h.in_port) sound (at_port-holds h) u.says.best
@@ -191,7 +153,7 @@ module _ (net : Network) (good : IsSoundNetwork net) where
 
     linked-lower : (r : RewriteOf) (to : ℕ) (b x y : Rule) → AtPort to x → hop_rule over r stood x ≡ Some y → holds y.m h ≡ true → (holds x.m (arriving r to h) ≡ true → x.level < b.level) → y.level < concat_level base.level b.level over
     linked-lower r to b x y gx z w low =
-        let c = linked h over r to stood x y gx z w in
+        let c = linked-holds h over r to stood x y gx z w in
         let l : x.level < b.level = low c.right in
         let at = c.level in
         omega arith

@@ -15,7 +15,7 @@ use Rattle.policy_meaning.specs.declared.rule.Rule.{Rule}
 use Rattle.policy_meaning.proofs.Booleans.{true_not_false}
 use Rattle.policy_meaning.proofs.BestLemmas.{Any, Never, at-any, at-flat_map, at-never, best-append_right, best-flat_map, best_holds, best_most}
 use Rattle.policy_meaning.proofs.Cells.{IsOnly, best-in_cells, cell-part, inside-only, narrowed, none-in_cells, none-outside, outside-misses}
-use Rattle.policy_meaning.proofs.Meeting.{meet_there}
+use Rattle.policy_meaning.proofs.LeafLemmas.{EntrySays, best-placed, entry-says}
 use Rattle.explain_path.specs.Traces.{entry_kind, kind_of}
 
 -- the rule is best, and is of this leaf
@@ -23,34 +23,6 @@ pub record BestOf (h : HeaderOf) (rules : List Rule) (leaves : List Leaf) : Type
   pub rule : Rule
   pub best : IsBest h rules rule
   pub is : rule.ancestry ≡ leaves
-
-module _ (h : HeaderOf) (t : LeafTable) where
-  -- no entry holds the header, or the rule of the best one is the best
-  abbrev EntrySays : List LeafEntry → Option LeafEntry → Type 0
-  EntrySays es None = EachAt h Never (map (entry_rule t) es)
-  EntrySays es (Some d) =
-      IsBest h (map (entry_rule t) es) (entry_rule t d)
-      × ((e : LeafEntry) → AllByRecursion (AreApart e) es → AreApart e d)
-      × ((n : ℕ) → AllByRecursion (IsSoundEntry n) es → IsSoundEntry n d)
-
-  entry-over : (e d : LeafEntry) (es : List LeafEntry) → EntrySays es (Some d) → AllByRecursion (AreApart e) es → holds e.m h ≡ true → (b : Bool) → nat_lt e.rank d.rank ≡ b → EntrySays (e ∷ es) (Some (if b then d else e))
-  entry-over e d es s a u true v = (later (λ _. (s.1 e a).up (ltb-true e.rank d.rank v)) s.0, λ x ax. s.1 x ax.1, λ n l. s.2 n l.1)
-  entry-over e d es s a u false v =
-      let o = (meet_there e.m d.m h u (best_holds h s.0)).1 in
-      let ne : e.rank ≡ d.rank → ⊥ = λ q. true_not_false (sym o ∙ (s.1 e a).disjoint q) in
-      let le : d.rank ≤ e.rank = ltb-false e.rank d.rank v in
-      let lt : d.rank < e.rank = omega arith in
-      (first u (best_most h s.0 e.level ((s.1 e a).down lt)), λ x ax. ax.0, λ n l. l.0)
-
-  entry-next : (e : LeafEntry) (es : List LeafEntry) (o : Option LeafEntry) → EntrySays es o → AllByRecursion (AreApart e) es → (b : Bool) → holds e.m h ≡ b → EntrySays (e ∷ es) (if b then higher e o else o)
-  entry-next e es None s a true u = (first u (at-never h (Below e.level) (map (entry_rule t) es) s), λ x ax. ax.0, λ n l. l.0)
-  entry-next e es (Some d) s a true u = entry-over e d es s a u (nat_lt e.rank d.rank) refl
-  entry-next e es None s a false u = (λ v. true_not_false (sym v ∙ u), s)
-  entry-next e es (Some d) s a false u = (later (λ v. absurd (true_not_false (sym v ∙ u))) s.0, λ x ax. s.1 x ax.1, λ n l. s.2 n l.1)
-
-  entry-says : (es : List LeafEntry) → EachPair AreApart es → EntrySays es (best_entry es h)
-  entry-says [] a = tt
-  entry-says (e ∷ es) a = entry-next e es (best_entry es h) (entry-says es a.1) a.0 (holds e.m h) refl
 
 module _ (ports : List ℕ) (t : LeafTable) (good : IsSoundTable t) (h : HeaderOf) (at : has_port ports h.in_port ≡ true) where
   -- the rules for any header
@@ -74,26 +46,17 @@ module _ (ports : List ℕ) (t : LeafTable) (good : IsSoundTable t) (h : HeaderO
   outside-best e false o = absurd (true_not_false (sym (none-outside ports t h at o) ∙ e))
   outside-best e true o = record { rule = outside_rule t; best = first refl (at-never h (Below 0) placed (none-placed e)); is = refl }
 
-  outer-low : (b : Bool) (n : ℕ) → 0 < n → EachAt h (Below n) (outer b)
-  outer-low true n pos = (λ _. pos, tt)
-  outer-low false n pos = tt
-
-  best-placed : (b : Bool) (r : Rule) (c : MatchOf) → IsOnly h (cells ports t) c → 0 < r.level → IsBest h inside r → IsBest h (outer b ++ placed) (narrowed r (both r.m c))
-  best-placed b r c o pos p =
-      best-append_right h (outer b) (outer-low b r.level pos)
-      (best-flat_map h (in_cells (cells ports t)) (narrowed r (both r.m c)) (best-in_cells h r o (best_holds h p)) (λ x low. cell-part h x (Below r.level) (cells ports t) (λ u m. low u)) p)
-
   inside-best : (b : Bool) (c : MatchOf) → IsOnly h (cells ports t) c → (o : Option LeafEntry) → EntrySays h t t.entries o → BestOf h (outer b ++ placed) (of (entry_kind o))
   inside-best b c only None none = record {
     rule = narrowed (miss_rule t) (both (miss_rule t).m c);
-    best = best-placed b (miss_rule t) c only (omega arith) (first refl (at-never h (Below 1) (map (entry_rule t) t.entries) none));
+    best = best-placed ports t good h at b (miss_rule t) c only (omega arith) (first refl (at-never h (Below 1) (map (entry_rule t) t.entries) none));
     is = refl;
   }
   inside-best b c only (Some d) says =
       let l = says.2 t.size good.entries in
       record {
         rule = narrowed (entry_rule t d) (both d.m c);
-        best = best-placed b (entry_rule t d) c only (let l0 : 1 < d.level = l.above in omega arith) (later (λ _. l.above) says.0);
+        best = best-placed ports t good h at b (entry_rule t d) c only (let l0 : 1 < d.level = l.above in omega arith) (later (λ _. l.above) says.0);
         is = refl;
       }
 

@@ -1,7 +1,10 @@
 pub mod Ancestries
 pub mod Batched
+pub mod Candidates
 pub mod Cookies
+pub mod Copying
 pub mod Counting
+pub mod Finding
 pub mod Flat
 pub mod Keyed
 pub mod Merging

@@ -133,23 +133,3 @@ by_key-sorted g (p ∷ ps) r a = by (g p) a.0 (by_key-sorted g ps r.1 a.1)
     by : (o : Option PhysEntry) → MatchOption o (Unit {0}) (λ e. key_of e ≡ p.0) → by_key rest ≡ rest → by_key (option_to_list o ++ rest) ≡ option_to_list o ++ rest
     by None u h = h
     by (Some e) u h = ap (put_by_key e) h ∙ front g e ps (subst (λ (k : Key). AllByRecursion (λ (z : Key). order k z ≡ Less) (keys_of ps)) (sym u) r.0) a.1
-
--- a key above all others comes last
-pub insert-last : (es rest : Slots) (k : Key) (v : Slot) → Rise (es ++ (k, v) ∷ rest) → insert_entry order es k v ≡ es ++ (k, v) ∷ []
-unfolding IsStrictlySortedBy
-insert-last [] rest k v r = refl
-insert-last (e ∷ es) rest k v r =
-    let less : order e.0 k ≡ Less = key-above e.0 (k, v) (in-right es ((k, v) ∷ rest) here) r.0 in
-    ap (λ o. match_ordering o ((k, v) ∷ e ∷ es) ((e.0, v) ∷ es) (e ∷ insert_entry order es k v)) (turned e.0 k less) ∙ ap (λ xs. e ∷ xs) (insert-last es rest k v r.1)
-
-append-once : (es rest : Slots) (p : Key × Slot) → (es ++ p ∷ []) ++ rest ≡ es ++ p ∷ rest
-append-once [] rest p = refl
-append-once (e ∷ es) rest p = ap (λ xs. e ∷ xs) (append-once es rest p)
-
--- one slot more is copied
-pub copy-step : (copied copied' rest rest' slots : Slots) (k : Key) (v w : Slot) → rest ≡ (k, v) ∷ rest' → w ≡ v → Rise slots → copied ++ rest ≡ slots → copied' ≡ insert_entry order copied k w
-    → copied' ++ rest' ≡ slots
-copy-step copied copied' rest rest' slots k v w e same r i is =
-    let all = ap (λ xs. copied ++ xs) (sym e) ∙ i in
-    let last = insert-last copied rest' k v (subst Rise (sym all) r) in
-    ap (λ xs. xs ++ rest') (is ∙ (ap (insert_entry order copied k) same ∙ last)) ∙ (append-once copied rest' (k, v) ∙ all)

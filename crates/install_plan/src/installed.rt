@@ -2,6 +2,8 @@
 ghost use Rattle.std.specs.Prelude.{◌≡◌, ◌==◌, [], false, IfOk, OnErr, OnOk, length, map};
 ghost use Rattle.std.specs.List.{Contains, list_any};
 
+use crate::choosing::{first_among, written};
+use crate::finder::Finder;
 use crate::key::Key;
 use crate::listing::{copied, count, listed};
 use crate::numbering::{number_all, number_whole};
@@ -9,6 +11,7 @@ use crate::slot::Slot;
 use crate::slots::{keep_all, open, put_into, restore_all, save, take_from};
 use crate::written::{Batch, Written};
 use cv_io::{Duplicate, List, Memory};
+use of10_match::Header;
 use std::alloc::Global;
 use std::collections::BTreeMap;
 use std::marker::Model;
@@ -20,22 +23,26 @@ use switch_meaning::PhysEntry;
 pub struct Installed {
     alloc: Global,
     slots: BTreeMap<Key, Slot>,
+    /// It knows the keys of all slots, also of those that are empty.
+    finder: Finder,
     /// The slots that changed since the table was kept, as they were then.
     saved: BTreeMap<Key, Slot>,
 }
 
 impl Model for Installed {
     ghost use Rattle.install_plan.specs.Tables.{InstalledOf};
+    ghost use Rattle.install_plan.specs.InsideFinder.{AreKnown};
     ghost use Rattle.install_plan.specs.InsideSlots.{AreKept, as_is, as_saved, table_by};
 
     ghost Value = { InstalledOf };
 
     ghost view = { λ a. record { now = table_by as_is a.slots.entries; before = table_by (as_saved a.saved.entries) a.slots.entries } };
 
-    ghost invariant = { λ a. AreKept a.slots.entries a.saved.entries };
+    ghost invariant = { λ a. AreKept a.slots.entries a.saved.entries × AreKnown a.finder a.slots.entries };
 }
 
 impl Installed {
+    ghost use Rattle.install_plan.specs.Best.{IsBest};
     ghost use Rattle.install_plan.specs.Tables.{Adds, Exchanges, IsBatch, IsTable, entry_of, numbered, same_place};
 
     /// No entries. It takes no memory.
@@ -46,6 +53,7 @@ impl Installed {
         Installed {
             alloc,
             slots: BTreeMap::new(alloc),
+            finder: Finder::new(alloc),
             saved: BTreeMap::new(alloc),
         }
     }
@@ -72,6 +80,19 @@ impl Installed {
         listed(self.alloc, &self.slots)
     }
 
+    /// A copy of the entry that the switch uses for a header: of those that stand there and hold it the
+    /// one of the highest rank, and of one rank that of the least cookie. An index of the matches finds
+    /// those that hold it.
+    pub fn best(&self, header: &Header) -> Result<Option<Written>, Memory>
+        ensures { IfOk result (IsBest header.now self.now.now.standing) }
+    {
+        let keys = self.finder.holding(self.alloc, header)?;
+        match first_among(&self.slots, keys.as_slice(), header) {
+            Some(first) => written(&self.slots, &first.key),
+            None => Ok(None),
+        }
+    }
+
     /// Takes an entry out, where it is there.
     fn take_out(&mut self, gone: &PhysEntry) -> Result<(), Memory>
         ensures taken { Contains self.old.now.entries gone.now → OnOk result (Adds gone.now self.new.now.entries self.old.now.entries) }
@@ -90,6 +111,7 @@ impl Installed {
     {
         let key = Key::of(come);
         let copied = come.copy()?;
+        self.finder.insert(&key, &come.m)?;
         open(self.alloc, &mut self.slots, &key)?;
         save(&self.slots, &mut self.saved, &key)?;
         put_into(&mut self.slots, &key, copied)
@@ -128,7 +150,7 @@ impl Installed {
     pub fn keep(&mut self)
         ensures { self.new ≡ record { now = self.old.now; before = self.old.now } }
     {
-        keep_all(&mut self.slots, &mut self.saved);
+        keep_all(&mut self.slots, &mut self.finder, &mut self.saved);
     }
 
     /// Makes the table what it was as it was last kept: before the last change, and before what was
@@ -136,7 +158,7 @@ impl Installed {
     pub fn undo(&mut self)
         ensures { self.new ≡ record { now = self.old.before; before = self.old.before } }
     {
-        restore_all(&mut self.slots, &mut self.saved);
+        restore_all(&mut self.slots, &mut self.finder, &mut self.saved);
     }
 
     /// Takes entries out that were handed over, puts others in, and gives the batch that makes the new
@@ -185,6 +207,7 @@ impl Duplicate for Installed {
         Ok(Installed {
             alloc: self.alloc,
             slots: copied(self.alloc, &self.slots)?,
+            finder: self.finder.copied(self.alloc)?,
             saved: copied(self.alloc, &self.saved)?,
         })
     }

@@ -3,6 +3,8 @@
 //! old one, and costs what changes.
 #![tactic(auto)]
 
+mod choosing;
+mod finder;
 pub mod installed;
 mod key;
 mod listing;

@@ -40,13 +40,16 @@ pub fn listed(alloc: Global, slots: &BTreeMap<Key, Slot>) -> Result<List<Written
     Ok(list)
 }
 
-/// The same slots.
-pub fn copied(alloc: Global, slots: &BTreeMap<Key, Slot>) -> Result<BTreeMap<Key, Slot>, Memory>
-    ensures { IfOk result (λ copied. copied.entries ≡ slots.now.entries) }
+/// The same values under the same keys.
+pub fn copied<V: Duplicate + Drop>(
+    alloc: Global,
+    map: &BTreeMap<Key, V>,
+) -> Result<BTreeMap<Key, V>, Memory>
+    ensures { IfOk result (λ copied. copied.entries ≡ map.now.entries) }
 {
     let mut copied = BTreeMap::new(alloc);
-    for (key, slot) in slots.iter() {
-        copied.insert(*key, slot.copy()?)?;
+    for (key, value) in map.iter() {
+        copied.insert(*key, value.copy()?)?;
     }
     Ok(copied)
 }

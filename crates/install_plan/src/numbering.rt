@@ -6,6 +6,7 @@ ghost use Rattle.std.specs.Option.{option_copied};
 ghost use Rattle.install_plan.specs.InsideSlots.{AreKept, Slots, as_is, as_saved, key_of, order, slot_at, table_by, top};
 ghost use Rattle.install_plan.specs.InsideNumbering.{IsNumberedAt, come, cookie_for, entries_at, gone, head, is_same_head, numbered_at, past};
 ghost use Rattle.install_plan.specs.Tables.{IsBatch, entry_of, numbered};
+ghost use Rattle.install_plan.specs.declared.key.Key.{Key as KeyOf};
 
 use crate::key::Key;
 use crate::slot::Slot;
@@ -104,6 +105,7 @@ pub fn number_all(
     next: u64,
 ) -> Result<Batch, Memory>
     requires { AreKept slots.old.entries saved.now.entries }
+    ensures only { (q : KeyOf) → IsSome (slot_at q slots.new.entries) → IsSome (slot_at q slots.old.entries) }
     ensures kept { AreKept slots.new.entries saved.now.entries }
     ensures entries { (table_by as_is slots.new.entries).entries ≡ (table_by as_is slots.old.entries).entries }
     ensures before { table_by (as_saved saved.now.entries) slots.new.entries ≡ table_by (as_saved saved.now.entries) slots.old.entries }
@@ -140,6 +142,7 @@ pub fn number_whole(
     next: u64,
 ) -> Result<List<Written>, Memory>
     requires { AreKept slots.old.entries saved.old.entries }
+    ensures only { (q : KeyOf) → IsSome (slot_at q slots.new.entries) → IsSome (slot_at q slots.old.entries) }
     ensures kept { AreKept slots.new.entries saved.new.entries }
     ensures entries { (table_by as_is slots.new.entries).entries ≡ (table_by as_is slots.old.entries).entries }
     ensures before { table_by (as_saved saved.new.entries) slots.new.entries ≡ table_by (as_saved saved.old.entries) slots.old.entries }

@@ -3,7 +3,6 @@ pub mod Happening
 pub mod Moving
 pub mod Rows
 pub mod Summing
-pub mod Copying
 pub mod Ever
 pub mod Adding
 pub mod Acts

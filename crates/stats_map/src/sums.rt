@@ -40,26 +40,16 @@ fn is_first(ancestry: &[Leaf], place: usize) -> bool
     !ancestry[..place].contains(&ancestry[place])
 }
 
-/// Puts a sum in the place of that of a leaf.
-fn write(sums: &mut BTreeMap<Leaf, Sum>, leaf: &Leaf, sum: Sum)
-    requires { IsSome (sum_at leaf.now sums.old.entries) }
-    ensures { (q : LeafOf) → sum_at q sums.new.entries ≡ (if same_leaf leaf.now q then Some sum else sum_at q sums.old.entries) }
-{
-    if let Some(place) = sums.get_mut(leaf) {
-        *place = sum;
-    }
-}
-
 /// What happens to the sum of one leaf.
 fn change_one(sums: &mut BTreeMap<Leaf, Sum>, leaf: &Leaf, event: &Event)
     requires { IfSome (sum_at leaf.now sums.old.entries) (Allows event.now) }
     ensures { (q : LeafOf) → sum_at q sums.new.entries ≡ (if same_leaf leaf.now q then option_and_then (changed_by event.now) (sum_at leaf.now sums.old.entries) else sum_at q sums.old.entries) }
 {
-    let Some(sum) = sums.get(leaf).copied() else {
+    let Some(sum) = sums.get_mut(leaf) else {
         return;
     };
     match sum.after(event) {
-        Some(sum) => write(sums, leaf, sum),
+        Some(next) => *sum = next,
         None => {
             sums.remove(leaf);
         }

@@ -1,4 +1,4 @@
-use Rattle.stats_map.proofs.Copying.{copy-step}
+use Rattle.install_plan.proofs.Copying.{copy-step}
 use Rattle.stats_map.proofs.Rows.{place_total}
 use Rattle.stats_map.proofs.copies.copied_cookies.Goals as goal
 

@@ -2,7 +2,7 @@ use Rattle.std.proofs.Common.{refl}
 use Rattle.std.specs.Cmp.{IsTotalOrder, nat_cmp_total, on_total, then_total}
 use Rattle.cv_io.specs.Leaves.{leaf_cmp}
 use Rattle.cv_io.specs.declared.leaf.Leaf.{Leaf}
-use Rattle.stats_map.proofs.Copying.{copy-step}
+use Rattle.install_plan.proofs.Copying.{copy-step}
 use Rattle.stats_map.proofs.copies.copied_sums.Goals as goal
 
 leaf_total : IsTotalOrder leaf_cmp
