@@ -3,13 +3,13 @@
 use std::collections::{BTreeMap, HashMap};
 use std::env;
 
-#[derive(Clone, Copy, PartialEq, Eq)]
+#[derive(Clone, Copy, PartialEq, Eq, Hash)]
 struct Prefix {
     addr: u32,
     len: u8,
 }
 
-#[derive(Clone, Copy, Default, PartialEq, Eq)]
+#[derive(Clone, Copy, Default, PartialEq, Eq, Hash)]
 struct Match {
     in_port: Option<u16>,
     dl_src: Option<u64>,
@@ -63,6 +63,107 @@ impl Match {
     }
 }
 
+#[derive(Clone, Copy)]
+struct Header {
+    in_port: u16,
+    dl_src: u64,
+    dl_dst: u64,
+    dl_vlan: u16,
+    dl_vlan_pcp: u8,
+    dl_type: u16,
+    nw_tos: u8,
+    nw_proto: u8,
+    nw_src: u32,
+    nw_dst: u32,
+    tp_src: u16,
+    tp_dst: u16,
+}
+
+fn top_bits(addr: u32, len: u8) -> u32 {
+    if len == 0 { 0 } else { addr & u32::MAX << (32 - len) }
+}
+
+/// The fields that a match names.
+#[derive(Clone, Copy, PartialEq)]
+struct Shape {
+    named: u16,
+    src_len: u8,
+    dst_len: u8,
+}
+
+const ALL_NAMED: Shape = Shape { named: 0xfff, src_len: 32, dst_len: 32 };
+
+impl Shape {
+    fn of(m: &Match) -> Shape {
+        let bit = |place: u16, named: bool| u16::from(named) << place;
+        Shape {
+            named: bit(0, m.in_port.is_some())
+                | bit(1, m.dl_src.is_some())
+                | bit(2, m.dl_dst.is_some())
+                | bit(3, m.dl_vlan.is_some())
+                | bit(4, m.dl_vlan_pcp.is_some())
+                | bit(5, m.dl_type.is_some())
+                | bit(6, m.nw_tos.is_some())
+                | bit(7, m.nw_proto.is_some())
+                | bit(8, m.nw_src.is_some())
+                | bit(9, m.nw_dst.is_some())
+                | bit(10, m.tp_src.is_some())
+                | bit(11, m.tp_dst.is_some()),
+            src_len: m.nw_src.map_or(0, |p| p.len),
+            dst_len: m.nw_dst.map_or(0, |p| p.len),
+        }
+    }
+
+    /// The match of this shape that holds the header.
+    fn place(&self, h: &Header) -> Match {
+        let named = |place: u16| self.named >> place & 1 == 1;
+        let prefix = |addr, len| Prefix { addr: top_bits(addr, len), len };
+        Match {
+            in_port: named(0).then_some(h.in_port),
+            dl_src: named(1).then_some(h.dl_src),
+            dl_dst: named(2).then_some(h.dl_dst),
+            dl_vlan: named(3).then_some(h.dl_vlan),
+            dl_vlan_pcp: named(4).then_some(h.dl_vlan_pcp),
+            dl_type: named(5).then_some(h.dl_type),
+            nw_tos: named(6).then_some(h.nw_tos),
+            nw_proto: named(7).then_some(h.nw_proto),
+            nw_src: named(8).then(|| prefix(h.nw_src, self.src_len)),
+            nw_dst: named(9).then(|| prefix(h.nw_dst, self.dst_len)),
+            tp_src: named(10).then_some(h.tp_src),
+            tp_dst: named(11).then_some(h.tp_dst),
+        }
+    }
+}
+
+/// The priorities of matches, found by the fields that these name.
+#[derive(Default)]
+struct Finder {
+    groups: Vec<(Shape, HashMap<Match, Vec<u16>>)>,
+}
+
+impl Finder {
+    fn insert(&mut self, m: &Match, priority: u16) {
+        let shape = Shape::of(m);
+        let place = self.groups.iter().position(|(s, _)| *s == shape).unwrap_or_else(|| {
+            self.groups.push((shape, HashMap::new()));
+            self.groups.len() - 1
+        });
+        self.groups[place].1.entry(*m).or_default().push(priority);
+    }
+
+    fn remove(&mut self, m: &Match, priority: u16) {
+        let shape = Shape::of(m);
+        if let Some((_, group)) = self.groups.iter_mut().find(|(s, _)| *s == shape) {
+            if let Some(priorities) = group.get_mut(m) {
+                priorities.retain(|p| *p != priority);
+                if priorities.is_empty() {
+                    group.remove(m);
+                }
+            }
+        }
+    }
+}
+
 #[derive(Clone, Copy, PartialEq)]
 enum Action {
     Output { port: u16, max_len: u16 },
@@ -109,29 +210,61 @@ struct Slot {
 #[derive(Default)]
 struct Installed {
     slots: BTreeMap<Key, Slot>,
-    /// What changed last, as it was.
-    saved: BTreeMap<Key, Slot>,
+    finder: Finder,
+    /// What changed last, as it was, with the match of the key.
+    saved: BTreeMap<Key, (Match, Slot)>,
 }
 
 impl Installed {
-    fn touch(&mut self, key: Key) -> &mut Slot {
-        let slot = self.slots.entry(key).or_default();
-        self.saved.entry(key).or_insert_with(|| slot.clone());
+    fn touch(&mut self, entry: &Entry) -> &mut Slot {
+        let key = key(entry);
+        let finder = &mut self.finder;
+        let slot = self.slots.entry(key).or_insert_with(|| {
+            finder.insert(&entry.m, entry.priority);
+            Slot::default()
+        });
+        self.saved.entry(key).or_insert_with(|| (entry.m, slot.clone()));
         slot
     }
 
+    fn drop_slot(&mut self, key: &Key, m: &Match) {
+        self.slots.remove(key);
+        self.finder.remove(m, key.0);
+    }
+
+    /// The entry of the highest rank that holds a header, and of one rank that of the least cookie.
+    fn best(&self, h: &Header) -> Option<Written> {
+        let mut best: Option<(u32, &Slot)> = None;
+        for (shape, group) in &self.finder.groups {
+            let place = shape.place(h);
+            let Some(priorities) = group.get(&place) else { continue };
+            let bytes = place.bytes();
+            for priority in priorities {
+                let slot = &self.slots[&(*priority, bytes)];
+                if slot.entries.is_empty() {
+                    continue;
+                }
+                let rank = if *shape == ALL_NAMED { 65536 } else { u32::from(*priority) };
+                if best.is_none_or(|(r, s)| r < rank || r == rank && slot.cookie < s.cookie) {
+                    best = Some((rank, slot));
+                }
+            }
+        }
+        best.map(|(_, slot)| Written { entry: slot.entries[0].clone(), cookie: slot.cookie })
+    }
+
     fn keep(&mut self) {
-        for key in std::mem::take(&mut self.saved).into_keys() {
+        for (key, (m, _)) in std::mem::take(&mut self.saved) {
             if self.slots.get(&key).is_some_and(|slot| slot.entries.is_empty()) {
-                self.slots.remove(&key);
+                self.drop_slot(&key, &m);
             }
         }
     }
 
     fn undo(&mut self) {
-        for (key, old) in std::mem::take(&mut self.saved) {
+        for (key, (m, old)) in std::mem::take(&mut self.saved) {
             if old.entries.is_empty() {
-                self.slots.remove(&key);
+                self.drop_slot(&key, &m);
             } else {
                 self.slots.insert(key, old);
             }
@@ -141,20 +274,20 @@ impl Installed {
     fn change(&mut self, gone: &[Entry], come: &[Entry], mut next: u64) -> Batch {
         self.keep();
         for entry in gone {
-            let slot = self.touch(key(entry));
+            let slot = self.touch(entry);
             if let Ok(place) = slot.entries.binary_search_by(|e| e.ancestry.cmp(&entry.ancestry)) {
                 slot.entries.remove(place);
             }
         }
         for entry in come {
-            let slot = self.touch(key(entry));
+            let slot = self.touch(entry);
             match slot.entries.binary_search_by(|e| e.ancestry.cmp(&entry.ancestry)) {
                 Ok(place) => slot.entries[place] = entry.clone(),
                 Err(place) => slot.entries.insert(place, entry.clone()),
             }
         }
         let mut batch = Batch { deletes: Vec::new(), adds: Vec::new() };
-        for (key, old) in &self.saved {
+        for (key, (_, old)) in &self.saved {
             let slot = self.slots.get_mut(key).unwrap();
             if old.entries.first() == slot.entries.first() {
                 continue;
@@ -174,8 +307,8 @@ impl Installed {
     fn whole(&mut self, mut next: u64) -> Batch {
         let mut adds = Vec::new();
         for (key, slot) in &mut self.slots {
-            self.saved.entry(*key).or_insert_with(|| slot.clone());
             if let Some(entry) = slot.entries.first() {
+                self.saved.entry(*key).or_insert_with(|| (entry.m, slot.clone()));
                 adds.push(Written { entry: entry.clone(), cookie: next });
                 slot.cookie = next;
                 next += 1;
@@ -259,6 +392,23 @@ fn entry(number: u32, priorities: u16, to: u16) -> Entry {
     }
 }
 
+fn header(number: u32) -> Header {
+    Header {
+        in_port: 1,
+        dl_src: 1,
+        dl_dst: 2,
+        dl_vlan: 0xffff,
+        dl_vlan_pcp: 0,
+        dl_type: 0x0800,
+        nw_tos: 0,
+        nw_proto: 6,
+        nw_src: 0x0a00_0001,
+        nw_dst: (0x000a_0000 + number) * 256 + number % 256,
+        tp_src: 4000,
+        tp_dst: 80,
+    }
+}
+
 fn entries(from: u32, count: u32, priorities: u16, to: u16) -> Vec<Entry> {
     (from..from + count).map(|number| entry(number, priorities, to)).collect()
 }
@@ -271,7 +421,7 @@ fn main() {
     let priorities: u16 = words[4].parse().unwrap();
     let mut table = Installed::default();
     let mut counts = Counts::default();
-    let (mut deletes, mut adds, mut cookies, mut reported) = (0, 0, 0u64, 0);
+    let (mut deletes, mut adds, mut cookies, mut reported) = (0, 0, 0u64, 0u64);
     let mut next = 1;
     let mut note = |batch: &Batch, next: &mut u64| {
         deletes += batch.deletes.len();
@@ -309,7 +459,12 @@ fn main() {
             }
             "report" => {
                 let cookie = u64::from(round * 7919 % size) + 1;
-                reported += u32::from(counts.report(0, cookie, u64::from(round), 64 * u64::from(round), false));
+                reported += u64::from(counts.report(0, cookie, u64::from(round), 64 * u64::from(round), false));
+            }
+            "best" => {
+                if let Some(best) = table.best(&header(round * 7919 % size)) {
+                    reported += best.cookie;
+                }
             }
             _ => {}
         }

@@ -15,6 +15,8 @@ pub enum Phase {
     Whole,
     /// A switch reports on one entry.
     Report,
+    /// The entry of one packet is asked for.
+    Best,
 }
 
 /// So many entries of so many priorities, what is done in each round, and how many rounds.
@@ -55,6 +57,7 @@ fn phase_of(word: &str) -> Option<Phase> {
         "undo" => Some(Phase::Undone),
         "whole" => Some(Phase::Whole),
         "report" => Some(Phase::Report),
+        "best" => Some(Phase::Best),
         _ => None,
     }
 }

@@ -4,7 +4,7 @@ ghost use Rattle.of10_match.specs.Ranges.{IsPrefix};
 
 use cv_io::{Leaf, List, Memory};
 use of10_actions::Action;
-use of10_match::{Match, Prefix};
+use of10_match::{Header, IPV4, Match, Prefix, TCP, UNTAGGED};
 use std::alloc::Global;
 use switch_meaning::PhysEntry;
 
@@ -15,6 +15,24 @@ fn net(number: u32) -> Prefix
     Prefix {
         addr: (0x000a_0000 + number % 0x10_0000) * 256,
         len: 24,
+    }
+}
+
+/// A TCP packet of the port to a host of the net of this number.
+pub fn header(number: u32) -> Header {
+    Header {
+        in_port: 1,
+        dl_src: 1,
+        dl_dst: 2,
+        dl_vlan: UNTAGGED,
+        dl_vlan_pcp: 0,
+        dl_type: IPV4,
+        nw_tos: 0,
+        nw_proto: TCP,
+        nw_src: 0x0a00_0001,
+        nw_dst: net(number).addr + number % 256,
+        tp_src: 4000,
+        tp_dst: 80,
     }
 }
 

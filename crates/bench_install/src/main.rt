@@ -14,7 +14,7 @@ fn main(rt: HostRuntime) -> io::Result<()> {
     let _program = words.next();
     let Some(asked) = asked::read(&mut words) else {
         println!(rt;
-            "usage: bench_install [ENTRIES none|one|hundred|undo|whole|report ROUNDS PRIORITIES]"
+            "usage: bench_install [ENTRIES none|one|hundred|undo|whole|report|best ROUNDS PRIORITIES]"
         )?;
         return Ok(());
     };

@@ -1,7 +1,8 @@
 //! What was done.
 use install_plan::Batch;
 
-/// How many entries were deleted and added, the sum of their cookies, and how many reports were taken.
+/// How many entries were deleted and added, the sum of their cookies, and how many reports were taken, or
+/// the sum of the cookies that were found.
 #[derive(Clone, Copy)]
 pub struct Tally {
     pub deletes: u64,

@@ -20,3 +20,6 @@ pub mod worked;
 
 pub use gate::{Gate, GateDelta};
 pub use switch_meaning::PhysEntry;
+
+#[cfg(test)]
+mod tests;
