@@ -1,9 +1,11 @@
 -- The first of the entries that hold a header is among those of the keys that the index finds.
-use Rattle.std.proofs.Common.{◌≡◌, ℕ, ◌<◌, ◌⊎◌, inl, inr, Bool, true, false, cond, ◌&&◌, ◌||◌, List, [], ◌∷◌, ◌++◌, Some, None, refl, sym, ap, subst, ◌∙◌, arith, append-nil, eq-eqb, eqb-true, lt-ltb, true≢false}
+use Rattle.std.proofs.Common.{◌≡◌, ℕ, ◌+◌, ◌<◌, ◌≤◌, ◌⊎◌, inl, inr, Bool, true, false, cond, ◌&&◌, ◌||◌, List, [], ◌∷◌, ◌++◌, Some, None, refl, sym, ap, subst, ◌∙◌, arith, append-nil, eq-eqb, eqb-true, lt-ltb, true≢false, length, get_or, take}
 use Rattle.std.specs.Prelude.{◌==◌, Option, IsSome, flat_map, nat_lt, option_to_list, if◌then◌else◌}
 use Rattle.std.specs.List.{AllByRecursion, Contains, list_any}
 use Rattle.std.specs.Option.{option_and_then}
 use Rattle.std.proofs.lemmas.Bool.{ltb-true}
+use Rattle.std.proofs.lemmas.List.{take_all, take_more}
+use Rattle.std.proofs.lemmas.List.Concat.{flat_map-append}
 use Rattle.of10_match.specs.Fields.{HeaderOf}
 use Rattle.of10_match.specs.Ranges.{IsMatch}
 use Rattle.switch_meaning.specs.declared.entry.PhysEntry.{PhysEntry}
@@ -117,6 +119,19 @@ before-none (Some x) = refl
 pub leads-more : (cs : List Candidate) (best o : Option Candidate) → Leads cs best → Leads (cs ++ option_to_list o) (before best o)
 leads-more cs best (Some y) l = one-more cs y best l
 leads-more cs best None l = subst (λ b. Leads (cs ++ []) b) (sym (before-none best)) (subst (λ xs. Leads xs best) (sym (append-nil cs)) l)
+
+-- the candidate of one key more
+pub leads-next : (slots : Slots) (h : HeaderOf) (keys : List Key) (i : ℕ) (k : Key) (best : Option Candidate) → i < length keys → k ≡ get_or keys i k
+    → Leads (candidates slots h (take i keys)) best → Leads (candidates slots h (take (i + 1) keys)) (before best (candidate_at slots h k))
+leads-next slots h keys i k best lt is l =
+    let each = λ (q : Key). option_to_list (candidate_at slots h q) in
+    let last : each (get_or keys i k) ++ [] ≡ each k = append-nil (each (get_or keys i k)) ∙ ap each (sym is) in
+    let all = ap (flat_map each) (take_more keys i k lt) ∙ (flat_map-append each (take i keys) (get_or keys i k ∷ []) ∙ ap (λ (cs : List Candidate). flat_map each (take i keys) ++ cs) last) in
+    subst (λ (cs : List Candidate). Leads cs (before best (candidate_at slots h k))) (sym all) (leads-more (candidates slots h (take i keys)) best (candidate_at slots h k) l)
+
+-- of all keys
+pub leads-all : (slots : Slots) (h : HeaderOf) (keys : List Key) (i : ℕ) (best : Option Candidate) → length keys ≤ i → Leads (candidates slots h (take i keys)) best → Leads (candidates slots h keys) best
+leads-all slots h keys i best le l = subst (λ (ks : List Key). Leads (candidates slots h ks) best) (take_all i keys le) l
 
 -- what stands of slots, and their candidates
 module _ (slots saved : Slots) (numbers : Numbers) (h : HeaderOf) (keys : List Key) (kept : AreKept slots saved) (known : AreKnown numbers slots) (held : AreHeld numbers h keys) where

@@ -15,7 +15,7 @@ use Rattle.install_plan.specs.declared.written.Written.{Written}
 use Rattle.install_plan.proofs.Batched.{heads_by, is-batch}
 use Rattle.install_plan.proofs.Keyed.{flat-written, found-in, in-found}
 use Rattle.install_plan.proofs.Cookies.{Stands, entries-kept, list-step, new_slot, numbered-entries, numbered-fits, numbered-step, same-entries, saved-stood, stands-first, stands-step}
-use Rattle.install_plan.proofs.Writing.{found, some-found, written-before, written-kept}
+use Rattle.install_plan.proofs.Writing.{found, some-found, written-before, written-kept, written-only}
 
 abbrev pub leaves : Slots → Slots → List Written
 leaves slots rest = flat_map (λ p. option_to_list (gone p.1 (entries_at slots p.0))) rest
@@ -30,6 +30,7 @@ pub record IsAlike (first saved slots : Slots) : Type 0 where
   pub heads : heads_by as_is slots ≡ heads_by as_is first
   pub before : table_by (as_saved saved) slots ≡ table_by (as_saved saved) first
   pub under : (q : Key) → entries_at slots q ≡ entries_at first q
+  pub only : (q : Key) → IsSome (slot_at q slots) → IsSome (slot_at q first)
 
 -- what is left of the saved slots makes of the batch the whole one
 pub record IsNumbered (first saved : Slots) (next : ℕ) (rest slots : Slots) (b : Batch) (cookie : ℕ) : Type 0 where
@@ -41,7 +42,7 @@ pub record IsNumbered (first saved : Slots) (next : ℕ) (rest slots : Slots) (b
   pub stands : Stands (table_by (as_saved saved) first).standing b.adds rest slots
 
 pub alike-itself : (slots saved : Slots) → AreKept slots saved → IsAlike slots saved slots
-alike-itself slots saved kept = record { kept = kept; entries = refl; heads = refl; before = refl; under = λ q. refl }
+alike-itself slots saved kept = record { kept = kept; entries = refl; heads = refl; before = refl; under = λ q. refl; only = λ q s. s }
 
 -- another cookie
 pub alike-numbered : (first saved slots slots' : Slots) (k : Key) → IsSome (slot_at k slots) → IsSome (slot_at k saved) → IsNumberedAt k slots slots' → IsAlike first saved slots → IsAlike first saved slots'
@@ -58,6 +59,7 @@ alike-numbered first saved slots slots' k t u n a =
       heads = heads ∙ a.heads;
       before = written-before k f.0 w slots saved e u ∙ a.before;
       under = λ q. entries-kept k q c slots t ∙ a.under q;
+      only = λ q s. a.only q (written-only k q f.0 w slots e s);
     })
 
 pub numbered-first : (slots saved : Slots) (next : ℕ) (b : Batch) → AreKept slots saved → b.deletes ≡ [] → b.adds ≡ [] → IsNumbered slots saved next saved slots b next

@@ -17,7 +17,7 @@ use Rattle.install_plan.specs.declared.key.Key.{Key}
 use Rattle.install_plan.specs.declared.slot.Slot.{Slot}
 use Rattle.install_plan.proofs.Counting.{count-written}
 use Rattle.install_plan.proofs.Keyed.{at_exact, flat-in, found-in, in-flat, in-found, none-there, order_total}
-use Rattle.install_plan.proofs.Writing.{fit-of, some-found, written-before, written-kept}
+use Rattle.install_plan.proofs.Writing.{fit-of, some-found, written-before, written-kept, written-only}
 
 abbrev pub all : Slots → List PhysEntry
 all slots = flat_map (λ (p : Key × Slot). p.1.entries) slots
@@ -85,6 +85,14 @@ module _ (k : Key) (e : PhysEntry) (slots slots' saved : Slots) (key : k ≡ key
       by None f t = subst (λ (z : Slots). AreKept z saved) (sym t) kept
       by (Some s) f t = subst (λ (z : Slots). AreKept z saved) (sym t.written) (written-kept (key_of e) s t.slot slots saved (at-key s f) t.fits kept)
 
+  -- no other key comes to have a slot
+  pub taken-only : Taken (slot_at k slots) → (q : Key) → IsSome (slot_at q slots') → IsSome (slot_at q slots)
+  taken-only t q u = by (slot_at k slots) refl t
+    where
+      by : (o : Option Slot) → slot_at k slots ≡ o → Taken o → IsSome (slot_at q slots)
+      by None f t = subst (λ (z : Slots). IsSome (slot_at q z)) t u
+      by (Some s) f t = written-only (key_of e) q s t.slot slots (at-key s f) (subst (λ (z : Slots). IsSome (slot_at q z)) t.written u)
+
   pub taken-before : Taken (slot_at k slots) → (IsSome (slot_at k slots) → IsSome (slot_at k saved)) → table_by (as_saved saved) slots' ≡ table_by (as_saved saved) slots
   taken-before t there = by (slot_at k slots) refl t
     where
@@ -118,6 +126,13 @@ module _ (put : Bool) (k : Key) (e : PhysEntry) (slots slots' saved : Slots) (ke
 
   at-key' : (s : Slot) → slot_at k slots ≡ Some s → slot_at (key_of e) slots ≡ Some s
   at-key' s f = ap (λ (z : Key). slot_at z slots) (sym key) ∙ f
+
+  pub put-only : Put (slot_at k slots) → (q : Key) → IsSome (slot_at q slots') → IsSome (slot_at q slots)
+  put-only t q u = by (slot_at k slots) refl there t
+    where
+      by : (o : Option Slot) → slot_at k slots ≡ o → IsSome o → Put o → IsSome (slot_at q slots)
+      by None f there t = none-there there
+      by (Some s) f there t = written-only (key_of e) q s t.slot slots (at-key' s f) (subst (λ (z : Slots). IsSome (slot_at q z)) t.written u)
 
   pub put-kept : Put (slot_at k slots) → AreKept slots' saved
   put-kept t = by (slot_at k slots) refl there t

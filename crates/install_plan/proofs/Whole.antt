@@ -20,7 +20,7 @@ use Rattle.install_plan.specs.declared.written.Written.{Written}
 use Rattle.install_plan.proofs.Batched.{heads-stand, heads_by}
 use Rattle.install_plan.proofs.Keyed.{Rise, at_exact, at_self, first-or-later, flat-in, found-in, found-written, in-flat, in-found, key-above, no-items, order_total}
 use Rattle.install_plan.proofs.Cookies.{none-some, some-same}
-use Rattle.install_plan.proofs.Progress.{IsAlike, alike-numbered}
+use Rattle.install_plan.proofs.Progress.{IsAlike, alike-itself, alike-numbered}
 use Rattle.install_plan.proofs.Writing.{found, some-found}
 
 abbrev pub key_in : Written → Key
@@ -64,7 +64,7 @@ pub renumbered-first : (slots saved : Slots) (adds : List Written) → AreKept s
 renumbered-first slots saved adds kept all e = record {
   fit = kept.fit;
   rise = kept.rise;
-  alike = record { kept = kept; entries = refl; heads = refl; before = refl; under = λ q. refl };
+  alike = alike-itself slots saved kept;
   all_saved = all;
   adds = e ∙ heads-stand as_is slots;
   left = λ w i. i;

@@ -27,6 +27,14 @@ some-cond false w o s = s
 pub some-found : (k : Key) (slots : Slots) (s : Slot) → slot_at k slots ≡ Some s → IsSome (slot_at k slots)
 some-found k slots s e = ap is_some e
 
+-- a slot is written: no other key comes to have one
+pub written-only : (k q : Key) (s w : Slot) (slots : Slots) → slot_at k slots ≡ Some s → IsSome (slot_at q (set_value (is_at (order k)) slots w)) → IsSome (slot_at q slots)
+written-only k q s w slots e t = by (is_at (order k) q) refl
+  where
+    by : (b : Bool) → is_at (order k) q ≡ b → IsSome (slot_at q slots)
+    by true u = subst (λ (z : Key). IsSome (slot_at z slots)) (at_exact k q u) (some-found k slots s e)
+    by false u = subst IsSome (found-written k q s w slots e ∙ ap (λ c. cond c (Some w) (slot_at q slots)) u) t
+
 -- what is found, where there is something
 pub found : (o : Option Slot) → IsSome o → (s : Slot) × (o ≡ Some s)
 found None s = none-there s

@@ -23,6 +23,13 @@ returns-in_err-cookie-clause-kept c =
     let u = next-saved c.args.slots.now.entries c.args.saved.now.entries c.next.new.self c.loop-key.slots.entries c.args.next c.loop-key.cookie c.loop-key.batch c.in-Some.key.now c.in-Some.old.now n in
     (alike-numbered c.args.slots.now.entries c.args.saved.now.entries c.loop-key.slots.entries c.number_at.new.slots.entries c.in-Some.key.now t u c.number_at.ensures.entries n.alike).kept
 
+pub returns-in_err-cookie-clause-only : goal.returns-in_err-cookie-clause-only
+returns-in_err-cookie-clause-only c =
+    let n = subst (λ (z : Slots). IsNumbered c.args.slots.now.entries c.args.saved.now.entries c.args.next z c.loop-key.slots.entries c.loop-key.batch c.loop-key.cookie) c.in-Some.ensures.steps c.loop-key.invariant in
+    let t = next-there c.args.slots.now.entries c.args.saved.now.entries c.next.new.self c.loop-key.slots.entries c.args.next c.loop-key.cookie c.loop-key.batch c.in-Some.key.now c.in-Some.old.now n in
+    let u = next-saved c.args.slots.now.entries c.args.saved.now.entries c.next.new.self c.loop-key.slots.entries c.args.next c.loop-key.cookie c.loop-key.batch c.in-Some.key.now c.in-Some.old.now n in
+    (alike-numbered c.args.slots.now.entries c.args.saved.now.entries c.loop-key.slots.entries c.number_at.new.slots.entries c.in-Some.key.now t u c.number_at.ensures.entries n.alike).only
+
 pub returns-in_err-cookie-clause-entries : goal.returns-in_err-cookie-clause-entries
 returns-in_err-cookie-clause-entries c =
     let n = subst (λ (z : Slots). IsNumbered c.args.slots.now.entries c.args.saved.now.entries c.args.next z c.loop-key.slots.entries c.loop-key.batch c.loop-key.cookie) c.in-Some.ensures.steps c.loop-key.invariant in

@@ -6,4 +6,5 @@ restore-requires c = restore-there c.loop-key.slots.entries c.loop-key.saved.ent
 
 pub loop-key-preserved : goal.loop-key-preserved
 loop-key-preserved c =
-    restore-step c.loop-key.slots.entries c.loop-key.saved.entries c.pop_first.new.self.entries _ c.in-Some.key c.in-Some.old _ c.in-Some.ensures.removal c.restore.ensures c.loop-key.invariant
+    let one = restore-step c.loop-key.slots.entries c.loop-key.saved.entries c.pop_first.new.self.entries _ c.in-Some.key c.in-Some.old _ c.in-Some.ensures.removal c.restore.ensures.slots (c.loop-key.invariant.0, c.loop-key.invariant.1) in
+    (one.0, one.1, c.restore.ensures.known c.loop-key.invariant.2)
