@@ -11,3 +11,6 @@ pub mod worked;
 pub use explaining::explain;
 pub use packet_map::{Walked, World};
 pub use trace::{HopTrace, LeafTrace, Trace};
+
+#[cfg(test)]
+mod tests;
