@@ -1,25 +1,22 @@
 -- The leaves of the best rule of an expression over tables, and of that of a node.
-use Rattle.std.proofs.Common.{◌≡◌, ℕ, zero, suc, ◌*◌, ◌<◌, ◌≤◌, true, false, ◌&&◌, List, [], ◌∷◌, ◌++◌, Option, Some, None, refl, ap, ap₂, ◌∙◌, arith, sym, append-nil, eq-eqb}
+use Rattle.std.proofs.Common.{◌≡◌, ℕ, zero, suc, ◌*◌, ◌<◌, ◌≤◌, true, false, ◌&&◌, List, [], ◌∷◌, ◌++◌, Option, Some, None, refl, ap, ap₂, ◌∙◌, arith, sym, append-nil}
 use Rattle.std.specs.Prelude.{filter_map, flat_map, slice_get}
 use Rattle.std.specs.List.{AllByRecursion}
 use Rattle.cv_io.specs.declared.leaf.Leaf.{Leaf}
-use Rattle.of10_match.specs.Fields.{HeaderOf, MatchOf}
-use Rattle.of10_match.specs.Matching.{at_port, both, holds, overlaps}
+use Rattle.of10_match.specs.Fields.{HeaderOf}
+use Rattle.of10_match.specs.Matching.{at_port, both, holds}
 use Rattle.of10_actions.specs.Fields.{RewriteOf}
 use Rattle.of10_actions.specs.Rewriting.{apply}
 use Rattle.of10_actions.specs.declared.effects.Tail.{Tail}
 use Rattle.alg_priority.specs.Levels.{concat_level}
-use Rattle.pull_back.specs.Pulling.{can_pull, pulled}
-use Rattle.pull_back.proofs.PulledMatches.{holds-pulled}
-use Rattle.pull_back.proofs.Normality.{normal-guarded}
 use Rattle.policy_expr.specs.Policy.{Policy, member, parallel, sequential, override}
 use Rattle.policy_expr.specs.Sizes.{size_of}
 use Rattle.policy_meaning.specs.Best.{Below, EachAt, IsBest, IsSound, first}
 use Rattle.policy_meaning.specs.CentralFact.{EachMember}
 use Rattle.policy_meaning.specs.EveryNode.{HasSoundTable, IsSoundNetwork}
-use Rattle.policy_meaning.specs.Hops.{Fabric, at_node, hop_lone, hop_rule, hop_size, hopped, hops_on, last_rule, leads, node, peer_of, peers_size, without_port}
+use Rattle.policy_meaning.specs.Hops.{Fabric, at_node, hop_lone, hop_rule, hop_size, hops_on, last_rule, leads, node, peer_of, peers_size}
 use Rattle.policy_meaning.specs.Leaf.{has_port, leaf_meaning}
-use Rattle.policy_meaning.specs.LeafRules.{leaf_rules, rule_met}
+use Rattle.policy_meaning.specs.LeafRules.{leaf_rules}
 use Rattle.policy_meaning.specs.Networks.{enters, fabric_of, ground_of, ports_of, switch_has, switch_rules, switch_size, switch_spread, table_meaning, table_rules, table_size}
 use Rattle.policy_meaning.specs.Rules.{rules_of}
 use Rattle.policy_meaning.specs.Switches.{SwitchOf}
@@ -31,17 +28,15 @@ use Rattle.policy_meaning.specs.declared.network.Network.{Network}
 use Rattle.policy_meaning.specs.declared.network.Onward.{Onward}
 use Rattle.policy_meaning.specs.declared.network.Place.{Place}
 use Rattle.policy_meaning.specs.declared.rule.Rule.{Rule}
-use Rattle.policy_meaning.proofs.Booleans.{join_and, split_and, true_not_false}
+use Rattle.policy_meaning.proofs.Booleans.{split_and, true_not_false}
 use Rattle.policy_meaning.proofs.BestLemmas.{at-below, at-filter_map, best-filter_map, best-flat_map, best_each, best_holds, best_most}
 use Rattle.policy_meaning.proofs.Central.{all-normal, each-member}
 use Rattle.policy_meaning.proofs.Chains.{HasNormal, high}
 use Rattle.policy_meaning.proofs.Everywhere.{sound-fabric, switch-sound, table-sound}
 use Rattle.policy_meaning.proofs.LeafLemmas.{leaf_fact}
 use Rattle.policy_meaning.proofs.Lists.{all-map}
-use Rattle.policy_meaning.proofs.Meeting.{is_met, is_pulled, meet_holds, meet_there, some_met, some_pulled}
 use Rattle.policy_meaning.proofs.Cells.{narrowed}
-use Rattle.policy_meaning.proofs.Nodes.{AtPort, best-met, link-there, link_of, linked-holds, node-at}
-use Rattle.policy_meaning.proofs.Normality.{normal-without_port}
+use Rattle.policy_meaning.proofs.Nodes.{AtPort, at_port-holds, best-met, link-there, link_of, linked-holds, met_at, node-at}
 use Rattle.policy_meaning.proofs.Peers.{leading, peer-size, positive}
 use Rattle.explain_path.specs.Traces.{asked, asked_member, does, trace, traced_on}
 use Rattle.explain_path.specs.Used.{UsedOfExpressions, UsedOfNodes, used_leaves, used_of}
@@ -89,13 +84,6 @@ pub record HopUses (h : HeaderOf) (rules : List Rule) (size : ℕ) (leaves : Lis
   pub best : IsBest h rules rule
   pub below : rule.level < size
   pub is : rule.ancestry ≡ leaves
-
--- a rule with the port written
-abbrev met_at : ℕ → Rule → Option Rule
-met_at port a = rule_met a (at_port port)
-
-at_port-holds : (h : HeaderOf) → holds (at_port h.in_port) h ≡ true
-at_port-holds h = rw (eq-eqb h.in_port h.in_port refl)
 
 module _ (net : Network) (good : IsSoundNetwork net) where
   abbrev f : Fabric

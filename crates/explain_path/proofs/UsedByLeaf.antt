@@ -1,21 +1,20 @@
 -- The leaf of a member's best rule is what of its table the header meets.
-use Rattle.std.proofs.Common.{◌≡◌, ℕ, ◌<◌, ◌≤◌, Bool, true, false, List, [], ◌∷◌, ◌++◌, Option, Some, None, refl, ◌∙◌, arith, sym, ltb-true, ltb-false}
-use Rattle.std.specs.Prelude.{flat_map, map, if◌then◌else◌, nat_lt}
-use Rattle.std.specs.List.{AllByRecursion}
+use Rattle.std.proofs.Common.{◌≡◌, ℕ, ◌<◌, Bool, true, false, List, [], ◌∷◌, ◌++◌, Option, Some, None, refl, ◌∙◌, arith, sym}
+use Rattle.std.specs.Prelude.{flat_map, map, if◌then◌else◌}
 use Rattle.cv_io.specs.declared.leaf.Leaf.{Leaf}
 use Rattle.of10_match.specs.Fields.{HeaderOf, MatchOf}
-use Rattle.of10_match.specs.Matching.{both, holds}
-use Rattle.policy_meaning.specs.Best.{EachAt, Below, IsBest, first, later}
-use Rattle.policy_meaning.specs.Leaf.{best_entry, has_port, higher, is_inside}
-use Rattle.policy_meaning.specs.LeafFact.{AreApart, EachPair, IsSoundEntry, IsSoundTable}
+use Rattle.of10_match.specs.Matching.{both}
+use Rattle.policy_meaning.specs.Best.{Below, IsBest, first, later}
+use Rattle.policy_meaning.specs.Leaf.{best_entry, has_port, is_inside}
+use Rattle.policy_meaning.specs.LeafFact.{IsSoundTable}
 use Rattle.policy_meaning.specs.LeafRules.{cells, entry_rule, has_outside, in_cells, leaf_rules, miss_rule, outside_rule}
 use Rattle.policy_meaning.specs.declared.leaf.LeafEntry.{LeafEntry}
 use Rattle.policy_meaning.specs.declared.leaf.LeafTable.{LeafTable}
 use Rattle.policy_meaning.specs.declared.rule.Rule.{Rule}
 use Rattle.policy_meaning.proofs.Booleans.{true_not_false}
-use Rattle.policy_meaning.proofs.BestLemmas.{Any, Never, at-any, at-flat_map, at-never, best-append_right, best-flat_map, best_holds, best_most}
-use Rattle.policy_meaning.proofs.Cells.{IsOnly, best-in_cells, cell-part, inside-only, narrowed, none-in_cells, none-outside, outside-misses}
-use Rattle.policy_meaning.proofs.LeafLemmas.{EntrySays, best-placed, entry-says}
+use Rattle.policy_meaning.proofs.BestLemmas.{at-never}
+use Rattle.policy_meaning.proofs.Cells.{IsOnly, inside-only, narrowed, none-outside}
+use Rattle.policy_meaning.proofs.LeafLemmas.{EntrySays, best-placed, entry-says, none-placed}
 use Rattle.explain_path.specs.Traces.{entry_kind, kind_of}
 
 -- the rule is best, and is of this leaf
@@ -39,12 +38,9 @@ module _ (ports : List ℕ) (t : LeafTable) (good : IsSoundTable t) (h : HeaderO
   abbrev of : ℕ → List Leaf
   of kind = record { member = t.member; kind = kind } ∷ []
 
-  none-placed : is_inside t h ≡ false → EachAt h Never placed
-  none-placed e = at-flat_map h Any Never (in_cells (cells ports t)) inside (λ x _. none-in_cells h x (cells ports t) (outside-misses ports t h at e)) (at-any h inside)
-
   outside-best : is_inside t h ≡ false → (b : Bool) → has_outside ports t ≡ b → BestOf h (outer b ++ placed) (of 0)
   outside-best e false o = absurd (true_not_false (sym (none-outside ports t h at o) ∙ e))
-  outside-best e true o = record { rule = outside_rule t; best = first refl (at-never h (Below 0) placed (none-placed e)); is = refl }
+  outside-best e true o = record { rule = outside_rule t; best = first refl (at-never h (Below 0) placed (none-placed ports t good h at e)); is = refl }
 
   inside-best : (b : Bool) (c : MatchOf) → IsOnly h (cells ports t) c → (o : Option LeafEntry) → EntrySays h t t.entries o → BestOf h (outer b ++ placed) (of (entry_kind o))
   inside-best b c only None none = record {

@@ -1,26 +1,24 @@
 -- The leaves of an expression's best rule are those that it uses.
-use Rattle.std.proofs.Common.{◌≡◌, ℕ, suc, ◌+◌, ◌*◌, ◌<◌, Bool, true, false, List, [], ◌∷◌, ◌++◌, Some, refl, ap, ap₂, ◌∙◌, arith, sym, append-nil}
-use Rattle.std.specs.Prelude.{flat_map, if◌then◌else◌}
+use Rattle.std.proofs.Common.{◌≡◌, ℕ, ◌+◌, ◌<◌, Bool, true, false, List, [], ◌∷◌, ◌++◌, refl, ap, ap₂, ◌∙◌, arith, sym, append-nil}
+use Rattle.std.specs.Prelude.{flat_map}
 use Rattle.std.specs.List.{AllByRecursion}
 use Rattle.of10_match.specs.Fields.{HeaderOf}
-use Rattle.of10_match.specs.Matching.{both, holds}
+use Rattle.of10_match.specs.Matching.{both}
 use Rattle.of10_actions.specs.Fields.{RewriteOf}
 use Rattle.of10_actions.specs.Rewriting.{apply, no_rewrite}
 use Rattle.of10_actions.specs.declared.effects.Tail.{Tail}
 use Rattle.of10_actions.specs.declared.effects.Tail.TheVariants.{Nothing, Pass, Link}
 use Rattle.alg_priority.specs.Levels.{concat_level, shift_level}
 use Rattle.alg_priority.specs.Sizes.{concat_size, shift_size, sum_size}
-use Rattle.policy_meaning.specs.Best.{Below, EachAt, IsBest, IsUntouched, Says, first}
+use Rattle.policy_meaning.specs.Best.{Below, EachAt, Says}
 use Rattle.policy_meaning.specs.Meaning.{both_act, first_touched, in_turn}
-use Rattle.policy_meaning.specs.Rules.{chain_rule, chains_with, lifted, shifts_with, sum_rule, summed, sums_with}
+use Rattle.policy_meaning.specs.Rules.{chains_with, lifted, shifts_with, summed, sums_with}
 use Rattle.policy_meaning.specs.declared.meaning.Meaning.{Meaning}
 use Rattle.policy_meaning.specs.declared.rule.Rule.{Rule}
-use Rattle.policy_meaning.proofs.Booleans.{true_not_false}
-use Rattle.policy_meaning.proofs.BestLemmas.{Any, anything, at-below, at-filter_map, at-flat_map, best-append_left, best-append_right, best-filter_map, best-flat_map, best_each, best_holds, best_most}
-use Rattle.policy_meaning.proofs.Chains.{HasNormal, chain-says, chain-there, chain_of, chained-holds, high}
-use Rattle.policy_meaning.proofs.Meeting.{is_met, meet_there}
-use Rattle.policy_meaning.proofs.Shifts.{shift-says}
-use Rattle.policy_meaning.proofs.Sums.{sum-says, summed-holds}
+use Rattle.policy_meaning.proofs.BestLemmas.{best-append_right, best_most}
+use Rattle.policy_meaning.proofs.Chains.{HasNormal, best-alone, best-pass, chain-says, chain_of}
+use Rattle.policy_meaning.proofs.Shifts.{best-touched, none-touched, shift-says}
+use Rattle.policy_meaning.proofs.Sums.{best-sum, sum-says}
 use Rattle.explain_path.specs.Traces.{asked_after, asked_over}
 use Rattle.explain_path.specs.Used.{used_leaves}
 use Rattle.explain_path.specs.declared.trace.LeafTrace.{LeafTrace}
@@ -32,7 +30,7 @@ module _ (h : HeaderOf) (xs bs : List Rule) where
   pub sum-uses : (n k : ℕ) (x y : Meaning) (ls bs' : List LeafTrace) → Uses h xs n x (used_leaves ls) → Uses h bs k y (used_leaves bs') →
       Uses h (flat_map (sums_with bs) xs) (sum_size n k) (both_act x y) (used_leaves (ls ++ bs'))
   sum-uses n k x y ls bs' p q =
-      uses h (flat_map (sums_with bs) xs) (sum_size n k) (both_act x y) (used_leaves (ls ++ bs')) (sum_of p.says.rule q.says.rule)
+      uses h (flat_map (sums_with bs) xs) (sum_size n k) (both_act x y) (used_leaves (ls ++ bs')) (summed p.says.rule q.says.rule (both p.says.rule.m q.says.rule.m))
       (sum-says h xs bs n k x y p.says q.says) (best-sum h xs bs p.says.rule q.says.rule p.says.best q.says.best) (ap₂ (λ u v. u ++ v) p.is q.is ∙ sym (used-append ls bs'))
 
 -- a rule without a pass stands alone
@@ -79,9 +77,6 @@ module _ (h : HeaderOf) (xs bs : List Rule) (n k : ℕ) (x : Meaning) (y : Rewri
 
 -- of `|>`
 module _ (h : HeaderOf) (xs bs : List Rule) where
-  none-touched : (k : ℕ) (P : Rule → Type 0) → EachAt h IsUntouched xs → EachAt h P (flat_map (shifts_with k) xs)
-  none-touched k P u = at-flat_map h IsUntouched P (shifts_with k) xs (λ x ux. shift-part k x P (λ e t. absurd (true_not_false (sym t ∙ ux e)))) u
-
   module _ (n k : ℕ) (x y : Meaning) (ls cs : List LeafTrace) (p : Uses h xs n x (used_leaves ls)) (q : Uses h bs k y (used_leaves cs)) where
     abbrev shifted : List Rule
     shifted = flat_map (shifts_with k) xs ++ bs
@@ -95,7 +90,7 @@ module _ (h : HeaderOf) (xs bs : List Rule) where
         over-whole (best-touched h xs bs k p.says.rule q.says.rule t p.says.best q.says.best q.says.below) p.is
     over-by false t =
         uses h shifted (shift_size n k) (first_touched x y) (used_leaves (asked_over false ls cs)) q.says.rule
-        over-whole (best-append_right h (flat_map (shifts_with k) xs) (none-touched k (Below q.says.rule.level) (p.says.untouched t)) q.says.best) (q.is ∙ sym (used-over ls cs))
+        over-whole (best-append_right h (flat_map (shifts_with k) xs) (none-touched h xs bs k (Below q.says.rule.level) (p.says.untouched t)) q.says.best) (q.is ∙ sym (used-over ls cs))
 
     pub shift-uses : Uses h shifted (shift_size n k) (first_touched x y) (used_leaves (asked_over x.touched ls cs))
     shift-uses = over-by x.touched (ap (λ (m : Meaning). m.touched) p.says.means)
