@@ -20,7 +20,12 @@ fn main(rt: HostRuntime) -> io::Result<()> {
     match walks::run(rt.alloc(), &asked) {
         Ok(made) => println!(rt;
             "members={} entries={} headers={} outs={} ports={} told={}",
-            asked.members.count(), asked.entries, asked.headers, made.outs, made.ports, made.told
+            asked.members.count(),
+            asked.entries,
+            asked.headers,
+            made.outs,
+            made.ports,
+            made.told
         ),
         Err(fault) => println!(rt; "{fault}"),
     }

@@ -7,15 +7,14 @@ use of10_actions::PortView;
 use of10_match::Match;
 use policy_expr::{Expr, MemberName, parse};
 use std::alloc::Global;
-use virtual_topology::{
-    PortPlace, SwitchItem, Topology, TopologyPlan, VirtualItem, VirtualPort,
-};
+use virtual_topology::{PortPlace, SwitchItem, Topology, TopologyPlan, VirtualItem, VirtualPort};
 
 /// The ports of the physical switch, and of the virtual one.
 const PORTS: [u16; 4] = [1, 2, 3, 4];
 
 /// A grant of all fields, and of all kinds of actions.
 const ALL_FIELDS: u32 = 0xfff;
+
 const ALL_ACTIONS: u32 = 0x7ff;
 
 fn physical(alloc: Global) -> Result<SwitchItem, Memory> {

@@ -209,7 +209,11 @@ fn leaves(alloc: Global, trace: &Trace) -> Result<List<(u32, u64, bool)>, Fail> 
 fn told(alloc: Global, walked: &Walked) -> Result<List<(u32, u8, u32)>, Fail> {
     let mut shown = List::new(alloc);
     for told in walked.told.as_slice() {
-        shown.push((told.member, told.reason, told.rewrite.apply(&packet()).nw_dst))?;
+        shown.push((
+            told.member,
+            told.reason,
+            told.rewrite.apply(&packet()).nw_dst,
+        ))?;
     }
     Ok(shown)
 }
@@ -322,6 +326,9 @@ fn the_left_operand_is_not_used(rt: HostRuntime) -> Result<(), Fail> {
 fn a_flood_leaves_by_all_ports(rt: HostRuntime) -> Result<(), Fail> {
     let topology = Topology::make(rt.alloc(), &plan(rt.alloc())?)?;
     let walked = flooded(rt.alloc(), &topology)?;
-    assert_eq!(rt; left(rt.alloc(), &walked)?.as_slice(), [1, 2, 3, 4].as_slice());
+    assert_eq!(rt;
+        left(rt.alloc(), &walked)?.as_slice(),
+        [1, 2, 3, 4].as_slice()
+    );
     Ok(())
 }

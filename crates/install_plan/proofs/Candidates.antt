@@ -32,7 +32,7 @@ each-fails : {A : Type 0} (test : A → Bool) (xs : List A) → list_any test xs
 each-fails test xs n x i = fails (test x) (λ t. true≢false (sym (passes-any test i t) ∙ n))
 
 -- what it says that one comes before another
-Before : Candidate → Candidate → Type 0
+abbrev Before : Candidate → Candidate → Type 0
 Before a b = (b.rank < a.rank) ⊎ ((b.rank ≡ a.rank) × (a.cookie < b.cookie))
 
 either : (b c : Bool) → (b || c) ≡ true → (b ≡ true) ⊎ (c ≡ true)

@@ -65,11 +65,7 @@ fn weigh(slots: &BTreeMap<Key, Slot>, key: &Key, header: &Header) -> Option<Cand
 }
 
 /// The first of what stands of some keys and holds the header.
-pub fn first_among(
-    slots: &BTreeMap<Key, Slot>,
-    keys: &[Key],
-    header: &Header,
-) -> Option<Candidate>
+pub fn first_among(slots: &BTreeMap<Key, Slot>, keys: &[Key], header: &Header) -> Option<Candidate>
     ensures { Leads (candidates slots.now.entries header.now keys.now) result }
 {
     let mut first = None;

@@ -17,8 +17,14 @@ fn what_goes_and_comes_stays(rt: HostRuntime) -> Result<(), Fail> {
     let gone = places(rt.alloc(), &[3, 1, 2])?;
     let come = places(rt.alloc(), &[2, 4, 1])?;
     let net = net(rt.alloc(), gone, come)?;
-    assert_eq!(rt; net.gone.as_slice(), [Place { item: 3, place: 0 }].as_slice());
-    assert_eq!(rt; net.come.as_slice(), [Place { item: 4, place: 1 }].as_slice());
+    assert_eq!(rt;
+        net.gone.as_slice(),
+        [Place { item: 3, place: 0 }].as_slice()
+    );
+    assert_eq!(rt;
+        net.come.as_slice(),
+        [Place { item: 4, place: 1 }].as_slice()
+    );
     assert_eq!(rt; net.both.len(), 2);
     Ok(())
 }
