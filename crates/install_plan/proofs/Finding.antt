@@ -1,5 +1,5 @@
 -- Keys are found by the headers that their matches hold.
-use Rattle.std.proofs.Common.{◌≡◌, ℕ, ◌+◌, ◌<◌, ◌^◌, ◌⊎◌, inl, inr, Bool, true, false, cond, List, [], ◌∷◌, ◌++◌, map, filter, find, Some, None, refl, sym, ap, subst, ◌∙◌, arith, eq-eqb, eqb-true, lt-ltb}
+use Rattle.std.proofs.Common.{◌≡◌, ℕ, ◌+◌, ◌<◌, ◌^◌, ◌⊎◌, inl, inr, Bool, true, false, cond, List, [], ◌∷◌, ◌++◌, map, filter, find, Some, None, refl, sym, ap, subst, ◌∙◌, arith, eq-eqb, eqb-true, lt-ltb, true≢false}
 use Rattle.std.specs.Prelude.{◌==◌, Option, IsPermutation, IsSome, flat_map, nat_lt, option_to_list, is_some}
 use Rattle.std.specs.BTreeMap.{is_at}
 use Rattle.std.specs.List.{AllByRecursion, Contains, IsDistinct, list_any}
@@ -117,7 +117,8 @@ module _ (numbers numbers' : Numbers) (items : List Item) (next : ℕ) (k : Key)
         by (inl s) =
             let same : x.item ≡ y.item = some_injective (sym found ∙ of-option (find (has_id n) items) s) in
             let one : k ≡ q = sym x.key ∙ (ap key_in same ∙ y.key) in
-            let is : is_at (order k) q ≡ true = ap (is_at (order k)) (sym one) ∙ at_self k in cc
+            let is : is_at (order k) q ≡ true = ap (is_at (order k)) (sym one) ∙ at_self k in
+            absurd (true≢false (sym is ∙ f))
         by (inr s) = record { item = y.item; stands = place y.item items' s; number = y.number; key = y.key; in_range = y.in_range; small = y.small }
 
     kept-below : (j : Item) → IsIn j items' → j.id < next
@@ -147,6 +148,10 @@ are-held numbers items next h ids a once p q m known bytes r t =
     let all : IsIn (key_in x.item) (flat_map (keys_under items) ids) = in-flat (keys_under items) listed under in
     place q (flat_map (keys_under items) ids) (subst (λ (z : Key). IsIn z (flat_map (keys_under items) ids)) x.key all)
 
+pub still-numbered : (b : Bool) (n : ℕ) (o : Option ℕ) → IsSome o → IsSome (cond b (Some n) o)
+still-numbered true n o s = refl
+still-numbered false n o s = s
+
 -- slots come and go
 
 pub known-less : (numbers numbers' : Numbers) (slots slots' : Slots) (k : Key) → ((q : Key) → is_at (order k) q ≡ false → IsSome (number_at q numbers) → IsSome (number_at q numbers'))
@@ -159,10 +164,10 @@ known-less numbers numbers' slots slots' k others at known q s = by (is_at (orde
 
 pub known-more : (numbers numbers' : Numbers) (slots slots' : Slots) (k : Key) → IsSome (number_at k numbers') → ((q : Key) → IsSome (number_at q numbers) → IsSome (number_at q numbers'))
     → ((q : Key) → is_at (order k) q ≡ false → IsSome (slot_at q slots') → IsSome (slot_at q slots)) → AreKnown numbers slots → AreKnown numbers' slots'
-known-more numbers numbers' slots slots' k there still only known q s = by (is_at (order k) q) refl
+known-more numbers numbers' slots slots' k has still only known q s = by (is_at (order k) q) refl
   where
     by : (b : Bool) → is_at (order k) q ≡ b → IsSome (number_at q numbers')
-    by true t = subst (λ (z : Key). IsSome (number_at z numbers')) (at_exact k q t) there
+    by true t = subst (λ (z : Key). IsSome (number_at z numbers')) (at_exact k q t) has
     by false t = still q (known q (only q t s))
 
 -- where a slot is written the same keys have slots

@@ -2,7 +2,8 @@
 ghost use Rattle.std.specs.Prelude.{◌≡◌, Some, IfOk, MatchOption};
 ghost use Rattle.std.specs.Option.{option_copied, option_and_then};
 ghost use Rattle.install_plan.specs.Best.{rank_of};
-ghost use Rattle.install_plan.specs.InsideBest.{Leads, before as before_of, candidate_at, candidates, is_before as is_before_of, standing_at};
+ghost use Rattle.install_plan.specs.InsideSlots.{top};
+ghost use Rattle.install_plan.specs.InsideBest.{Leads, before as before_of, candidate_at, candidate_if, candidates, is_before as is_before_of, standing_at};
 
 use crate::key::Key;
 use crate::slot::Slot;
@@ -48,20 +49,39 @@ fn before(a: Option<Candidate>, b: Option<Candidate>) -> Option<Candidate>
     }
 }
 
-/// What stands of a key, if it holds the header.
+/// What is compared of an entry of a key, if it holds the header.
+fn weigh_entry(entry: &PhysEntry, cookie: u64, key: &Key, header: &Header) -> Option<Candidate>
+    ensures { result ≡ candidate_if header.now key.now (record { entry = entry.now; cookie = cookie }) }
+{
+    if entry.m.holds(header) {
+        Some(Candidate {
+            key: *key,
+            rank: rank_in(entry),
+            cookie,
+        })
+    } else {
+        None
+    }
+}
+
+/// What is compared of what stands of a slot, if it holds the header.
+fn weigh_slot(slot: &Slot, key: &Key, header: &Header) -> Option<Candidate>
+    ensures { result ≡ option_and_then (candidate_if header.now key.now) (top slot.now) }
+{
+    match slot.top() {
+        Some(entry) => weigh_entry(entry, slot.cookie, key, header),
+        None => None,
+    }
+}
+
+/// What is compared of what stands of a key, if it holds the header.
 fn weigh(slots: &BTreeMap<Key, Slot>, key: &Key, header: &Header) -> Option<Candidate>
     ensures { result ≡ candidate_at slots.now.entries header.now key.now }
 {
-    let slot = slots.get(key)?;
-    let entry = slot.top()?;
-    if !entry.m.holds(header) {
-        return None;
+    match slots.get(key) {
+        Some(slot) => weigh_slot(slot, key, header),
+        None => None,
     }
-    Some(Candidate {
-        key: *key,
-        rank: rank_in(entry),
-        cookie: slot.cookie,
-    })
 }
 
 /// The first of what stands of some keys and holds the header.

@@ -1,5 +1,5 @@
 //! The keys of slots, found by the headers that their matches hold.
-ghost use Rattle.std.specs.Prelude.{◌≡◌, [], false, flat_map, IfOk, OnOk, IsSome};
+ghost use Rattle.std.specs.Prelude.{◌≡◌, ◌<◌, ◌^◌, [], false, flat_map, IfOk, OnOk, IsSome, None, if◌then◌else◌};
 ghost use Rattle.std.specs.BTreeMap.{is_at};
 ghost use Rattle.of10_match.specs.Ranges.{IsMatch};
 ghost use Rattle.of10_match.specs.Wildcards.{match_bytes};
@@ -39,12 +39,13 @@ impl Model for Finder {
 fn key_of(item: &Item) -> Option<Key>
     ensures { result ≡ key_if_small item.now }
 {
-    match u16::try_from(item.rank) {
-        Ok(priority) => Some(Key {
-            priority,
+    if item.rank < 0x1_0000 {
+        Some(Key {
+            priority: item.rank as u16,
             bytes: item.normal.write(),
-        }),
-        Err(_) => None,
+        })
+    } else {
+        None
     }
 }
 
@@ -56,14 +57,30 @@ fn key_under(index: &Index, number: u64) -> Option<Key>
 }
 
 /// The keys of the matches of some numbers.
-fn keys_of(alloc: Global, index: &Index, numbers: &[u64]) -> Result<List<Key>, Memory>
+fn keys_of(alloc: Global, index: &Index, numbers: &List<u64>) -> Result<List<Key>, Memory>
     ensures { IfOk result (λ keys. keys ≡ flat_map (keys_under index.now.items) numbers.now) }
 {
     let mut keys = List::new(alloc);
-    for number in numbers {
+    for number in numbers.as_slice() {
         keys.push_some(key_under(index, *number))?;
     }
     Ok(keys)
+}
+
+/// A priority as a rank.
+fn rank(priority: u16) -> u32
+    ensures value { result ≡ priority }
+    ensures small { result < 2 ^ 16 }
+{
+    u32::from(priority)
+}
+
+/// Takes out the number of a key, if it has one.
+fn take(numbers: &mut BTreeMap<Key, u64>, key: &Key) -> Option<u64>
+    ensures value { result ≡ number_at key.now numbers.old.entries }
+    ensures others { (q : KeyOf) → number_at q numbers.new.entries ≡ (if is_at (order key.now) q then None else number_at q numbers.old.entries) }
+{
+    numbers.remove(key)
 }
 
 impl Finder {
@@ -93,7 +110,7 @@ impl Finder {
         }
         self.index.reserve(1)?;
         self.numbers.insert(*key, self.next)?;
-        self.index.put(self.next, u32::from(key.priority), m);
+        self.index.put(self.next, rank(key.priority), m);
         self.next += 1;
         Ok(())
     }
@@ -104,7 +121,7 @@ impl Finder {
     {
         // The proof learns that no two matches stand under one number.
         let _ = self.index.len();
-        if let Some(number) = self.numbers.remove(key) {
+        if let Some(number) = take(&mut self.numbers, key) {
             self.index.remove(number);
         }
     }
@@ -115,7 +132,7 @@ impl Finder {
     {
         let _ = self.index.len();
         let numbers = self.index.holding(header)?;
-        keys_of(alloc, &self.index, numbers.as_slice())
+        keys_of(alloc, &self.index, &numbers)
     }
 
     /// The same keys.

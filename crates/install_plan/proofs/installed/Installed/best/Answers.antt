@@ -10,8 +10,8 @@ use Rattle.install_plan.specs.declared.written.Written.{Written}
 use Rattle.install_plan.proofs.Candidates.{first-holds, none-holds}
 use Rattle.install_plan.proofs.installed.Installed.best.Goals as goal
 
-pub returns-in-None : goal.returns-in-None
-returns-in-None c =
+pub returns : goal.returns
+returns c =
     let slots = c.self.inside.slots.entries in
     let h = c.args.header.now in
     let keys = c.in_ok-keys.keys in

@@ -22,6 +22,18 @@ invariant_of-self-2 c =
       λ q t. opened q (only q t),
     )
 
+pub invariant_of-self-in_err-open : goal.invariant_of-self-in_err-open
+invariant_of-self-in_err-open c = (
+  c.open.ensures.kept c.self.inside.saved.entries c.self.invariant.0,
+  known-more c.self.inside.finder c.insert.new.self c.self.inside.slots.entries c.open.new.slots.entries c.of-key.result c.in_ok-insert.ensures.there c.insert.ensures.still c.open.ensures.only c.self.invariant.1,
+)
+
+pub invariant_of-self-in_err-save : goal.invariant_of-self-in_err-save
+invariant_of-self-in_err-save c = (
+  c.save.ensures.kept (c.open.ensures.kept c.self.inside.saved.entries c.self.invariant.0),
+  known-more c.self.inside.finder c.insert.new.self c.self.inside.slots.entries c.open.new.slots.entries c.of-key.result c.in_ok-insert.ensures.there c.insert.ensures.still c.open.ensures.only c.self.invariant.1,
+)
+
 pub returns-clause-before : goal.returns-clause-before
 returns-clause-before c =
     let opened = c.open.ensures.kept c.self.inside.saved.entries c.self.invariant.0 in
