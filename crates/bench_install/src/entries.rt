@@ -30,7 +30,7 @@ pub fn header(number: u32) -> Header {
         nw_tos: 0,
         nw_proto: TCP,
         nw_src: 0x0a00_0001,
-        nw_dst: net(number).addr + number % 256,
+        nw_dst: net(number).addr | number % 256,
         tp_src: 4000,
         tp_dst: 80,
     }
