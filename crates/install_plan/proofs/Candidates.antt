@@ -14,6 +14,7 @@ use Rattle.switch_meaning.proofs.Members.{IsIn, any-passes, from-place, here, in
 use Rattle.install_plan.specs.Best.{IsBest, IsFirst, is_above, is_holding}
 use Rattle.install_plan.specs.InsideBest.{IsLeading, Leads, before, candidate_at, candidate_if, candidate_of, candidates, is_before, standing_at}
 use Rattle.install_plan.specs.InsideFinder.{AreHeld, AreKnown, Numbers}
+use Rattle.install_plan.specs.InsideNumbering.{head}
 use Rattle.install_plan.specs.InsideSlots.{AreKept, Fits, Slots, as_is, first, key_of, order, slot_at, table_by, top}
 use Rattle.install_plan.specs.declared.choosing.Candidate.{Candidate}
 use Rattle.install_plan.specs.declared.key.Key.{Key}
@@ -119,6 +120,14 @@ before-none (Some x) = refl
 pub leads-more : (cs : List Candidate) (best o : Option Candidate) → Leads cs best → Leads (cs ++ option_to_list o) (before best o)
 leads-more cs best (Some y) l = one-more cs y best l
 leads-more cs best None l = subst (λ b. Leads (cs ++ []) b) (sym (before-none best)) (subst (λ xs. Leads xs best) (sym (append-nil cs)) l)
+
+-- what stands of a slot, by its first entry
+pub top-of : (s : Slot) (e : PhysEntry) → head s.entries ≡ Some e → top s ≡ Some (record { entry = e; cookie = s.cookie })
+top-of s e t = by s.entries t
+  where
+    by : (es : List PhysEntry) → head es ≡ Some e → first es s.cookie ≡ Some (record { entry = e; cookie = s.cookie })
+    by [] t = none-some t
+    by (d ∷ ds) t = ap (λ (z : PhysEntry). Some (record { entry = z; cookie = s.cookie })) (some_injective t)
 
 -- the candidate of one key more
 pub leads-next : (slots : Slots) (h : HeaderOf) (keys : List Key) (i : ℕ) (k : Key) (best : Option Candidate) → i < length keys → k ≡ get_or keys i k

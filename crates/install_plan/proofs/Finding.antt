@@ -98,10 +98,6 @@ module _ (numbers numbers' : Numbers) (items : List Item) (next : ℕ) (k : Key)
   pub indexed-same : AreIndexed numbers' items next
   indexed-same = record { each = λ q n e. a.each q n (other q n e).1; below = a.below }
 
-  -- what other keys have stays
-  pub others-stay : (q : Key) → is_at (order k) q ≡ false → IsSome (number_at q numbers) → IsSome (number_at q numbers')
-  others-stay q f s = subst IsSome (sym (at q ∙ ap (λ c. cond c None (number_at q numbers)) f)) s
-
   module _ (items' : List Item) (n : ℕ) (had : number_at k numbers ≡ Some n) (once : IsDistinct ◌==◌ (map (λ (e : Item). e.id) items))
       (gone : IsPermutation items (option_to_list (find (has_id n) items) ++ items')) where
     x : IsIndexed items k n
@@ -131,6 +127,12 @@ module _ (numbers numbers' : Numbers) (items : List Item) (next : ℕ) (k : Key)
       each = λ q m e. let o = other q m e in left q m o.0 (a.each q m o.1);
       below = all-in (λ (z : Item). z.id < next) items' kept-below;
     }
+
+-- what other keys have stays
+pub others-stay : (numbers value numbers' : Numbers) (k : Key) → numbers ≡ value → ((q : Key) → number_at q numbers' ≡ cond (is_at (order k) q) None (number_at q numbers))
+    → (q : Key) → is_at (order k) q ≡ false → IsSome (number_at q value) → IsSome (number_at q numbers')
+others-stay numbers value numbers' k view at q f s =
+    subst IsSome (sym (at q ∙ ap (λ c. cond c None (number_at q numbers)) f)) (subst (λ (ns : Numbers). IsSome (number_at q ns)) (sym view) s)
 
 -- the keys of all matches that hold a header
 pub are-held : (numbers : Numbers) (items : List Item) (next : ℕ) (h : HeaderOf) (ids : List ℕ) → AreIndexed numbers items next → IsDistinct ◌==◌ (map (λ (e : Item). e.id) items)

@@ -1,6 +1,4 @@
-use Rattle.std.proofs.Common.{sym, subst}
-use Rattle.std.specs.Prelude.{IsSome}
-use Rattle.install_plan.specs.InsideFinder.{Numbers, number_at}
+use Rattle.std.proofs.Common.{sym}
 use Rattle.install_plan.proofs.Finding.{indexed-less, others-stay}
 use Rattle.install_plan.proofs.finder.Finder.remove.Goals as goal
 
@@ -10,6 +8,4 @@ invariant_of-self c =
     c.remove.new.self.items c.in-Some.number (sym c.in-Some.ensures.value) c.len.ensures.once c.remove.ensures.items
 
 pub returns-in-Some : goal.returns-in-Some
-returns-in-Some c = λ q f t.
-    let had = subst (λ (ns : Numbers). IsSome (number_at q ns)) (sym c.self.view_is) t in
-    others-stay c.self.inside.numbers.entries c.take.new.numbers.entries c.self.inside.index.items c.self.inside.next c.args.key.now c.self.invariant c.take.ensures.others q f had
+returns-in-Some c = others-stay c.self.inside.numbers.entries c.args.self.now c.take.new.numbers.entries c.args.key.now c.self.view_is c.take.ensures.others
