@@ -8,4 +8,6 @@ invariant_of-self c =
     c.remove.new.self.items c.in-Some.number (sym c.in-Some.ensures.value) c.len.ensures.once c.remove.ensures.items
 
 pub returns-in-Some : goal.returns-in-Some
-returns-in-Some c = others-stay c.self.inside.numbers.entries c.args.self.now c.take.new.numbers.entries c.args.key.now c.self.view_is c.take.ensures.others
+returns-in-Some c = record {
+  others = others-stay c.self.inside.numbers.entries c.args.self.now c.take.new.numbers.entries c.args.key.now c.self.view_is c.take.ensures.others;
+}
