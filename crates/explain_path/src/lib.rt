@@ -11,6 +11,3 @@ pub mod worked;
 pub use explaining::explain;
 pub use packet_map::{Walked, World};
 pub use trace::{HopTrace, LeafTrace, Trace};
-
-#[cfg(test)]
-mod tests;
