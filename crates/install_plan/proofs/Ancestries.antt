@@ -1,5 +1,5 @@
 -- The entries of one key by rising ancestry.
-use Rattle.std.proofs.Common.{◌≡◌, ℕ, zero, suc, ◌+◌, ◌≤◌, ◌<◌, Bool, true, false, ◌||◌, List, [], ◌∷◌, length, get_or, insert, remove, take, drop, refl, sym, ap, subst, ◌∙◌, arith, true≢false, count_by, ◌⊎◌, inl, inr, cond}
+use Rattle.std.proofs.Common.{◌≡◌, ℕ, zero, suc, ◌≤◌, ◌<◌, Bool, true, false, ◌||◌, List, [], ◌∷◌, length, get_or, insert, remove, take, drop, refl, sym, ap, subst, ◌∙◌, arith, true≢false, ◌⊎◌, inl, inr, cond}
 use Rattle.std.specs.Prelude.{Some, slice_set}
 use Rattle.std.specs.List.{AllByRecursion, AllWithin, Contains, list_any, slice_get}
 use Rattle.std.specs.Option.{option_map_or}

@@ -1,25 +1,24 @@
 -- The batch of the slots that changed is the difference of what stood and what stands.
-use Rattle.std.proofs.Common.{◌≡◌, ℕ, ◌⊎◌, inl, inr, Bool, true, false, cond, List, [], ◌∷◌, ◌++◌, refl, sym, ap, subst, ◌∙◌, map, true≢false}
-use Rattle.std.specs.Prelude.{Option, Some, None, IsSome, MatchOption, not, filter, flat_map, option_map, option_to_list, unwrap_or, if◌then◌else◌}
+use Rattle.std.proofs.Common.{◌≡◌, ℕ, ◌⊎◌, inl, inr, Bool, true, false, List, [], ◌∷◌, refl, sym, ap, subst, ◌∙◌, map, true≢false}
+use Rattle.std.specs.Prelude.{Option, Some, None, IsSome, MatchOption, not, filter, flat_map, option_to_list, unwrap_or, if◌then◌else◌}
 use Rattle.std.specs.List.{AllByRecursion, Contains, list_any}
-use Rattle.switch_meaning.specs.Batches.{by_key, difference, missing}
+use Rattle.switch_meaning.specs.Batches.{by_key, missing}
 use Rattle.switch_meaning.specs.Same.{same_entry}
-use Rattle.switch_meaning.specs.declared.entry.Difference.{Difference}
 use Rattle.switch_meaning.specs.declared.entry.PhysEntry.{PhysEntry}
 use Rattle.switch_meaning.proofs.Alike.{entry_decides}
-use Rattle.switch_meaning.proofs.Members.{IsIn, all-in, any-passes, here, in-all, in-one, passes-any, place, there}
+use Rattle.switch_meaning.proofs.Members.{IsIn, all-in, any-passes, here, in-all, in-one, passes-any, place}
 use Rattle.of10_match.specs.Ranges.{IsMatch}
 use Rattle.install_plan.specs.InsideNumbering.{come, entries_at, entries_of, gone, head, is_same_head}
 use Rattle.install_plan.specs.InsideSlots.{AreKept, Fits, Slots, as_is, as_saved, first, key_of, slot_at, table_by, top}
-use Rattle.install_plan.specs.Tables.{IsBatch, entries_in, entry_of, numbered}
+use Rattle.install_plan.specs.Tables.{IsBatch, entry_of, numbered}
 use Rattle.install_plan.specs.declared.key.Key.{Key}
 use Rattle.install_plan.specs.declared.slot.Slot.{Slot}
 use Rattle.install_plan.specs.declared.written.Batch.{Batch}
 use Rattle.install_plan.specs.declared.written.Written.{Written}
 use Rattle.install_plan.proofs.Flat.{filter-flat, map-flat}
-use Rattle.install_plan.proofs.Keyed.{Rise, flat-alike, flat-in, found-in, in-flat, in-found, no-items, none-there}
+use Rattle.install_plan.proofs.Keyed.{Rise, flat-alike, flat-in, in-flat, in-found, no-items, none-there}
 use Rattle.install_plan.proofs.Merging.{by_key-sorted, flat-merged}
-use Rattle.install_plan.proofs.Cookies.{Stands, entries-numbered, none-some, saved-stood, some-same}
+use Rattle.install_plan.proofs.Cookies.{Stands, entries-numbered, saved-stood}
 use Rattle.install_plan.proofs.Sound.{one-slot}
 use Rattle.install_plan.proofs.Writing.{fit-of}
 

@@ -1,7 +1,7 @@
 -- The first of the entries that hold a header is among those of the keys that the index finds.
 use Rattle.std.proofs.Common.{◌≡◌, ℕ, ◌+◌, ◌<◌, ◌≤◌, ◌⊎◌, inl, inr, Bool, true, false, cond, ◌&&◌, ◌||◌, List, [], ◌∷◌, ◌++◌, Some, None, refl, sym, ap, subst, ◌∙◌, arith, append-nil, eq-eqb, eqb-true, lt-ltb, true≢false, length, get_or, take}
-use Rattle.std.specs.Prelude.{◌==◌, Option, IsSome, flat_map, nat_lt, option_to_list, if◌then◌else◌}
-use Rattle.std.specs.List.{AllByRecursion, Contains, list_any}
+use Rattle.std.specs.Prelude.{◌==◌, Option, flat_map, nat_lt, option_to_list, if◌then◌else◌}
+use Rattle.std.specs.List.{list_any}
 use Rattle.std.specs.Option.{option_and_then}
 use Rattle.std.proofs.lemmas.Bool.{ltb-true}
 use Rattle.std.proofs.lemmas.List.{take_all, take_more}
@@ -10,12 +10,12 @@ use Rattle.of10_match.specs.Fields.{HeaderOf}
 use Rattle.of10_match.specs.Ranges.{IsMatch}
 use Rattle.switch_meaning.specs.declared.entry.PhysEntry.{PhysEntry}
 use Rattle.switch_meaning.proofs.Items.{fails, join_and, some_injective, split_and}
-use Rattle.switch_meaning.proofs.Members.{IsIn, any-passes, from-place, here, in-all, in-either, in-left, in-one, in-right, passes-any, place, there}
-use Rattle.install_plan.specs.Best.{IsBest, IsFirst, is_above, is_holding}
+use Rattle.switch_meaning.proofs.Members.{IsIn, any-passes, from-place, here, in-all, in-either, in-left, in-one, in-right, passes-any, place}
+use Rattle.install_plan.specs.Best.{IsBest, is_above, is_holding}
 use Rattle.install_plan.specs.InsideBest.{IsLeading, Leads, before, candidate_at, candidate_if, candidate_of, candidates, is_before, standing_at}
 use Rattle.install_plan.specs.InsideFinder.{AreHeld, AreKnown, Numbers}
 use Rattle.install_plan.specs.InsideNumbering.{head}
-use Rattle.install_plan.specs.InsideSlots.{AreKept, Fits, Slots, as_is, first, key_of, order, slot_at, table_by, top}
+use Rattle.install_plan.specs.InsideSlots.{AreKept, Fits, Slots, as_is, first, key_of, slot_at, table_by, top}
 use Rattle.install_plan.specs.declared.choosing.Candidate.{Candidate}
 use Rattle.install_plan.specs.declared.key.Key.{Key}
 use Rattle.install_plan.specs.declared.slot.Slot.{Slot}

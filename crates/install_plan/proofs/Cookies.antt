@@ -1,30 +1,21 @@
 -- Cookies are given.
-use Rattle.std.proofs.Common.{◌≡◌, ℕ, ◌⊎◌, inl, inr, Bool, true, false, cond, List, [], ◌∷◌, ◌++◌, refl, sym, ap, subst, ◌∙◌, map, true≢false, append-nil}
-use Rattle.std.specs.Prelude.{Option, Some, None, IsSome, is_some, MatchOption, not, filter, flat_map, option_map, option_to_list, unwrap_or, if◌then◌else◌}
+use Rattle.std.proofs.Common.{◌≡◌, ℕ, ◌⊎◌, inl, inr, Bool, true, false, cond, List, [], ◌∷◌, ◌++◌, refl, sym, ap, subst, ◌∙◌, map, true≢false}
+use Rattle.std.specs.Prelude.{Option, Some, None, IsSome, is_some, option_to_list, unwrap_or, if◌then◌else◌}
 use Rattle.std.specs.BTreeMap.{is_at}
-use Rattle.std.specs.List.{AllByRecursion, Contains, list_any}
+use Rattle.std.specs.List.{AllByRecursion}
 use Rattle.std.specs.List.Sorted.{IsStrictlySortedBy}
-use Rattle.std.specs.Map.{keys_of, set_value}
 use Rattle.of10_match.specs.Ranges.{IsMatch}
-use Rattle.switch_meaning.specs.Batches.{by_key, difference, missing}
-use Rattle.switch_meaning.specs.Same.{same_entry}
-use Rattle.switch_meaning.specs.declared.entry.Difference.{Difference}
 use Rattle.switch_meaning.specs.declared.entry.PhysEntry.{PhysEntry}
 use Rattle.switch_meaning.proofs.Alike.{entry_decides}
-use Rattle.switch_meaning.proofs.Items.{all-map, fails}
-use Rattle.switch_meaning.proofs.Members.{IsIn, all-in, any-passes, here, in-all, in-left, in-right, passes-any, place, there}
+use Rattle.switch_meaning.proofs.Members.{IsIn, here, in-left, in-right}
 use Rattle.install_plan.specs.InsideNumbering.{come, cookie_for, entries_at, entries_of, gone, head, is_same_head, numbered_at, past}
-use Rattle.install_plan.specs.InsideSlots.{AreKept, Fits, Slots, as_is, as_saved, by_ancestry, first, key_of, order, slot_at, table_by, top}
-use Rattle.install_plan.specs.Tables.{IsBatch, TableOf, after, entries_in, entry_of, numbered}
+use Rattle.install_plan.specs.InsideSlots.{Fits, Slots, as_is, as_saved, by_ancestry, first, key_of, order, slot_at, table_by, top}
+use Rattle.install_plan.specs.Tables.{after, entry_of, numbered}
 use Rattle.install_plan.specs.declared.key.Key.{Key}
 use Rattle.install_plan.specs.declared.slot.Slot.{Slot}
-use Rattle.install_plan.specs.declared.written.Batch.{Batch}
 use Rattle.install_plan.specs.declared.written.Written.{Written}
-use Rattle.install_plan.proofs.Flat.{filter-flat, map-flat, map-option}
-use Rattle.install_plan.proofs.Keyed.{Rise, Source, at_exact, at_flips, first-or-later, flat-alike, flat-in, flat-written, found-in, found-written, in-flat, in-found}
-use Rattle.install_plan.proofs.Merging.{by_key-sorted, flat-merged}
-use Rattle.install_plan.proofs.Sound.{one-slot}
-use Rattle.install_plan.proofs.Writing.{fit-of, found, some-found}
+use Rattle.install_plan.proofs.Keyed.{Rise, at_exact, at_flips, flat-written, found-in, found-written, in-flat, in-found}
+use Rattle.install_plan.proofs.Writing.{fit-of, found}
 
 pub entries-numbered : (n : ℕ) (es : List PhysEntry) → map entry_of (numbered n es) ≡ es
 entries-numbered n [] = refl

@@ -1,7 +1,7 @@
 -- How many entries pass a test.
-use Rattle.std.proofs.Common.{◌≡◌, ℕ, zero, suc, ◌+◌, ◌≤◌, ◌<◌, Bool, true, false, cond, List, [], ◌∷◌, ◌++◌, length, get_or, take, refl, sym, ap, subst, ◌∙◌, arith, count_by, nat_lt, lt-ltb, ltb-true}
-use Rattle.std.specs.Prelude.{Some, None, flat_map}
-use Rattle.std.specs.List.{AllByRecursion, Contains, list_any}
+use Rattle.std.proofs.Common.{◌≡◌, ℕ, zero, suc, ◌+◌, ◌≤◌, ◌<◌, Bool, true, false, cond, List, [], ◌∷◌, length, get_or, take, refl, sym, ap, subst, ◌∙◌, arith, count_by, nat_lt, lt-ltb, ltb-true}
+use Rattle.std.specs.Prelude.{Some, flat_map}
+use Rattle.std.specs.List.{Contains, list_any}
 use Rattle.std.specs.Map.{lookup, set_value}
 use Rattle.std.specs.Ordering.{is_eq}
 use Rattle.std.specs.Cmp.{IsTotalOrder, then_total}
@@ -13,7 +13,7 @@ use Rattle.switch_meaning.specs.declared.entry.PhysEntry.{PhysEntry}
 use Rattle.switch_meaning.proofs.Alike.{entry_decides}
 use Rattle.switch_meaning.proofs.ByKey.{key_total}
 use Rattle.switch_meaning.proofs.Members.{IsIn, any-passes, place}
-use Rattle.install_plan.specs.Tables.{AreApart, AreThere, TableOf, place_cmp, same_place}
+use Rattle.install_plan.specs.Tables.{place_cmp, same_place}
 use Rattle.install_plan.specs.declared.key.Key.{Key}
 use Rattle.install_plan.specs.declared.slot.Slot.{Slot}
 use Rattle.install_plan.proofs.Ancestries.{by_ancestry_total}

@@ -1,13 +1,12 @@
 -- Keys are found by the headers that their matches hold.
-use Rattle.std.proofs.Common.{◌≡◌, ℕ, ◌+◌, ◌<◌, ◌^◌, ◌⊎◌, inl, inr, Bool, true, false, cond, List, [], ◌∷◌, ◌++◌, map, filter, find, Some, None, refl, sym, ap, subst, ◌∙◌, arith, eq-eqb, eqb-true, lt-ltb, true≢false}
-use Rattle.std.specs.Prelude.{◌==◌, Option, IsPermutation, IsSome, flat_map, nat_lt, option_to_list, is_some}
+use Rattle.std.proofs.Common.{◌≡◌, ℕ, ◌+◌, ◌<◌, ◌^◌, ◌⊎◌, inl, inr, Bool, true, false, cond, List, [], ◌∷◌, ◌++◌, map, find, Some, None, refl, sym, ap, subst, ◌∙◌, arith, eq-eqb, eqb-true, lt-ltb, true≢false}
+use Rattle.std.specs.Prelude.{◌==◌, Option, IsPermutation, IsSome, flat_map, option_to_list}
 use Rattle.std.specs.BTreeMap.{is_at}
-use Rattle.std.specs.List.{AllByRecursion, Contains, IsDistinct, list_any}
+use Rattle.std.specs.List.{IsDistinct, list_any}
 use Rattle.std.specs.Option.{option_and_then}
-use Rattle.of10_match.specs.Fields.{HeaderOf, MatchOf}
+use Rattle.of10_match.specs.Fields.{HeaderOf}
 use Rattle.of10_match.specs.Matching.{holds}
 use Rattle.of10_match.specs.Ranges.{IsMatch}
-use Rattle.of10_match.specs.Wildcards.{match_bytes}
 use Rattle.of10_match.proofs.ReadingBack.{match_bytes-injective}
 use Rattle.match_index.specs.Items.{has_id, ids_of}
 use Rattle.match_index.specs.Questions.{is_holding}

@@ -1,5 +1,5 @@
 -- Lists of lists, filtered and mapped.
-use Rattle.std.proofs.Common.{◌≡◌, Bool, true, false, List, [], ◌∷◌, ◌++◌, refl, ap, sym, ◌∙◌, map}
+use Rattle.std.proofs.Common.{◌≡◌, Bool, true, false, List, [], ◌∷◌, ◌++◌, refl, ap, ◌∙◌, map}
 use Rattle.std.specs.Prelude.{Option, Some, None, filter, flat_map, option_map, option_to_list, if◌then◌else◌}
 
 module _ {A B : Type 0} where

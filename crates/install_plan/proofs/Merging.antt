@@ -1,22 +1,19 @@
 -- Saved slots beside all slots.
-use Rattle.std.proofs.Common.{◌≡◌, ◌⊎◌, inl, inr, Bool, true, false, cond, List, [], ◌∷◌, ◌++◌, refl, sym, ap, subst, ◌∙◌, map, true≢false}
+use Rattle.std.proofs.Common.{◌≡◌, false, cond, List, [], ◌∷◌, ◌++◌, refl, sym, ap, subst, ◌∙◌}
 use Rattle.std.specs.Prelude.{Option, Some, None, IsSome, MatchOption, flat_map, option_to_list, if◌then◌else◌}
-use Rattle.std.specs.BTreeMap.{insert_entry, is_at}
 use Rattle.std.specs.List.{AllByRecursion}
 use Rattle.std.specs.List.Sorted.{IsStrictlySortedBy}
-use Rattle.std.specs.Map.{keys_of, lookup}
-use Rattle.std.specs.Ordering.{is_eq, is_le, match_ordering, nat_cmp, ordering_reverse}
+use Rattle.std.specs.Map.{keys_of}
+use Rattle.std.specs.Ordering.{is_eq, is_le, ordering_reverse}
 use Rattle.std.specs.declared.cmp.Ordering.{Ordering}
 use Rattle.std.specs.declared.cmp.Ordering.TheVariants.{Less, Equal, Greater}
-use Rattle.std.proofs.lemmas.Cmp.{tied_itself}
 use Rattle.switch_meaning.specs.Batches.{by_key, key_cmp, put_by_key}
 use Rattle.switch_meaning.specs.declared.entry.PhysEntry.{PhysEntry}
-use Rattle.switch_meaning.proofs.Items.{all-map}
-use Rattle.switch_meaning.proofs.Members.{IsIn, all-in, here, in-all, in-right, there}
+use Rattle.switch_meaning.proofs.Members.{all-in, in-all}
 use Rattle.install_plan.specs.InsideSlots.{Slots, key_of, order, slot_at}
 use Rattle.install_plan.specs.declared.key.Key.{Key}
 use Rattle.install_plan.specs.declared.slot.Slot.{Slot}
-use Rattle.install_plan.proofs.Keyed.{Rise, at_exact, key-above, none-there, order_total, order_exact}
+use Rattle.install_plan.proofs.Keyed.{Rise, key-above, none-there, order_total, order_exact}
 
 -- a look-up passes over a key that compares otherwise
 pub passed-over : (k q : Key) (s : Slot) (ps : Slots) (r : Ordering) → order k q ≡ r → is_eq r ≡ false → slot_at k ((q, s) ∷ ps) ≡ slot_at k ps

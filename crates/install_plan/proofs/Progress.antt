@@ -1,12 +1,12 @@
 -- A batch is made slot by slot.
-use Rattle.std.proofs.Common.{◌≡◌, ℕ, Bool, true, false, List, [], ◌∷◌, ◌++◌, refl, sym, ap, subst, ◌∙◌, append-nil}
+use Rattle.std.proofs.Common.{◌≡◌, ℕ, List, [], ◌∷◌, ◌++◌, refl, sym, ap, subst, ◌∙◌, append-nil}
 use Rattle.std.specs.Prelude.{Some, IsSome, flat_map, option_to_list}
 use Rattle.std.specs.BTreeMap.{is_at}
 use Rattle.std.specs.List.{AllByRecursion}
 use Rattle.switch_meaning.specs.declared.entry.PhysEntry.{PhysEntry}
-use Rattle.switch_meaning.proofs.Members.{IsIn, all-in, in-all}
+use Rattle.switch_meaning.proofs.Members.{all-in, in-all}
 use Rattle.install_plan.specs.InsideNumbering.{IsNumberedAt, come, cookie_for, entries_at, gone, head, numbered_at, past}
-use Rattle.install_plan.specs.InsideSlots.{AreKept, Slots, as_is, as_saved, order, slot_at, table_by, top}
+use Rattle.install_plan.specs.InsideSlots.{AreKept, Slots, as_is, as_saved, order, slot_at, table_by}
 use Rattle.install_plan.specs.Tables.{IsBatch, numbered}
 use Rattle.install_plan.specs.declared.key.Key.{Key}
 use Rattle.install_plan.specs.declared.slot.Slot.{Slot}

@@ -1,25 +1,23 @@
 -- Slots are made what they were, or kept as they are.
-use Rattle.std.proofs.Common.{◌≡◌, ◌⊎◌, inl, inr, Bool, true, false, cond, List, [], ◌∷◌, ◌++◌, refl, sym, ap, subst, ◌∙◌, map, true≢false}
+use Rattle.std.proofs.Common.{◌≡◌, Bool, true, false, cond, List, [], ◌∷◌, ◌++◌, refl, sym, ap, subst, ◌∙◌}
 use Rattle.std.specs.Prelude.{Option, Some, None, IsSome, flat_map, option_to_list, unwrap_or}
 use Rattle.std.specs.BTreeMap.{is_at}
 use Rattle.std.specs.List.{AllByRecursion}
 use Rattle.std.specs.List.Sorted.{IsStrictlySortedBy}
-use Rattle.std.specs.Map.{keys_of, lookup, remove_entry, set_value}
+use Rattle.std.specs.Map.{keys_of, remove_entry, set_value}
 use Rattle.std.specs.Ordering.{is_eq}
-use Rattle.std.specs.declared.cmp.Ordering.{Ordering}
-use Rattle.std.specs.declared.cmp.Ordering.TheVariants.{Less, Equal, Greater}
+use Rattle.std.specs.declared.cmp.Ordering.TheVariants.{Less}
 use Rattle.std.proofs.lemmas.Map.{lookup-remove_entry}
 use Rattle.std.proofs.lemmas.Map.Keys.{IsDistinct-from_sorted}
-use Rattle.switch_meaning.proofs.Items.{all-map}
-use Rattle.switch_meaning.proofs.Members.{IsIn, all-in, here, in-all, there}
+use Rattle.switch_meaning.proofs.Members.{IsIn, all-in, in-all}
 use Rattle.switch_meaning.specs.declared.entry.PhysEntry.{PhysEntry}
 use Rattle.install_plan.specs.InsideSlots.{AreKept, Fits, Slots, as_is, as_saved, first, if_empty, order, restored, slot_at, table_by, top, without, without_empty, without_if_empty}
 use Rattle.install_plan.specs.Tables.{TableOf}
 use Rattle.install_plan.specs.declared.key.Key.{Key}
 use Rattle.install_plan.specs.declared.slot.Slot.{Slot}
 use Rattle.install_plan.proofs.Keyed.{Rise, at_exact, at_flips, equal_keys, flat-alike, flat-dropped, in-found, key-above}
-use Rattle.install_plan.proofs.Merging.{below-none, passed-over, turned}
-use Rattle.install_plan.proofs.Writing.{found, some-found, written-kept}
+use Rattle.install_plan.proofs.Merging.{below-none}
+use Rattle.install_plan.proofs.Writing.{found, written-kept}
 
 module _ (k : Key) (old : Slot) (rest : Slots) (rises : AllByRecursion (λ (z : Key). order k z ≡ Less) (keys_of rest)) where
   abbrev saved : Slots

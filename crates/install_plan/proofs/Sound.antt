@@ -1,12 +1,11 @@
 -- What stands is one entry of each key.
 use Rattle.std.proofs.Common.{◌≡◌, ◌⊎◌, inl, inr, Bool, true, false, List, [], ◌∷◌, ◌++◌, refl, sym, ap, subst, ◌∙◌, map, true≢false}
-use Rattle.std.specs.Prelude.{◌==◌, ◌&&◌, not, filter, flat_map, option_map, option_to_list, Some, None, if◌then◌else◌}
+use Rattle.std.specs.Prelude.{◌==◌, not, filter, flat_map, option_to_list, Some, if◌then◌else◌}
 use Rattle.std.specs.List.{AllByRecursion, list_any}
 use Rattle.std.specs.List.Sorted.{IsStrictlySortedBy}
 use Rattle.std.specs.Ordering.{is_lt, ordering_reverse, ordering_then}
-use Rattle.std.specs.Map.{keys_of}
 use Rattle.std.specs.declared.cmp.Ordering.{Ordering}
-use Rattle.std.specs.declared.cmp.Ordering.TheVariants.{Less, Equal, Greater}
+use Rattle.std.specs.declared.cmp.Ordering.TheVariants.{Less, Equal}
 use Rattle.std.proofs.lemmas.Cmp.{tied_itself}
 use Rattle.std.proofs.lemmas.Bool.Decides.{Decides-and, Decides-eqb}
 use Rattle.cv_io.specs.Leaves.{ancestry_cmp}
@@ -15,21 +14,17 @@ use Rattle.of10_match.specs.Same.{same_match}
 use Rattle.of10_match.specs.Wildcards.{match_bytes}
 use Rattle.of10_match.proofs.ReadingBack.{match_bytes-injective}
 use Rattle.of10_match.proofs.Same.{match_decides}
-use Rattle.switch_meaning.specs.Batches.{key_cmp}
 use Rattle.switch_meaning.specs.Keys.{displaces, one_per_key, same_key}
 use Rattle.switch_meaning.specs.declared.entry.PhysEntry.{PhysEntry}
-use Rattle.switch_meaning.proofs.Gate.{not_true}
-use Rattle.switch_meaning.proofs.Items.{all-map, fails, join_and, split_and}
-use Rattle.switch_meaning.proofs.Members.{IsIn, all-in, any-passes, here, in-all, in-either, in-left, in-right, passes-any, there}
+use Rattle.switch_meaning.proofs.Items.{fails, join_and, split_and}
+use Rattle.switch_meaning.proofs.Members.{IsIn, all-in, any-passes, here, in-all, in-either, passes-any, there}
 use Rattle.install_plan.specs.Tables.{IsTable, entry_of, place_cmp}
 use Rattle.install_plan.specs.InsideSlots.{Fits, Slots, by_ancestry, first, key_of, order, slot_at, table_by, top}
-use Rattle.install_plan.specs.InsideNumbering.{head}
 use Rattle.install_plan.specs.declared.key.Key.{Key}
 use Rattle.install_plan.specs.declared.slot.Slot.{Slot}
-use Rattle.install_plan.specs.declared.written.Written.{Written}
-use Rattle.install_plan.proofs.Ancestries.{ancestry_total, by_ancestry_total}
+use Rattle.install_plan.proofs.Ancestries.{by_ancestry_total}
 use Rattle.install_plan.proofs.Flat.{filter-flat, map-flat}
-use Rattle.install_plan.proofs.Keyed.{Rise, Source, first-or-later, flat-alike, flat-in, in-flat, in-found, key-above, order_total}
+use Rattle.install_plan.proofs.Keyed.{Rise, first-or-later, flat-alike, flat-in, in-flat, in-found, key-above, order_total}
 
 -- two slots of one key are one
 pub one-slot : (slots : Slots) → Rise slots → (p q : Key × Slot) → IsIn p slots → IsIn q slots → p.0 ≡ q.0 → p ≡ q

@@ -1,8 +1,8 @@
 -- Entries are taken out of their slots and put in.
-use Rattle.std.proofs.Common.{◌≡◌, ℕ, ◌+◌, Bool, true, false, List, [], ◌∷◌, refl, sym, ap, subst, ◌∙◌, arith, count_by, true≢false}
-use Rattle.std.specs.Prelude.{Option, Some, None, IfSome, IsSome, MatchOption, OnOk, Ok, Err, Result, flat_map, is_ok, option_to_list}
+use Rattle.std.proofs.Common.{◌≡◌, Bool, true, false, List, [], ◌∷◌, refl, sym, ap, subst, ◌∙◌, arith, count_by, true≢false}
+use Rattle.std.specs.Prelude.{Option, Some, None, IfSome, IsSome, MatchOption, OnOk, Ok, Err, Result, flat_map, is_ok}
 use Rattle.std.specs.BTreeMap.{is_at}
-use Rattle.std.specs.List.{AllByRecursion, Contains, list_any}
+use Rattle.std.specs.List.{Contains, list_any}
 use Rattle.std.specs.Map.{set_value}
 use Rattle.std.specs.Ordering.{is_eq, ordering_then}
 use Rattle.std.specs.declared.cmp.Ordering.TheVariants.{Equal}
@@ -10,13 +10,13 @@ use Rattle.std.proofs.lemmas.Cmp.{tied_itself}
 use Rattle.of10_match.specs.Ranges.{IsMatch}
 use Rattle.switch_meaning.specs.declared.entry.PhysEntry.{PhysEntry}
 use Rattle.switch_meaning.proofs.Items.{fails}
-use Rattle.switch_meaning.proofs.Members.{IsIn, any-passes, from-place, in-all, passes-any, place}
-use Rattle.install_plan.specs.InsideSlots.{AreKept, Fits, IsPutInto, IsTakenFrom, Slots, as_is, as_saved, by_ancestry, key_of, order, slot_at, table_by}
+use Rattle.switch_meaning.proofs.Members.{any-passes, from-place, in-all, passes-any, place}
+use Rattle.install_plan.specs.InsideSlots.{AreKept, Fits, IsPutInto, IsTakenFrom, Slots, as_saved, by_ancestry, key_of, order, slot_at, table_by}
 use Rattle.install_plan.specs.Tables.{Adds, same_place}
 use Rattle.install_plan.specs.declared.key.Key.{Key}
 use Rattle.install_plan.specs.declared.slot.Slot.{Slot}
 use Rattle.install_plan.proofs.Counting.{count-written}
-use Rattle.install_plan.proofs.Keyed.{at_exact, flat-in, found-in, in-flat, in-found, none-there, order_total}
+use Rattle.install_plan.proofs.Keyed.{flat-in, found-in, in-flat, in-found, none-there, order_total}
 use Rattle.install_plan.proofs.Writing.{fit-of, some-found, written-before, written-kept, written-only}
 
 abbrev pub all : Slots → List PhysEntry

@@ -1,27 +1,26 @@
 -- All that stands is numbered again.
 use Rattle.std.proofs.Common.{◌≡◌, ℕ, ◌⊎◌, inl, inr, Bool, true, false, cond, List, [], ◌∷◌, ◌++◌, refl, sym, ap, subst, ◌∙◌, map, true≢false, zero, suc, ◌+◌, ◌<◌, ◌≤◌, length, get_or, drop, arith}
-use Rattle.std.specs.Prelude.{Option, Some, None, IsSome, flat_map, option_to_list}
+use Rattle.std.specs.Prelude.{Option, Some, None, IsSome, option_to_list}
 use Rattle.std.specs.BTreeMap.{is_at}
 use Rattle.std.specs.List.{AllByRecursion}
 use Rattle.std.specs.List.Sorted.{IsStrictlySortedBy}
-use Rattle.std.specs.Map.{keys_of}
 use Rattle.std.specs.Ordering.{is_lt}
 use Rattle.std.specs.declared.cmp.Ordering.TheVariants.{Less}
 use Rattle.std.proofs.lemmas.Cmp.{tied_itself}
 use Rattle.of10_match.specs.Ranges.{IsMatch}
 use Rattle.switch_meaning.specs.declared.entry.PhysEntry.{PhysEntry}
-use Rattle.switch_meaning.proofs.Members.{Comes, IsIn, all-in, here, in-all, in-map, in-one, map-in, there}
+use Rattle.switch_meaning.proofs.Members.{IsIn, here, in-all, in-map, in-one, map-in, there}
 use Rattle.install_plan.specs.InsideNumbering.{AreAllSaved, entries_at, entries_of, head, numbered_at}
-use Rattle.install_plan.specs.InsideSlots.{AreKept, Fits, Slots, as_is, as_saved, first, key_of, order, slot_at, table_by, top}
+use Rattle.install_plan.specs.InsideSlots.{AreKept, Fits, Slots, as_is, first, key_of, order, slot_at, table_by, top}
 use Rattle.install_plan.specs.Tables.{entry_of}
 use Rattle.install_plan.specs.declared.key.Key.{Key}
 use Rattle.install_plan.specs.declared.slot.Slot.{Slot}
 use Rattle.install_plan.specs.declared.written.Written.{Written}
 use Rattle.install_plan.proofs.Batched.{heads-stand, heads_by}
-use Rattle.install_plan.proofs.Keyed.{Rise, at_exact, at_self, first-or-later, flat-in, found-in, found-written, in-flat, in-found, key-above, no-items, order_total}
+use Rattle.install_plan.proofs.Keyed.{Rise, at_self, first-or-later, flat-in, found-in, found-written, in-flat, in-found, key-above, no-items, order_total}
 use Rattle.install_plan.proofs.Cookies.{none-some, some-same}
 use Rattle.install_plan.proofs.Progress.{IsAlike, alike-itself, alike-numbered}
-use Rattle.install_plan.proofs.Writing.{found, some-found}
+use Rattle.install_plan.proofs.Writing.{found}
 
 abbrev pub key_in : Written → Key
 key_in w = key_of w.entry

@@ -1,23 +1,22 @@
 -- A slot is written, opened, saved or taken out.
-use Rattle.std.proofs.Common.{◌≡◌, ◌⊎◌, inl, inr, Bool, true, false, cond, List, [], ◌∷◌, ◌++◌, refl, sym, ap, subst, ◌∙◌, map, true≢false}
-use Rattle.std.specs.Prelude.{Option, Some, None, IsSome, is_some, not, flat_map, option_to_list, unwrap_or}
+use Rattle.std.proofs.Common.{◌≡◌, Bool, true, false, cond, [], ◌∷◌, refl, sym, ap, subst, ◌∙◌, true≢false}
+use Rattle.std.specs.Prelude.{Option, Some, None, IsSome, is_some, option_to_list, unwrap_or}
 use Rattle.std.specs.BTreeMap.{insert_entry, is_at}
 use Rattle.std.specs.List.{AllByRecursion}
 use Rattle.std.specs.List.Sorted.{IsStrictlySortedBy}
-use Rattle.std.specs.Map.{keys_of, lookup, remove_entry, set_value}
+use Rattle.std.specs.Map.{set_value}
 use Rattle.std.specs.Ordering.{is_eq, match_ordering}
 use Rattle.std.specs.declared.cmp.Ordering.{Ordering}
 use Rattle.std.specs.declared.cmp.Ordering.TheVariants.{Less, Equal, Greater}
 use Rattle.std.proofs.lemmas.Map.{keys-set_value}
 use Rattle.switch_meaning.proofs.Items.{all-map}
-use Rattle.switch_meaning.proofs.Members.{IsIn, all-in, here, in-all, there}
+use Rattle.switch_meaning.proofs.Members.{IsIn, all-in, in-all}
 use Rattle.install_plan.specs.InsideSlots.{AreKept, Fits, Slots, as_is, as_saved, by_ancestry, first, key_of, order, slot_at, table_by, top}
 use Rattle.of10_match.specs.Ranges.{IsMatch}
 use Rattle.switch_meaning.specs.declared.entry.PhysEntry.{PhysEntry}
-use Rattle.install_plan.specs.Tables.{TableOf}
 use Rattle.install_plan.specs.declared.key.Key.{Key}
 use Rattle.install_plan.specs.declared.slot.Slot.{Slot}
-use Rattle.install_plan.proofs.Keyed.{Rise, at_exact, at_self, flat-alike, flat-dropped, flat-opened, flat-written, found-in, found-written, in-found, none-there}
+use Rattle.install_plan.proofs.Keyed.{Rise, at_exact, flat-alike, flat-opened, flat-written, found-in, found-written, in-found, none-there}
 
 pub some-cond : (b : Bool) (w : Slot) (o : Option Slot) → IsSome o → IsSome (cond b (Some w) o)
 some-cond true w o s = refl

@@ -1,9 +1,9 @@
 -- How a batch is made of the slots that changed.
-use Rattle.std.specs.Prelude.{◌≡◌, ℕ, Bool, false, true, not, Option, Some, None, IsSome, List, [], ◌∷◌, ◌++◌, flat_map, option_to_list, option_map, if◌then◌else◌}
+use Rattle.std.specs.Prelude.{◌≡◌, ℕ, Bool, false, Option, Some, None, IsSome, List, [], ◌∷◌, if◌then◌else◌}
 use Rattle.std.specs.List.{AllByRecursion}
 use Rattle.switch_meaning.specs.Same.{same_entry}
 use Rattle.switch_meaning.specs.declared.entry.PhysEntry.{PhysEntry}
-use Rattle.install_plan.specs.Tables.{after, entry_of}
+use Rattle.install_plan.specs.Tables.{after}
 use Rattle.std.specs.BTreeMap.{is_at}
 use Rattle.std.specs.Map.{set_value}
 use Rattle.install_plan.specs.InsideSlots.{Slots, order, slot_at, top}

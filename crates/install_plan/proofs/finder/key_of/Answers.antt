@@ -1,6 +1,5 @@
 use Rattle.std.proofs.Common.{List, ℕ, ◌<◌, ◌^◌, cond, Some, None, sym, ap, ◌∙◌, arith, lt-ltb}
 use Rattle.install_plan.specs.InsideFinder.{key_in}
-use Rattle.install_plan.specs.declared.key.Key.{Key}
 use Rattle.install_plan.proofs.finder.key_of.Goals as goal
 
 pub returns-then-item-lt65536 : goal.returns-then-item-lt65536

@@ -1,5 +1,5 @@
 use Rattle.std.proofs.Common.{refl, sym, subst, ◌∙◌}
-use Rattle.install_plan.specs.InsideSlots.{AreKept, Slots}
+use Rattle.install_plan.specs.InsideSlots.{AreKept}
 use Rattle.install_plan.proofs.Restoring.{keep-step}
 use Rattle.install_plan.proofs.slots.keep_all.Goals as goal
 

@@ -6,7 +6,6 @@ use Rattle.match_index.specs.Items.{has_id}
 use Rattle.match_index.specs.declared.item.Item.{Item}
 use Rattle.install_plan.specs.InsideFinder.{AreIndexed, Numbers, key_in, number_at}
 use Rattle.install_plan.specs.InsideSlots.{order}
-use Rattle.install_plan.specs.declared.key.Key.{Key}
 use Rattle.install_plan.proofs.Finding.{indexed-more, new-number, still-numbered}
 use Rattle.install_plan.proofs.finder.Finder.insert.Goals as goal
 

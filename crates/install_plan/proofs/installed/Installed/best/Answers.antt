@@ -1,12 +1,10 @@
 use Rattle.std.proofs.Common.{◌≡◌, List, sym, subst}
-use Rattle.std.specs.Prelude.{None, Some, Option}
+use Rattle.std.specs.Prelude.{None, Some}
 use Rattle.std.proofs.lemmas.Result.{IfOk-weaker}
 use Rattle.install_plan.specs.Best.{IsBest}
 use Rattle.install_plan.specs.InsideBest.{Leads, candidates, standing_at}
 use Rattle.install_plan.specs.Tables.{InstalledOf}
-use Rattle.install_plan.specs.declared.choosing.Candidate.{Candidate}
 use Rattle.install_plan.specs.declared.key.Key.{Key}
-use Rattle.install_plan.specs.declared.written.Written.{Written}
 use Rattle.install_plan.proofs.Candidates.{first-holds, none-holds}
 use Rattle.install_plan.proofs.installed.Installed.best.Goals as goal
 
