@@ -1,87 +1,76 @@
-//! A virtual switch of four ports, its members and how they are composed.
+//! The members of a virtual switch of four ports, and how they are composed.
 use crate::asked::Members;
-use crate::fault::Fault;
 use cv_io::{List, Memory, Text};
 use grants::Grant;
 use of10_actions::PortView;
 use of10_match::Match;
-use policy_expr::{Expr, MemberName, parse};
+use policy_expr::{Expr, ExprFault, MemberName, parse};
 use std::alloc::Global;
-use virtual_topology::{PortPlace, SwitchItem, Topology, TopologyPlan, VirtualItem, VirtualPort};
-
-/// The ports of the physical switch, and of the virtual one.
-const PORTS: [u16; 4] = [1, 2, 3, 4];
+use virtual_topology::{Topology, TopologyFault, TopologyPlan};
 
 /// A grant of all fields, and of all kinds of actions.
 const ALL_FIELDS: u32 = 0xfff;
 
 const ALL_ACTIONS: u32 = 0x7ff;
 
-fn physical(alloc: Global) -> Result<SwitchItem, Memory> {
-    Ok(SwitchItem {
-        name: Text::from_slice(alloc, b"s")?,
-        dpid: 1,
-        ports: List::from_slice(alloc, &PORTS)?,
-    })
-}
-
-fn virtual_ports(alloc: Global) -> Result<List<VirtualPort>, Memory> {
-    let mut ports = List::new(alloc);
-    for port in PORTS {
-        let at = PortPlace {
-            name: Text::from_slice(alloc, b"s")?,
-            port,
-        };
-        ports.push(VirtualPort { port, at: Some(at) })?;
-    }
-    Ok(ports)
-}
-
-fn virtual_switch(alloc: Global, expr: &str) -> Result<VirtualItem, Memory> {
-    Ok(VirtualItem {
-        name: Text::from_slice(alloc, b"v")?,
-        dpid: 161,
-        ports: virtual_ports(alloc)?,
-        expr: Text::from_slice(alloc, expr.as_bytes())?,
-    })
-}
-
-/// The virtual switch is all of a physical one.
-pub fn topology(alloc: Global, members: Members) -> Result<Topology, Fault> {
-    let mut switches = List::new(alloc);
-    switches.push(physical(alloc)?)?;
-    let mut virtuals = List::new(alloc);
-    virtuals.push(virtual_switch(alloc, members.expr())?)?;
+/// No links and no cables: packets are followed over one virtual switch.
+pub fn topology(alloc: Global) -> Result<Topology, TopologyFault> {
     let plan = TopologyPlan {
-        switches,
+        switches: List::new(alloc),
         cables: List::new(alloc),
-        virtuals,
+        virtuals: List::new(alloc),
         links: List::new(alloc),
     };
-    Ok(Topology::make(alloc, &plan)?)
+    Topology::make(alloc, &plan)
 }
 
-/// The member of this number is named by a letter.
+/// The name of the member of this number is a letter.
+fn name(alloc: Global, index: u32) -> Result<Text, Memory> {
+    let mut name = Text::new(alloc);
+    name.push(b'a' + (index % 26) as u8)?;
+    Ok(name)
+}
+
+/// A member by its number.
 fn member(alloc: Global, members: Members, index: u32) -> Result<MemberName, Memory> {
-    let letters = b"abcdefghijkl";
-    let letter = letters[index as usize % letters.len()];
     Ok(MemberName {
-        name: Text::from_slice(alloc, &[letter])?,
+        name: name(alloc, index)?,
         index,
         plain: !members.passes(index),
     })
 }
 
-/// The expression of the one virtual switch.
-pub fn exprs(alloc: Global, members: Members) -> Result<List<Expr>, Fault> {
+fn names(alloc: Global, members: Members) -> Result<List<MemberName>, Memory> {
     let mut names = List::new(alloc);
     for index in 0..members.count() {
         names.push(member(alloc, members, index)?)?;
     }
+    Ok(names)
+}
+
+/// The expression of the one virtual switch.
+pub fn exprs(alloc: Global, members: Members) -> Result<List<Expr>, ExprFault> {
+    let names = names(alloc, members)?;
     let text = Text::from_slice(alloc, members.expr().as_bytes())?;
     let mut exprs = List::new(alloc);
     exprs.push(parse(alloc, &text, &names)?)?;
     Ok(exprs)
+}
+
+/// Four ports.
+fn ports(alloc: Global) -> Result<List<u16>, Memory> {
+    let mut ports = List::new(alloc);
+    for port in 1..5 {
+        ports.push(port)?;
+    }
+    Ok(ports)
+}
+
+/// A region of all headers.
+fn regions(alloc: Global) -> Result<List<Match>, Memory> {
+    let mut regions = List::new(alloc);
+    regions.push(Match::everything())?;
+    Ok(regions)
 }
 
 /// A grant of all that there is.
@@ -93,10 +82,10 @@ fn grant(alloc: Global) -> Result<Grant, Memory> {
         actions: ALL_ACTIONS,
         ports: PortView {
             v: 0,
-            outside: List::from_slice(alloc, &PORTS)?,
+            outside: ports(alloc)?,
             links: List::new(alloc),
         },
-        regions: List::from_slice(alloc, &[Match::everything()])?,
+        regions: regions(alloc)?,
         misses: true,
         packet_out: true,
     })

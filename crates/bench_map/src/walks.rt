@@ -93,7 +93,7 @@ fn count_over(
 
 /// Makes the members' tables, and counts what headers give.
 pub fn run(alloc: Global, asked: &Asked) -> Result<Tally, Fault> {
-    let topology = topology(alloc, asked.members)?;
+    let topology = topology(alloc)?;
     let exprs = exprs(alloc, asked.members)?;
     let grants = grants(alloc, asked.members)?;
     let tables = tables(alloc, asked)?;
