@@ -1,4 +1,5 @@
 //! Headers come, and what they give is counted.
+ghost use Rattle.std.specs.Prelude.{◌<◌};
 ghost use Rattle.packet_map.specs.Networks.{SeeRising};
 
 use crate::asked::Asked;
