@@ -14,6 +14,8 @@ pub enum Fault {
     Expression(#[from] ExprFault),
     #[error("an entry: {0}")]
     Entry(#[from] TableFault),
+    #[error("the expression isn't of ASCII")]
+    Text,
     #[error("ports don't rise")]
     Ports,
     #[error("out of memory")]

@@ -1,10 +1,11 @@
 //! The members of a virtual switch of four ports, and how they are composed.
 use crate::asked::Members;
-use cv_io::{List, Memory, Text};
+use crate::fault::Fault;
+use cv_io::{Bytes, List, Memory, Text};
 use grants::Grant;
 use of10_actions::PortView;
 use of10_match::Match;
-use policy_expr::{Expr, ExprFault, MemberName, parse};
+use policy_expr::{Expr, MemberName, parse};
 use std::alloc::Global;
 use virtual_topology::{Topology, TopologyFault, TopologyPlan};
 
@@ -48,10 +49,17 @@ fn names(alloc: Global, members: Members) -> Result<List<MemberName>, Memory> {
     Ok(names)
 }
 
+fn text(alloc: Global, word: &str) -> Result<Text, Fault> {
+    match Text::from_bytes(Bytes::from_slice(alloc, word.as_bytes())?) {
+        Ok(text) => Ok(text),
+        Err(_) => Err(Fault::Text),
+    }
+}
+
 /// The expression of the one virtual switch.
-pub fn exprs(alloc: Global, members: Members) -> Result<List<Expr>, ExprFault> {
+pub fn exprs(alloc: Global, members: Members) -> Result<List<Expr>, Fault> {
     let names = names(alloc, members)?;
-    let text = Text::from_slice(alloc, members.expr().as_bytes())?;
+    let text = text(alloc, members.expr())?;
     let mut exprs = List::new(alloc);
     exprs.push(parse(alloc, &text, &names)?)?;
     Ok(exprs)

@@ -39,27 +39,46 @@ fn to_net(number: u32) -> Match {
     }
 }
 
-fn output(port: u16) -> Action {
-    Action::Output { port, max_len: 0 }
+/// The TCP port is set, and the packet passed on.
+fn passing(alloc: Global, number: u32) -> Result<List<Action>, Memory>
+    ensures { IfOk result AreInRange }
+{
+    let set = Action::SetTpDst {
+        port: (8000 + number % 1000) as u16,
+    };
+    let pass = Action::Output {
+        port: port::NORMAL,
+        max_len: 0,
+    };
+    List::from_slice(alloc, &[set, pass])
 }
 
-/// What the entry of this number does: it sends to a port, and each sixteenth to the controller; that of a
-/// member that passes packets on sets their TCP port first.
+/// The packet is sent to a port.
+fn sending(alloc: Global, port: u16) -> Result<List<Action>, Memory>
+    ensures { IfOk result AreInRange }
+{
+    let send = Action::Output { port, max_len: 0 };
+    List::from_slice(alloc, &[send])
+}
+
+/// One of the four ports, or for each sixteenth entry the controller.
+fn goal(number: u32) -> u16 {
+    if number % 16 == 15 {
+        port::CONTROLLER
+    } else {
+        (1 + number % 4) as u16
+    }
+}
+
+/// What the entry of this number does: that of a member that passes packets on, or of another one.
 fn actions(alloc: Global, number: u32, passes: bool) -> Result<List<Action>, Memory>
     ensures { IfOk result AreInRange }
 {
     if passes {
-        let set = Action::SetTpDst {
-            port: (8000 + number % 1000) as u16,
-        };
-        return List::from_slice(alloc, &[set, output(port::NORMAL)]);
-    }
-    let to = if number % 16 == 15 {
-        port::CONTROLLER
+        passing(alloc, number)
     } else {
-        (1 + number % 4) as u16
-    };
-    List::from_slice(alloc, &[output(to)])
+        sending(alloc, goal(number))
+    }
 }
 
 /// The message that adds the entry of this number.
