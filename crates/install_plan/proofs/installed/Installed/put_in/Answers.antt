@@ -21,8 +21,8 @@ invariant_of-self-2 c =
       λ q t. opened q (only q t),
     )
 
-pub invariant_of-self-in_err-admit : goal.invariant_of-self-in_err-admit
-invariant_of-self-in_err-admit c = (
+pub invariant_of-self : goal.invariant_of-self
+invariant_of-self c = (
   c.admit.ensures.kept c.self.inside.saved.entries c.self.invariant.0,
   c.admit.ensures.known c.self.invariant.1,
 )
