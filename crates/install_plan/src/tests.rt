@@ -1,7 +1,7 @@
 use super::*;
 use cv_io::{Duplicate, Leaf, List};
 use of10_actions::Action;
-use of10_match::{Match, Prefix};
+use of10_match::{Header, IPV4, Match, Prefix, TCP, UNTAGGED};
 use std::alloc::Global;
 use std::test::Fail;
 use switch_meaning::PhysEntry;
@@ -170,5 +170,42 @@ fn all_is_installed(rt: HostRuntime) -> Result<(), Fail> {
     let Batch { adds, .. } = table.whole(100)?;
     assert_eq!(rt; adds.len(), 16);
     table.undo();
+    Ok(())
+}
+
+/// A TCP packet of port 2 to a host of the net, or to the one host.
+fn to(host: u32) -> Header {
+    Header {
+        in_port: 2,
+        dl_src: 1,
+        dl_dst: 2,
+        dl_vlan: UNTAGGED,
+        dl_vlan_pcp: 0,
+        dl_type: IPV4,
+        nw_tos: 0,
+        nw_proto: TCP,
+        nw_src: 0x0a00_0105,
+        nw_dst: 0x0a00_0000 | host % 256,
+        tp_src: 4000,
+        tp_dst: 80,
+    }
+}
+
+/// Priority and cookie of what a switch uses for a packet, zeros where it has nothing.
+fn used(table: &Installed, header: &Header) -> Result<(u16, u64), Fail> {
+    Ok(match table.best(header)? {
+        Some(best) => (best.entry.priority, best.cookie),
+        None => (0, 0),
+    })
+}
+
+/// Of the entries that hold a packet the one of the greatest priority is used.
+#[test]
+fn the_greatest_priority_is_used(rt: HostRuntime) -> Result<(), Fail> {
+    let table = full(rt.alloc())?;
+    assert_eq!(rt; used(&table, &to(1))?.0, 13);
+    assert_eq!(rt; used(&table, &to(9))?.0, 9);
+    let empty = Installed::new(rt.alloc());
+    assert_eq!(rt; used(&empty, &to(1))?, (0, 0));
     Ok(())
 }
