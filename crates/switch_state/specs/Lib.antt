@@ -1,0 +1,7 @@
+pub mod Known
+pub mod Messages
+pub mod Sending
+pub mod Reports
+pub mod Fitting
+pub mod Writing
+pub mod Worked
