@@ -15,22 +15,46 @@ use Rattle.of10_stats.specs.declared.request.StatsRequest.TheVariants.{Flow, Por
 -- the deletion of every entry
 abbrev pub delete_all : Body
 delete_all = FlowMod (record {
-  m = match_bytes everything; cookie = 0; command = 3; idle_timeout = 0; hard_timeout = 0; priority = 0;
-  buffer_id = 0xffffffff; out_port = 0xffff; flags = 0; actions = [];
+  m = match_bytes everything;
+  cookie = 0;
+  command = 3;
+  idle_timeout = 0;
+  hard_timeout = 0;
+  priority = 0;
+  buffer_id = 0xffffffff;
+  out_port = 0xffff;
+  flags = 0;
+  actions = [];
 })
 
 -- the deletion of an entry that stands
 abbrev pub delete_strict : Written → Body
 delete_strict w = FlowMod (record {
-  m = match_bytes w.entry.m; cookie = w.cookie; command = 4; idle_timeout = 0; hard_timeout = 0; priority = w.entry.priority;
-  buffer_id = 0xffffffff; out_port = 0xffff; flags = 0; actions = [];
+  m = match_bytes w.entry.m;
+  cookie = w.cookie;
+  command = 4;
+  idle_timeout = 0;
+  hard_timeout = 0;
+  priority = w.entry.priority;
+  buffer_id = 0xffffffff;
+  out_port = 0xffff;
+  flags = 0;
+  actions = [];
 })
 
 -- the addition of an entry under its cookie: the switch is to tell when it goes
 abbrev pub addition : Written → Body
 addition w = FlowMod (record {
-  m = match_bytes w.entry.m; cookie = w.cookie; command = 0; idle_timeout = 0; hard_timeout = 0; priority = w.entry.priority;
-  buffer_id = 0xffffffff; out_port = 0xffff; flags = 1; actions = w.entry.actions;
+  m = match_bytes w.entry.m;
+  cookie = w.cookie;
+  command = 0;
+  idle_timeout = 0;
+  hard_timeout = 0;
+  priority = w.entry.priority;
+  buffer_id = 0xffffffff;
+  out_port = 0xffff;
+  flags = 1;
+  actions = w.entry.actions;
 })
 
 -- messages, and the barrier that ends them, if there are any

@@ -79,8 +79,16 @@ message xid body = spelling (record { xid = xid; body = body })
 
 abbrev pub flow_mod : ℕ → MatchOf → ℕ → ℕ → ℕ → List Action → Body
 flow_mod command m cookie priority flags actions = FlowMod (record {
-  m = match_bytes m; cookie = cookie; command = command; idle_timeout = 0; hard_timeout = 0; priority = priority;
-  buffer_id = 0xffffffff; out_port = 0xffff; flags = flags; actions = actions;
+  m = match_bytes m;
+  cookie = cookie;
+  command = command;
+  idle_timeout = 0;
+  hard_timeout = 0;
+  priority = priority;
+  buffer_id = 0xffffffff;
+  out_port = 0xffff;
+  flags = flags;
+  actions = actions;
 })
 
 -- Two deletes and a barrier, an add and a barrier. The cookies of what goes are outstanding.
@@ -88,11 +96,14 @@ abbrev pub ABatchIsSent : Type 0
 ABatchIsSent =
     send_all (batch_messages net_goes) (from (record (nothing_known 1) { xid = 17; begun = 4; answered = true })) ≡ record {
       known = record (nothing_known 1) {
-        xid = 22; begun = 6; answered = true; deleted = 2 ∷ 3 ∷ [];
+        xid = 22;
+        begun = 6;
+        answered = true;
+        deleted = 2 ∷ 3 ∷ [];
         barriers = record { number = 5; xid = 20 } ∷ record { number = 6; xid = 22 } ∷ [];
       };
       messages = message 18 (flow_mod 4 (to_net 24) 3 9 0 []) ∷ message 19 (flow_mod 4 (to_net 32) 2 11 0 []) ∷ message 20 BarrierRequest
-        ∷ message 21 (flow_mod 0 (to_net 32) 8 11 1 (Output 2 0 ∷ [])) ∷ message 22 BarrierRequest ∷ [];
+          ∷ message 21 (flow_mod 0 (to_net 32) 8 11 1 (Output 2 0 ∷ [])) ∷ message 22 BarrierRequest ∷ [];
     }
 
 -- without deletes there is one phase, and without anything no message

@@ -43,7 +43,13 @@ impl Model for Known {
     ghost Value = { KnownOf };
 
     ghost view = { λ a. record {
-        xid = a.xid; first = a.first; begun = a.begun; barriers = a.barriers.items; answered = a.answered; dark = a.dark.keys; deleted = a.deleted.keys;
+      xid = a.xid;
+      first = a.first;
+      begun = a.begun;
+      barriers = a.barriers.items;
+      answered = a.answered;
+      dark = a.dark.keys;
+      deleted = a.deleted.keys;
     } };
 }
 
@@ -92,14 +98,9 @@ impl Known {
     }
 
     /// Sends a message: it takes the next xid.
-    pub fn send(
-        &mut self,
-        alloc: Global,
-        body: Body,
-        messages: &mut Letters,
-    ) -> Result<(), Memory>
+    pub fn send(&mut self, alloc: Global, body: Body, messages: &mut Letters) -> Result<(), Memory>
         requires { CanWrite body }
-        ensures sent { OnOk result (sending_of self.new messages.new ≡ send_of (sending_of self.old messages.old)) body) }
+        ensures sent { OnOk result (sending_of self.new messages.new ≡ send_of (sending_of self.old messages.old) body) }
         ensures memory { OnErr result ((self.new ≡ self.old) × (messages.new ≡ messages.old)) }
     {
         send(alloc, self, body, messages)
@@ -114,8 +115,8 @@ impl Known {
         messages: &mut Letters,
     ) -> Result<(), Memory>
         requires { CanSend batch }
-        ensures sent { OnOk result (sending_of self.new messages.new ≡ send_all (switch_messages begins batch) (sending_of self.old messages.old))) }
-        ensures memory { OnErr result (IsPartlySent (switch_messages begins batch) (sending_of self.old messages.old)) (sending_of self.new messages.new))) }
+        ensures sent { OnOk result (sending_of self.new messages.new ≡ send_all (switch_messages begins batch) (sending_of self.old messages.old)) }
+        ensures memory { OnErr result (IsPartlySent (switch_messages begins batch) (sending_of self.old messages.old) (sending_of self.new messages.new)) }
     {
         if !begins {
             return write_batch(alloc, self, batch, messages);

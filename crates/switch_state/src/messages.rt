@@ -63,7 +63,14 @@ pub(crate) fn delete_strict(alloc: Global, written: &Written) -> Body
     ensures fits { CanWrite result }
 {
     let Written { entry, cookie } = written;
-    Body::FlowMod(flow_mod(&entry.m, *cookie, Command::DeleteStrict, entry.priority, 0, List::new(alloc)))
+    Body::FlowMod(flow_mod(
+        &entry.m,
+        *cookie,
+        Command::DeleteStrict,
+        entry.priority,
+        0,
+        List::new(alloc),
+    ))
 }
 
 /// The addition of an entry, of which the switch is to tell when it goes.
@@ -73,7 +80,12 @@ pub(crate) fn addition(written: Written) -> Body
     ensures fits { CanWrite result }
 {
     let Written { entry, cookie } = written;
-    let PhysEntry { m, priority, actions, .. } = entry;
+    let PhysEntry {
+        m,
+        priority,
+        actions,
+        ..
+    } = entry;
     Body::FlowMod(flow_mod(&m, cookie, Command::Add, priority, SEND_FLOW_REM, actions))
 }
 

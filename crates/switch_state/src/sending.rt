@@ -36,7 +36,7 @@ pub(crate) fn send(
     messages: &mut Letters,
 ) -> Result<(), Memory>
     requires { CanWrite body }
-    ensures sent { OnOk result (sending_of known.new messages.new ≡ send_of (sending_of known.old messages.old)) body) }
+    ensures sent { OnOk result (sending_of known.new messages.new ≡ send_of (sending_of known.old messages.old) body) }
     ensures memory { OnErr result ((known.new ≡ known.old) × (messages.new ≡ messages.old)) }
 {
     let xid = next_xid(known.xid());
@@ -58,8 +58,8 @@ pub(crate) fn install(
     known: &mut Known,
     messages: &mut Letters,
 ) -> Result<(), Memory>
-    ensures sent { OnOk result (sending_of known.new messages.new ≡ send_all installation (sending_of known.old messages.old))) }
-    ensures memory { OnErr result (IsPartlySent installation (sending_of known.old messages.old)) (sending_of known.new messages.new))) }
+    ensures sent { OnOk result (sending_of known.new messages.new ≡ send_all installation (sending_of known.old messages.old)) }
+    ensures memory { OnErr result (IsPartlySent installation (sending_of known.old messages.old) (sending_of known.new messages.new)) }
 {
     let config = Body::SetConfig {
         flags: 0,
@@ -77,8 +77,8 @@ fn send_deletes(
     deletes: List<Written>,
     messages: &mut Letters,
 ) -> Result<(), Memory>
-    ensures sent { OnOk result (sending_of known.new messages.new ≡ send_all (map delete_strict_of deletes) (sending_of known.old messages.old))) }
-    ensures memory { OnErr result (IsPartlySent (map delete_strict_of deletes) (sending_of known.old messages.old)) (sending_of known.new messages.new))) }
+    ensures sent { OnOk result (sending_of known.new messages.new ≡ send_all (map delete_strict_of deletes) (sending_of known.old messages.old)) }
+    ensures memory { OnErr result (IsPartlySent (map delete_strict_of deletes) (sending_of known.old messages.old) (sending_of known.new messages.new)) }
 {
     for written in deletes.into_vec() {
         send(alloc, known, delete_strict(alloc, &written), messages)?;
@@ -94,8 +94,8 @@ fn send_adds(
     messages: &mut Letters,
 ) -> Result<(), Memory>
     requires { AllByRecursion CanAdd adds }
-    ensures sent { OnOk result (sending_of known.new messages.new ≡ send_all (map addition_of adds) (sending_of known.old messages.old))) }
-    ensures memory { OnErr result (IsPartlySent (map addition_of adds) (sending_of known.old messages.old)) (sending_of known.new messages.new))) }
+    ensures sent { OnOk result (sending_of known.new messages.new ≡ send_all (map addition_of adds) (sending_of known.old messages.old)) }
+    ensures memory { OnErr result (IsPartlySent (map addition_of adds) (sending_of known.old messages.old) (sending_of known.new messages.new)) }
 {
     for written in adds.into_vec() {
         send(alloc, known, addition(written), messages)?;
@@ -146,8 +146,8 @@ pub(crate) fn write_batch(
     messages: &mut Letters,
 ) -> Result<(), Memory>
     requires { CanSend batch }
-    ensures sent { OnOk result (sending_of known.new messages.new ≡ send_all (batch_messages batch) (sending_of known.old messages.old))) }
-    ensures memory { OnErr result (IsPartlySent (batch_messages batch) (sending_of known.old messages.old)) (sending_of known.new messages.new))) }
+    ensures sent { OnOk result (sending_of known.new messages.new ≡ send_all (batch_messages batch) (sending_of known.old messages.old)) }
+    ensures memory { OnErr result (IsPartlySent (batch_messages batch) (sending_of known.old messages.old) (sending_of known.new messages.new)) }
 {
     let Batch { deletes, adds } = batch;
     delete_phase(alloc, known, deletes, messages)?;
