@@ -4,4 +4,5 @@ pub mod Sending
 pub mod Reports
 pub mod Fitting
 pub mod Writing
+pub mod Frames
 pub mod Worked

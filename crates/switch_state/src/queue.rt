@@ -30,13 +30,10 @@ pub(crate) fn numbers(alloc: Global, barriers: &VecDeque<Barrier>) -> Result<Lis
 }
 
 /// The same barriers.
-pub(crate) fn copied(
-    alloc: Global,
-    barriers: &VecDeque<Barrier>,
-) -> Result<VecDeque<Barrier>, Memory>
+pub(crate) fn copied(barriers: &VecDeque<Barrier>) -> Result<VecDeque<Barrier>, Memory>
     ensures { IfOk result (λ copied. copied.items ≡ barriers.now.items) }
 {
-    let mut copied = VecDeque::new(alloc);
+    let mut copied = VecDeque::new(*barriers.allocator());
     for barrier in barriers {
         copied.push_back(*barrier)?;
     }
