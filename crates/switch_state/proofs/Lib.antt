@@ -1,5 +1,5 @@
 pub mod Fitting
 pub mod Frames
+pub mod Oldest
 pub mod Partly
-pub mod Queue
 pub mod Tables
