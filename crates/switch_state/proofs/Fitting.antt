@@ -9,6 +9,7 @@ use Rattle.of10_actions.specs.Actions.{AreInRange, IsInRange}
 use Rattle.of10_actions.specs.declared.action.Action.TheVariants.{Output}
 use Rattle.of10_actions.specs.Spelling.{spellings}
 use Rattle.of10_match.specs.Fields.{MatchOf}
+use Rattle.of10_match.specs.Matching.{everything}
 use Rattle.of10_match.specs.Wildcards.{match_bytes}
 use Rattle.of10_msgs.specs.Ranges.{CanWrite, IsClear}
 use Rattle.of10_msgs.specs.Spelling.{body_bytes, flow_mod_fields, packet_out_fields}
@@ -16,7 +17,7 @@ use Rattle.of10_msgs.specs.declared.message.Body.{Body}
 use Rattle.of10_msgs.specs.declared.message.Body.TheVariants as bodies
 use Rattle.of10_msgs.specs.declared.message.FlowMod.{FlowMod}
 use Rattle.switch_state.specs.Fitting.{CanAdd, CanSend}
-use Rattle.switch_state.specs.Messages.{addition, batch_messages, delete_all, delete_strict, flow_request, installation, packet_out, phase, port_request}
+use Rattle.switch_state.specs.Messages.{addition, batch_messages, delete_all, delete_strict, flow_mod, flow_request, installation, packet_out, phase, port_request}
 
 all_joined : {A : Type 0} (P : A → Type 0) (xs ys : List A) → AllByRecursion P xs → AllByRecursion P ys → AllByRecursion P (xs ++ ys)
 all_joined P [] ys a b = b
@@ -43,13 +44,13 @@ none_in_range : AreInRange []
 none_in_range = All-from_recursion IsInRange [] tt
 
 pub delete_all_fits : CanWrite delete_all
-delete_all_fits = flow_mod_fits _ refl refl none_in_range (omega arith)
+delete_all_fits = flow_mod_fits (flow_mod everything 0 3 0 0 []) refl refl none_in_range (omega arith)
 
 pub delete_strict_fits : (w : Written) → CanWrite (delete_strict w)
-delete_strict_fits w = flow_mod_fits _ (match_long w.entry.m) (match_clear w.entry.m) none_in_range (omega arith)
+delete_strict_fits w = flow_mod_fits (flow_mod w.entry.m w.cookie 4 w.entry.priority 0 []) (match_long w.entry.m) (match_clear w.entry.m) none_in_range (omega arith)
 
 pub addition_fits : (w : Written) → CanAdd w → CanWrite (addition w)
-addition_fits w c = flow_mod_fits _ (match_long w.entry.m) (match_clear w.entry.m) c.in_range c.fits
+addition_fits w c = flow_mod_fits (flow_mod w.entry.m w.cookie 0 w.entry.priority 1 w.entry.actions) (match_long w.entry.m) (match_clear w.entry.m) c.in_range c.fits
 
 pub set_config_fits : CanWrite (bodies.SetConfig 0 0xffff)
 unfolding body_bytes

@@ -3,7 +3,7 @@ use Rattle.std.proofs.Common.{◌≡◌, ℕ, suc, ◌+◌, ◌<◌, ◌≤◌, 
 use Rattle.std.specs.Prelude.{find, not, nat_lt, position, slice_get, if◌then◌else◌}
 use Rattle.std.specs.List.{position_or_len, remove}
 use Rattle.std.specs.Set.{remove_key}
-use Rattle.std.proofs.lemmas.Bool.{ltb-false, ltb-lt}
+use Rattle.std.proofs.lemmas.Bool.{ltb-false, ltb-true}
 use Rattle.std.proofs.lemmas.List.{drop_all, take_all}
 use Rattle.std.proofs.lemmas.List.Folds.{find_at}
 use Rattle.std.proofs.lemmas.Option.{cond_some, none-some, slice_get_past, slice_get_read}
@@ -27,7 +27,7 @@ module _ {A : Type 0} (p : A → Bool) where
   place_found : (xs : List A) (i : ℕ) → Some i ≡ position p xs → (position_or_len p xs ≡ i) × (i < length xs)
   place_found xs i e =
       let s = cond_some (nat_lt (position_or_len p xs) (length xs)) (position_or_len p xs) i (sym e) in
-      (s.1, subst (λ n. n < length xs) s.1 (ltb-lt (position_or_len p xs) (length xs) s.0))
+      (s.1, subst (λ n. n < length xs) s.1 (ltb-true (position_or_len p xs) (length xs) s.0))
 
   pub found-removed : (xs : List A) (i : ℕ) → Some i ≡ position p xs → remove xs i ≡ remove_key p xs
   found-removed xs i e = subst (λ n. remove xs n ≡ remove_key p xs) (place_found xs i e).0 (first_removed xs)

@@ -1,5 +1,5 @@
 -- What a switch reads of the messages that it is sent.
-use Rattle.std.specs.Prelude.{◌≡◌, ◌<◌, ◌^◌, ℕ, ⊥, Result, Ok, Err, List, [], ◌∷◌, ◌++◌, All, flat_map}
+use Rattle.std.specs.Prelude.{◌≡◌, ◌<◌, ◌^◌, ℕ, Result, Ok, Err, List, [], ◌∷◌, ◌++◌, All, flat_map}
 use Rattle.std.specs.List.{AllByRecursion}
 use Rattle.install_plan.specs.declared.written.Written.{Written}
 use Rattle.of10_actions.specs.Actions.{FitsTypes as ActionFits}

@@ -2,60 +2,45 @@
 use Rattle.std.specs.Prelude.{ℕ, Bool, if◌then◌else◌, List, [], ◌∷◌, ◌++◌, map}
 use Rattle.install_plan.specs.declared.written.Batch.{Batch}
 use Rattle.install_plan.specs.declared.written.Written.{Written}
+use Rattle.of10_actions.specs.declared.action.Action.{Action}
 use Rattle.of10_actions.specs.declared.action.Action.TheVariants.{Output}
+use Rattle.of10_match.specs.Fields.{MatchOf}
 use Rattle.of10_match.specs.Matching.{everything}
 use Rattle.of10_match.specs.Wildcards.{match_bytes}
 use Rattle.of10_msgs.specs.Spelling.{spelling}
 use Rattle.of10_msgs.specs.declared.message.Body.{Body}
 use Rattle.of10_msgs.specs.declared.message.Body.TheVariants.{BarrierRequest, EchoReply, FlowMod, PacketOut, SetConfig, StatsRequest}
+use Rattle.of10_msgs.specs.declared.message.FlowMod.{FlowMod as FlowModOf}
 use Rattle.of10_stats.specs.Spelling.{request_bytes}
 use Rattle.of10_stats.specs.declared.request.StatsRequest.{StatsRequest as StatsRequestOf}
 use Rattle.of10_stats.specs.declared.request.StatsRequest.TheVariants.{Flow, Port}
 
--- the deletion of every entry
-abbrev pub delete_all : Body
-delete_all = FlowMod (record {
-  m = match_bytes everything;
-  cookie = 0;
-  command = 3;
+-- a FLOW_MOD as it is written to switches: no timeouts, no buffer, any port
+abbrev pub flow_mod : MatchOf → ℕ → ℕ → ℕ → ℕ → List Action → FlowModOf
+flow_mod m cookie command priority flags actions = record {
+  m = match_bytes m;
+  cookie = cookie;
+  command = command;
   idle_timeout = 0;
   hard_timeout = 0;
-  priority = 0;
+  priority = priority;
   buffer_id = 0xffffffff;
   out_port = 0xffff;
-  flags = 0;
-  actions = [];
-})
+  flags = flags;
+  actions = actions;
+}
+
+-- the deletion of every entry
+abbrev pub delete_all : Body
+delete_all = FlowMod (flow_mod everything 0 3 0 0 [])
 
 -- the deletion of an entry that stands
 abbrev pub delete_strict : Written → Body
-delete_strict w = FlowMod (record {
-  m = match_bytes w.entry.m;
-  cookie = w.cookie;
-  command = 4;
-  idle_timeout = 0;
-  hard_timeout = 0;
-  priority = w.entry.priority;
-  buffer_id = 0xffffffff;
-  out_port = 0xffff;
-  flags = 0;
-  actions = [];
-})
+delete_strict w = FlowMod (flow_mod w.entry.m w.cookie 4 w.entry.priority 0 [])
 
 -- the addition of an entry under its cookie: the switch is to tell when it goes
 abbrev pub addition : Written → Body
-addition w = FlowMod (record {
-  m = match_bytes w.entry.m;
-  cookie = w.cookie;
-  command = 0;
-  idle_timeout = 0;
-  hard_timeout = 0;
-  priority = w.entry.priority;
-  buffer_id = 0xffffffff;
-  out_port = 0xffff;
-  flags = 1;
-  actions = w.entry.actions;
-})
+addition w = FlowMod (flow_mod w.entry.m w.cookie 0 w.entry.priority 1 w.entry.actions)
 
 -- messages, and the barrier that ends them, if there are any
 abbrev pub phase : List Body → List Body

@@ -73,12 +73,12 @@ net_goes = record {
   adds = written (to_net 32) 11 (Output 2 0 ∷ []) 8 ∷ [];
 }
 
--- a message, and a FLOW_MOD as it is written to switches
+-- a message, and a FLOW_MOD with its command, flags and actions
 abbrev pub message : ℕ → Body → List ℕ
 message xid body = spelling (record { xid = xid; body = body })
 
-abbrev pub flow_mod : ℕ → MatchOf → ℕ → ℕ → ℕ → List Action → Body
-flow_mod command m cookie priority flags actions = FlowMod (record {
+abbrev pub as_written : ℕ → MatchOf → ℕ → ℕ → ℕ → List Action → Body
+as_written command m cookie priority flags actions = FlowMod (record {
   m = match_bytes m;
   cookie = cookie;
   command = command;
@@ -102,8 +102,8 @@ ABatchIsSent =
         deleted = 2 ∷ 3 ∷ [];
         barriers = record { number = 5; xid = 20 } ∷ record { number = 6; xid = 22 } ∷ [];
       };
-      messages = message 18 (flow_mod 4 (to_net 24) 3 9 0 []) ∷ message 19 (flow_mod 4 (to_net 32) 2 11 0 []) ∷ message 20 BarrierRequest
-          ∷ message 21 (flow_mod 0 (to_net 32) 8 11 1 (Output 2 0 ∷ [])) ∷ message 22 BarrierRequest ∷ [];
+      messages = message 18 (as_written 4 (to_net 24) 3 9 0 []) ∷ message 19 (as_written 4 (to_net 32) 2 11 0 []) ∷ message 20 BarrierRequest
+          ∷ message 21 (as_written 0 (to_net 32) 8 11 1 (Output 2 0 ∷ [])) ∷ message 22 BarrierRequest ∷ [];
     }
 
 -- without deletes there is one phase, and without anything no message

@@ -1,10 +1,10 @@
 //! The messages that a switch is sent.
-ghost use Rattle.std.specs.Prelude.{◌≡◌, ◌<◌, IfOk, length};
-ghost use Rattle.of10_match.specs.Wildcards.{match_bytes};
+ghost use Rattle.std.specs.Prelude.{◌≡◌, ◌+◌, ◌<◌, ◌^◌, IfOk, length};
+ghost use Rattle.of10_msgs.specs.Commands.{command_number};
 ghost use Rattle.of10_msgs.specs.Ranges.{CanWrite};
 ghost use Rattle.of10_stats.specs.Ranges.{CanWriteRequest};
 ghost use Rattle.switch_state.specs.Fitting.{CanAdd};
-ghost use Rattle.switch_state.specs.Messages.{addition as addition_of, delete_all as delete_all_of, delete_strict as delete_strict_of, echo_reply as echo_reply_of, flow_request as flow_request_of, packet_out as packet_out_of, port_request as port_request_of, stats_request as stats_request_of};
+ghost use Rattle.switch_state.specs.Messages.{addition as addition_of, delete_all as delete_all_of, delete_strict as delete_strict_of, echo_reply as echo_reply_of, flow_mod as flow_mod_of, flow_request as flow_request_of, packet_out as packet_out_of, port_request as port_request_of, stats_request as stats_request_of};
 
 use cv_io::{Bytes, List, Memory};
 use install_plan::Written;
@@ -32,7 +32,7 @@ fn flow_mod(
     flags: u16,
     actions: List<Action>,
 ) -> FlowMod
-    ensures { result ≡ record { m = match_bytes m.now; cookie = cookie; command = command_number command; idle_timeout = 0; hard_timeout = 0; priority = priority; buffer_id = 0xffffffff; out_port = 0xffff; flags = flags; actions = actions } }
+    ensures { result ≡ flow_mod_of m.now cookie (command_number command) priority flags actions }
 {
     FlowMod {
         m: m.write(),

@@ -1,5 +1,5 @@
 //! The barriers that wait for their answers, the oldest first.
-ghost use Rattle.std.specs.Prelude.{◌≡◌, IfOk, find, map};
+ghost use Rattle.std.specs.Prelude.{◌≡◌, IfOk, find, map, position};
 ghost use Rattle.std.specs.Set.{remove_key};
 ghost use Rattle.switch_state.specs.Reports.{has_xid};
 ghost use Rattle.switch_state.specs.declared.barrier.Barrier.{Barrier as BarrierOf};
@@ -9,12 +9,19 @@ use cv_io::{List, Memory};
 use std::alloc::Global;
 use std::collections::VecDeque;
 
+/// The place of the oldest barrier of an xid.
+fn place_of(barriers: &VecDeque<Barrier>, xid: u32) -> Option<usize>
+    ensures { result ≡ position (has_xid xid) barriers.now.items }
+{
+    barriers.iter().position(|barrier| barrier.xid == xid)
+}
+
 /// Takes the oldest barrier of an xid out.
 pub(crate) fn take_oldest(barriers: &mut VecDeque<Barrier>, xid: u32) -> Option<Barrier>
     ensures taken { result ≡ find (has_xid xid) barriers.old.items }
     ensures left { barriers.new.items ≡ remove_key (has_xid xid) barriers.old.items }
 {
-    let place = barriers.iter().position(|b| b.xid == xid)?;
+    let place = place_of(barriers, xid)?;
     barriers.remove(place)
 }
 
