@@ -9,14 +9,11 @@ use crate::sending::{install, send, write_batch};
 use cv_io::{Duplicate, List, Memory};
 use install_plan::Batch;
 use of10_msgs::number::PORT_DELETED;
-use of10_msgs::{Body, FlowMod, PhyPort};
+use of10_msgs::{Body, Command, FlowMod, PhyPort};
 use outbox::Letters;
 use std::alloc::Global;
 use std::collections::{BTreeSet, VecDeque};
 use std::marker::Model;
-
-/// The number of the command DELETE_STRICT (OFPFC_DELETE_STRICT).
-const DELETE_STRICT: u16 = 4;
 
 /// What is known of a switch in its round: it is thrown away as the round ends.
 #[derive(Drop)]
@@ -157,7 +154,7 @@ impl Known {
         ensures noted { OnOk result (self.new ≡ known_after (Body.FlowMod f.now) xid self.old) }
         ensures memory { OnErr result (self.new ≡ self.old) }
     {
-        if f.command == DELETE_STRICT {
+        if f.command == Command::DeleteStrict.number() {
             self.deleted.insert(f.cookie)?;
         }
         self.xid = xid;
