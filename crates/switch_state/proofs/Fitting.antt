@@ -61,7 +61,7 @@ unfolding body_bytes
 barrier_fits = record { long = refl; fits = omega arith; in_range = tt }
 
 pub installation_fits : AllByRecursion CanWrite installation
-installation_fits = (set_config_fits, delete_all_fits, barrier_fits, tt)
+installation_fits = (set_config_fits, (delete_all_fits, (barrier_fits, tt)))
 
 -- a phase of messages that can be written
 phase_fits : (bs : List Body) → AllByRecursion CanWrite bs → AllByRecursion CanWrite (phase bs)

@@ -1,6 +1,6 @@
 -- The first item that passes a test, and the list without it.
 use Rattle.std.proofs.Common.{◌≡◌, ℕ, suc, ◌+◌, ◌<◌, ◌≤◌, Bool, true, false, List, [], ◌∷◌, ◌++◌, Option, Some, None, length, take, drop, get_or, refl, ap, sym, subst, ◌∙◌, arith, append-nil}
-use Rattle.std.specs.Prelude.{find, not, nat_lt, position, slice_get, if◌then◌else◌}
+use Rattle.std.specs.Prelude.{◌↔◌, IfSome, IsSome, OnSome, find, not, nat_lt, position, slice_get, if◌then◌else◌}
 use Rattle.std.specs.List.{position_or_len, remove}
 use Rattle.std.specs.Set.{remove_key}
 use Rattle.std.proofs.lemmas.Bool.{ltb-false, ltb-true}
@@ -12,6 +12,9 @@ remove-later : {A : Type 0} (x : A) (xs : List A) (n : ℕ) → remove (x ∷ xs
 remove-later x xs n =
     let next : suc n ≡ 1 + n = omega arith in
     subst (λ k. remove (x ∷ xs) k ≡ x ∷ remove xs n) next refl
+
+none-there : false ≡ true → ⊥
+none-there e = cc
 
 module _ {A : Type 0} (p : A → Bool) where
   -- the list without the item at the first place that passes
@@ -55,3 +58,16 @@ module _ {A : Type 0} (p : A → Bool) where
       ap (λ ys. ys ++ drop (suc (position_or_len p xs)) xs) (take_all (position_or_len p xs) xs past)
       ∙ (ap (λ ys. xs ++ ys) (drop_all (suc (position_or_len p xs)) xs (omega (arith, past))) ∙ append-nil xs) in
       sym all ∙ first_removed xs
+
+  -- what is taken out of a queue, of so many items, at a place that was found
+
+  taken_there : (xs : List A) (i : ℕ) (n : ℕ) → Some i ≡ position p xs → n ≡ length xs → i < n
+  taken_there xs i n e long = let at = place_found xs i e in omega (arith, at.1, long)
+
+  pub taken-first : (xs : List A) (i : ℕ) (r : Option A) (n : ℕ) → Some i ≡ position p xs → n ≡ length xs → (IsSome r ↔ (i < n)) → IfSome r (λ y. y ≡ get_or xs i y) → r ≡ find p xs
+  taken-first xs i None n e long variant value = absurd (none-there (variant.1 (taken_there xs i n e long)))
+  taken-first xs i (Some y) n e long variant value = found-first xs i y e value
+
+  pub taken-removed : (xs : List A) (i : ℕ) (r : Option A) (left : List A) (n : ℕ) → Some i ≡ position p xs → n ≡ length xs → (IsSome r ↔ (i < n)) → OnSome r (left ≡ remove xs i) → left ≡ remove_key p xs
+  taken-removed xs i None left n e long variant items = absurd (none-there (variant.1 (taken_there xs i n e long)))
+  taken-removed xs i (Some y) left n e long variant items = items ∙ found-removed xs i e

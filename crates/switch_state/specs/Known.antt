@@ -7,7 +7,8 @@ use Rattle.switch_state.specs.declared.barrier.Barrier.{Barrier}
 
 -- The xid of the last message that took one, 0 before the first; the first cookie that the round can write; how many
 -- barriers were sent, and those that wait for their answers, the oldest first; whether one was answered; the ports
--- that are down; and the cookies whose entries were deleted and whose removals weren't reported. Ports and cookies rise.
+-- that are down; and the cookies whose entries were deleted and whose removals weren't reported. Ports rise, and so do
+-- cookies.
 pub record KnownOf : Type 0 where
   pub xid : ℕ
   pub first : ℕ
@@ -19,7 +20,15 @@ pub record KnownOf : Type 0 where
 
 -- as a round begins, in which this cookie is the first that can be written
 abbrev pub nothing_known : ℕ → KnownOf
-nothing_known first = record { xid = 0; first = first; begun = 0; barriers = []; answered = false; dark = []; deleted = [] }
+nothing_known first = record {
+  xid = 0;
+  first = first;
+  begun = 0;
+  barriers = [];
+  answered = false;
+  dark = [];
+  deleted = [];
+}
 
 -- the number is one of these
 abbrev pub is_one_of : List ℕ → ℕ → Bool

@@ -9,7 +9,8 @@ use Rattle.of10_match.specs.Matching.{everything}
 use Rattle.of10_match.specs.Wildcards.{match_bytes}
 use Rattle.of10_msgs.specs.Spelling.{spelling}
 use Rattle.of10_msgs.specs.declared.message.Body.{Body}
-use Rattle.of10_msgs.specs.declared.message.Body.TheVariants.{BarrierRequest, EchoReply, FlowMod, PacketOut, SetConfig, StatsRequest}
+use Rattle.of10_msgs.specs.declared.message.Body.TheVariants.{BarrierRequest, EchoReply, FlowMod, PacketOut, SetConfig}
+use Rattle.of10_msgs.specs.declared.message.Body.TheVariants.{StatsRequest}
 use Rattle.of10_msgs.specs.declared.message.FlowMod.{FlowMod as FlowModOf}
 use Rattle.of10_stats.specs.Spelling.{request_bytes}
 use Rattle.of10_stats.specs.declared.request.StatsRequest.{StatsRequest as StatsRequestOf}
@@ -55,9 +56,13 @@ batch_messages b = phase (map delete_strict b.deletes) ++ phase (map addition b.
 abbrev pub installation : List Body
 installation = SetConfig 0 0xffff ∷ delete_all ∷ BarrierRequest ∷ []
 
+-- the installation, where the round begins
+abbrev pub beginning : Bool → List Body
+beginning begins = if begins then installation else []
+
 -- the messages of a batch, after the installation where the round begins
 abbrev pub switch_messages : Bool → Batch → List Body
-switch_messages begins b = if begins then installation ++ batch_messages b else batch_messages b
+switch_messages begins b = beginning begins ++ batch_messages b
 
 -- a request for statistics
 abbrev pub stats_request : StatsRequestOf → Body
@@ -73,7 +78,12 @@ port_request = stats_request (Port 0xffff)
 
 -- a packet that is to leave by a port
 abbrev pub packet_out : ℕ → List ℕ → Body
-packet_out port bytes = PacketOut (record { buffer_id = 0xffffffff; in_port = 0xffff; actions = Output port 0 ∷ []; bytes = bytes })
+packet_out port bytes = PacketOut (record {
+  buffer_id = 0xffffffff;
+  in_port = 0xffff;
+  actions = Output port 0 ∷ [];
+  bytes = bytes;
+})
 
 -- the answer to an ECHO_REQUEST has its xid and its bytes, and takes no xid of the round
 abbrev pub echo_reply : ℕ → List ℕ → List ℕ

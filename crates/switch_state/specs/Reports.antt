@@ -26,14 +26,18 @@ answered_number xid x = option_map (λ (b : Barrier). b.number) (oldest xid x)
 
 -- after a BARRIER_REPLY the oldest barrier of its xid is answered; where none waits, nothing changes
 abbrev pub barrier_reply : ℕ → KnownOf → KnownOf
-barrier_reply xid x = record x { answered = x.answered || is_some (oldest xid x); barriers = remove_key (has_xid xid) x.barriers }
+barrier_reply xid x = record x {
+  answered = x.answered || is_some (oldest xid x);
+  barriers = remove_key (has_xid xid) x.barriers;
+}
 
 -- ---- removals
 
 -- A removal before the first answer to a barrier, or of a cookie from before the round, is of what was wiped as the
 -- round began, and ignored. That of a cookie that is outstanding is taken. Any other is strange.
 abbrev pub removal : KnownOf → ℕ → Removal
-removal x cookie = if not x.answered || nat_lt cookie x.first then Ignored else (if is_outstanding x cookie then Taken else Strange)
+removal x cookie =
+    if not x.answered || nat_lt cookie x.first then Ignored else (if is_outstanding x cookie then Taken else Strange)
 
 abbrev pub after_removal : Removal → ℕ → KnownOf → KnownOf
 after_removal Taken cookie x = record x { deleted = remove_key (is_at (nat_cmp cookie)) x.deleted }
@@ -52,6 +56,6 @@ tells_down reason port = (reason == 1) || (port.state % 2 == 1)
 
 -- after a PORT_STATUS; the last one of a port decides
 abbrev pub port_status : ℕ → PhyPort → KnownOf → KnownOf
-port_status reason port x = record x {
-  dark = if tells_down reason port then insert_key nat_cmp x.dark port.port_no else remove_key (is_at (nat_cmp port.port_no)) x.dark;
-}
+port_status reason port x =
+    if tells_down reason port then record x { dark = insert_key nat_cmp x.dark port.port_no }
+    else record x { dark = remove_key (is_at (nat_cmp port.port_no)) x.dark }

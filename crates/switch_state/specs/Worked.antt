@@ -23,7 +23,10 @@ from x = sending_of x []
 
 -- an entry under its cookie
 abbrev pub written : MatchOf → ℕ → List Action → ℕ → Written
-written m priority actions cookie = record { entry = record { m = m; priority = priority; actions = actions; ancestry = [] }; cookie = cookie }
+written m priority actions cookie = record {
+  entry = record { m = m; priority = priority; actions = actions; ancestry = [] };
+  cookie = cookie;
+}
 
 -- ---- a switch comes up
 
@@ -41,7 +44,8 @@ set_config = 0x01 ∷ 0x09 ∷ 0x00 ∷ 0x0c ∷ 0x00 ∷ 0x00 ∷ 0x00 ∷ 0x01
 abbrev pub delete_everything : List ℕ
 delete_everything =
     (0x01 ∷ 0x0e ∷ 0x00 ∷ 0x48 ∷ 0x00 ∷ 0x00 ∷ 0x00 ∷ 0x02 ∷ []) ++ (all_bytes ++ (replicate 8 0
-    ++ 0x00 ∷ 0x03 ∷ 0x00 ∷ 0x00 ∷ 0x00 ∷ 0x00 ∷ 0x00 ∷ 0x00 ∷ 0xff ∷ 0xff ∷ 0xff ∷ 0xff ∷ 0xff ∷ 0xff ∷ 0x00 ∷ 0x00 ∷ []))
+    ++ 0x00 ∷ 0x03 ∷ 0x00 ∷ 0x00 ∷ 0x00 ∷ 0x00 ∷ 0x00 ∷ 0x00
+    ∷ 0xff ∷ 0xff ∷ 0xff ∷ 0xff ∷ 0xff ∷ 0xff ∷ 0x00 ∷ 0x00 ∷ []))
 
 abbrev pub barrier_of : ℕ → List ℕ
 barrier_of xid = 0x01 ∷ 0x12 ∷ 0x00 ∷ 0x08 ∷ 0x00 ∷ 0x00 ∷ 0x00 ∷ xid ∷ []
@@ -49,14 +53,19 @@ barrier_of xid = 0x01 ∷ 0x12 ∷ 0x00 ∷ 0x08 ∷ 0x00 ∷ 0x00 ∷ 0x00 ∷ 
 abbrev pub add_miss : List ℕ
 add_miss =
     (0x01 ∷ 0x0e ∷ 0x00 ∷ 0x50 ∷ 0x00 ∷ 0x00 ∷ 0x00 ∷ 0x04 ∷ []) ++ (all_bytes ++ (replicate 7 0
-    ++ 0x01 ∷ 0x00 ∷ 0x00 ∷ 0x00 ∷ 0x00 ∷ 0x00 ∷ 0x00 ∷ 0x00 ∷ 0x02 ∷ 0xff ∷ 0xff ∷ 0xff ∷ 0xff ∷ 0xff ∷ 0xff ∷ 0x00 ∷ 0x01
+    ++ 0x01 ∷ 0x00 ∷ 0x00 ∷ 0x00 ∷ 0x00 ∷ 0x00 ∷ 0x00 ∷ 0x00 ∷ 0x02
+    ∷ 0xff ∷ 0xff ∷ 0xff ∷ 0xff ∷ 0xff ∷ 0xff ∷ 0x00 ∷ 0x01
     ∷ 0x00 ∷ 0x00 ∷ 0x00 ∷ 0x08 ∷ 0xff ∷ 0xfd ∷ 0xff ∷ 0xff ∷ []))
 
 -- It is configured and emptied, and gets its entry: five messages. Two barriers wait for their answers.
 abbrev pub ASwitchIsInstalled : Type 0
 ASwitchIsInstalled =
     send_all (switch_messages true one_miss) (from (nothing_known 1)) ≡ record {
-      known = record (nothing_known 1) { xid = 5; begun = 2; barriers = record { number = 1; xid = 3 } ∷ record { number = 2; xid = 5 } ∷ [] };
+      known = record (nothing_known 1) {
+        xid = 5;
+        begun = 2;
+        barriers = record { number = 1; xid = 3 } ∷ record { number = 2; xid = 5 } ∷ [];
+      };
       messages = set_config ∷ delete_everything ∷ barrier_of 3 ∷ add_miss ∷ barrier_of 5 ∷ [];
     }
 
@@ -94,7 +103,8 @@ as_written command m cookie priority flags actions = FlowMod (record {
 -- Two deletes and a barrier, an add and a barrier. The cookies of what goes are outstanding.
 abbrev pub ABatchIsSent : Type 0
 ABatchIsSent =
-    send_all (batch_messages net_goes) (from (record (nothing_known 1) { xid = 17; begun = 4; answered = true })) ≡ record {
+    send_all (batch_messages net_goes) (from (record (nothing_known 1) { xid = 17; begun = 4; answered = true }))
+    ≡ record {
       known = record (nothing_known 1) {
         xid = 22;
         begun = 6;
@@ -102,13 +112,15 @@ ABatchIsSent =
         deleted = 2 ∷ 3 ∷ [];
         barriers = record { number = 5; xid = 20 } ∷ record { number = 6; xid = 22 } ∷ [];
       };
-      messages = message 18 (as_written 4 (to_net 24) 3 9 0 []) ∷ message 19 (as_written 4 (to_net 32) 2 11 0 []) ∷ message 20 BarrierRequest
+      messages = message 18 (as_written 4 (to_net 24) 3 9 0 []) ∷ message 19 (as_written 4 (to_net 32) 2 11 0 [])
+          ∷ message 20 BarrierRequest
           ∷ message 21 (as_written 0 (to_net 32) 8 11 1 (Output 2 0 ∷ [])) ∷ message 22 BarrierRequest ∷ [];
     }
 
 -- without deletes there is one phase, and without anything no message
 abbrev pub EmptyPhasesAreLeftOut : Type 0
-EmptyPhasesAreLeftOut = (length (batch_messages one_miss) ≡ 2) × (batch_messages (record { deletes = []; adds = [] }) ≡ [])
+EmptyPhasesAreLeftOut =
+    (length (batch_messages one_miss) ≡ 2) × (batch_messages (record { deletes = []; adds = [] }) ≡ [])
 
 -- ---- xids
 
@@ -124,7 +136,9 @@ XidsBeginAgain =
 
 -- the poll of all entries, with xid 9
 abbrev pub poll_bytes : List ℕ
-poll_bytes = (0x01 ∷ 0x10 ∷ 0x00 ∷ 0x38 ∷ 0x00 ∷ 0x00 ∷ 0x00 ∷ 0x09 ∷ 0x00 ∷ 0x01 ∷ 0x00 ∷ 0x00 ∷ []) ++ (all_bytes ++ 0xff ∷ 0x00 ∷ 0xff ∷ 0xff ∷ [])
+poll_bytes =
+    (0x01 ∷ 0x10 ∷ 0x00 ∷ 0x38 ∷ 0x00 ∷ 0x00 ∷ 0x00 ∷ 0x09 ∷ 0x00 ∷ 0x01 ∷ 0x00 ∷ 0x00 ∷ [])
+    ++ (all_bytes ++ 0xff ∷ 0x00 ∷ 0xff ∷ 0xff ∷ [])
 
 -- a packet of 42 bytes that is to leave by port 1
 abbrev pub out_head : List ℕ
@@ -143,31 +157,50 @@ MessagesAreSpelled =
 
 -- a round whose first cookie is 5, in which two barriers wait and cookie 6 is outstanding
 abbrev pub in_round : KnownOf
-in_round = record (nothing_known 5) { xid = 9; begun = 2; barriers = record { number = 1; xid = 3 } ∷ record { number = 2; xid = 9 } ∷ []; deleted = 6 ∷ [] }
+in_round = record (nothing_known 5) {
+  xid = 9;
+  begun = 2;
+  barriers = record { number = 1; xid = 3 } ∷ record { number = 2; xid = 9 } ∷ [];
+  deleted = 6 ∷ [];
+}
 
--- Before an answer all removals are ignored. Then one from before the round is; that of cookie 6 is taken, once; any other
--- is strange.
+-- Before an answer all removals are ignored. Then one from before the round is; that of cookie 6 is taken, once; any
+-- other is strange.
 abbrev pub RemovalsAreJudged : Type 0
 RemovalsAreJudged =
     (removal in_round 6 ≡ Ignored) × (removal in_round 7 ≡ Ignored)
     × (removal (barrier_reply 3 in_round) 4 ≡ Ignored) × (removal (barrier_reply 3 in_round) 6 ≡ Taken)
-    × (removal (flow_removed 6 (barrier_reply 3 in_round)) 6 ≡ Strange) × (removal (barrier_reply 3 in_round) 5 ≡ Strange)
+    × (removal (flow_removed 6 (barrier_reply 3 in_round)) 6 ≡ Strange)
+    × (removal (barrier_reply 3 in_round) 5 ≡ Strange)
     × (is_outstanding (flow_removed 6 in_round) 6 ≡ true)
 
 -- a barrier is answered by its xid, also out of turn; an unknown xid changes nothing
 abbrev pub BarriersAreAnswered : Type 0
 BarriersAreAnswered =
     (answered_number 9 in_round ≡ Some 2) × (answered_number 4 in_round ≡ None) × (barrier_reply 4 in_round ≡ in_round)
-    × ((barrier_reply 9 in_round).barriers ≡ record { number = 1; xid = 3 } ∷ []) × (answered_number 9 (barrier_reply 9 in_round) ≡ None)
+    × ((barrier_reply 9 in_round).barriers ≡ record { number = 1; xid = 3 } ∷ [])
+    × (answered_number 9 (barrier_reply 9 in_round) ≡ None)
 
 abbrev pub port_of : ℕ → ℕ → PhyPort
-port_of n state = record { port_no = n; hw_addr = 0; name = replicate 16 0; config = 0; state = state; curr = 0; advertised = 0; supported = 0; peer = 0 }
+port_of n state = record {
+  port_no = n;
+  hw_addr = 0;
+  name = replicate 16 0;
+  config = 0;
+  state = state;
+  curr = 0;
+  advertised = 0;
+  supported = 0;
+  peer = 0;
+}
 
 -- a port is down after its deletion or with LINK_DOWN, and up again after a status without
 abbrev pub PortsAreSeen : Type 0
 PortsAreSeen =
-    (is_dark (port_status 1 (port_of 3 0) in_round) 3 ≡ true) × (is_dark (port_status 2 (port_of 3 1) in_round) 3 ≡ true)
-    × (is_dark (port_status 2 (port_of 3 0) (port_status 2 (port_of 3 1) in_round)) 3 ≡ false) × (is_dark (port_status 2 (port_of 3 1) in_round) 4 ≡ false)
+    (is_dark (port_status 1 (port_of 3 0) in_round) 3 ≡ true)
+    × (is_dark (port_status 2 (port_of 3 1) in_round) 3 ≡ true)
+    × (is_dark (port_status 2 (port_of 3 0) (port_status 2 (port_of 3 1) in_round)) 3 ≡ false)
+    × (is_dark (port_status 2 (port_of 3 1) in_round) 4 ≡ false)
 
 -- ---- the examples are as computed
 

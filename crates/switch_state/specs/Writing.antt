@@ -48,7 +48,8 @@ between_barriers (body ∷ bodies) = in_first (changes_of body) (between_barrier
 -- a switch may go from one table to the other: it takes the changes between two barriers in any order
 abbrev pub MayGo : List (List Change) → List FlowEntry → List FlowEntry → Type 0
 MayGo [] old new = old ≡ new
-MayGo (changes ∷ later) old new = (order : List Change) × IsPermutation changes order × MayGo later (table_after_all old order) new
+MayGo (changes ∷ later) old new =
+    (order : List Change) × IsPermutation changes order × MayGo later (table_after_all old order) new
 
 -- and so by messages
 abbrev pub MayMake : List Body → List FlowEntry → List FlowEntry → Type 0
@@ -62,13 +63,14 @@ pub record IsReadable (w : Written) : Type 0 where
 -- the messages of a batch make the table that stands afterwards of that which stood before
 abbrev pub BatchIsWritten : Type 0
 BatchIsWritten =
-    (before after : List PhysEntry) (b : Batch) → entries_in b ≡ difference before after → HasOneAKey before → HasOneAKey after
+    (before after : List PhysEntry) (b : Batch) → entries_in b ≡ difference before after
+    → HasOneAKey before → HasOneAKey after
     → AllByRecursion IsReadable b.deletes → AllByRecursion IsReadable b.adds
     → (old new : List FlowEntry) → IsTableOf before old → MayMake (batch_messages b) old new → IsTableOf after new
 
 -- those of an installation make it of whatever the switch had
 abbrev pub InstallationIsWritten : Type 0
 InstallationIsWritten =
-    (after : List PhysEntry) (b : Batch) → b.deletes ≡ [] → IsPermutation after (map entry_of b.adds) → HasOneAKey after
-    → AllByRecursion IsReadable b.adds
+    (after : List PhysEntry) (b : Batch) → b.deletes ≡ [] → IsPermutation after (map entry_of b.adds)
+    → HasOneAKey after → AllByRecursion IsReadable b.adds
     → (old new : List FlowEntry) → MayMake (installation ++ batch_messages b) old new → IsTableOf after new

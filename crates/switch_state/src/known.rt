@@ -1,12 +1,13 @@
 //! What is known of a switch in its round.
-ghost use Rattle.std.specs.Prelude.{◌≡◌, IfOk, OnErr, OnOk};
+ghost use Rattle.std.specs.Prelude.{◌≡◌, ◌<◌, IfOk, OnErr, OnOk, length};
 ghost use Rattle.switch_state.specs.Reports.{tells_down as tells_down_of};
 
 use crate::barrier::Barrier;
+use crate::messages::{flow_request, packet_out, port_request};
 use crate::queue::{copied, numbers, take_oldest};
 use crate::removal::Removal;
-use crate::sending::{install, send, write_batch};
-use cv_io::{Duplicate, List, Memory};
+use crate::sending::{begin, send, write_batch};
+use cv_io::{Bytes, Duplicate, List, Memory};
 use install_plan::Batch;
 use of10_msgs::number::PORT_DELETED;
 use of10_msgs::{Body, Command, FlowMod, PhyPort};
@@ -51,11 +52,13 @@ impl Model for Known {
 }
 
 impl Known {
-    ghost use Rattle.of10_msgs.specs.Ranges.{CanWrite};
     ghost use Rattle.switch_state.specs.Fitting.{CanSend};
     ghost use Rattle.switch_state.specs.Known.{is_dark as is_dark_of, nothing_known, unanswered as unanswered_of};
-    ghost use Rattle.switch_state.specs.Messages.{switch_messages};
-    ghost use Rattle.switch_state.specs.Reports.{answered_number, barrier_reply as barrier_reply_of, flow_removed as flow_removed_of, port_status as port_status_of, removal as removal_of};
+    ghost use Rattle.switch_state.specs.Messages.{flow_request as flow_request_of, packet_out as packet_out_of};
+    ghost use Rattle.switch_state.specs.Messages.{port_request as port_request_of, switch_messages};
+    ghost use Rattle.switch_state.specs.Reports.{answered_number, barrier_reply as barrier_reply_of};
+    ghost use Rattle.switch_state.specs.Reports.{flow_removed as flow_removed_of, port_status as port_status_of};
+    ghost use Rattle.switch_state.specs.Reports.{removal as removal_of};
     ghost use Rattle.switch_state.specs.Sending.{IsPartlySent, known_after, send as send_of, send_all, sending_of};
 
     /// As a round begins, in which this cookie is the first that can be written. It takes no memory.
@@ -94,15 +97,6 @@ impl Known {
         numbers(alloc, &self.barriers)
     }
 
-    /// Sends a message: it takes the next xid.
-    pub fn send(&mut self, alloc: Global, body: Body, messages: &mut Letters) -> Result<(), Memory>
-        requires { CanWrite body }
-        ensures sent { OnOk result (sending_of self.new messages.new ≡ send_of (sending_of self.old messages.old) body) }
-        ensures memory { OnErr result ((self.new ≡ self.old) × (messages.new ≡ messages.old)) }
-    {
-        send(alloc, self, body, messages)
-    }
-
     /// Sends a batch, and before it the installation where the round begins.
     pub fn write(
         &mut self,
@@ -112,14 +106,50 @@ impl Known {
         messages: &mut Letters,
     ) -> Result<(), Memory>
         requires { CanSend batch }
-        ensures sent { OnOk result (sending_of self.new messages.new ≡ send_all (switch_messages begins batch) (sending_of self.old messages.old)) }
-        ensures memory { OnErr result (IsPartlySent (switch_messages begins batch) (sending_of self.old messages.old) (sending_of self.new messages.new)) }
+        ensures sent { OnOk result (sending_of self.new messages.new
+            ≡ send_all (switch_messages begins batch) (sending_of self.old messages.old)) }
+        ensures memory { OnErr result (IsPartlySent (switch_messages begins batch)
+            (sending_of self.old messages.old) (sending_of self.new messages.new)) }
     {
-        if !begins {
-            return write_batch(alloc, self, batch, messages);
-        }
-        install(alloc, self, messages)?;
+        begin(alloc, self, begins, messages)?;
         write_batch(alloc, self, batch, messages)
+    }
+
+    /// Asks for the numbers of all entries. `xid` tells the xid of the request.
+    pub fn poll_flows(&mut self, alloc: Global, messages: &mut Letters) -> Result<(), Memory>
+        ensures sent { OnOk result (sending_of self.new messages.new
+            ≡ send_of (sending_of self.old messages.old) flow_request_of) }
+        ensures memory { OnErr result ((self.new ≡ self.old) × (messages.new ≡ messages.old)) }
+    {
+        let body = flow_request(alloc)?;
+        send(alloc, self, body, messages)
+    }
+
+    /// Asks for the numbers of all ports.
+    pub fn poll_ports(&mut self, alloc: Global, messages: &mut Letters) -> Result<(), Memory>
+        ensures sent { OnOk result (sending_of self.new messages.new
+            ≡ send_of (sending_of self.old messages.old) port_request_of) }
+        ensures memory { OnErr result ((self.new ≡ self.old) × (messages.new ≡ messages.old)) }
+    {
+        let body = port_request(alloc)?;
+        send(alloc, self, body, messages)
+    }
+
+    /// Sends a packet that is to leave by a port. A packet of a PACKET_OUT that has an action is short enough.
+    pub fn send_packet(
+        &mut self,
+        alloc: Global,
+        port: u16,
+        bytes: Bytes,
+        messages: &mut Letters,
+    ) -> Result<(), Memory>
+        requires { length bytes < 65512 }
+        ensures sent { OnOk result (sending_of self.new messages.new
+            ≡ send_of (sending_of self.old messages.old) (packet_out_of port bytes)) }
+        ensures memory { OnErr result ((self.new ≡ self.old) × (messages.new ≡ messages.old)) }
+    {
+        let body = packet_out(alloc, port, bytes)?;
+        send(alloc, self, body, messages)
     }
 
     /// Notes a message that is sent.

@@ -5,6 +5,7 @@ ghost use Rattle.install_plan.specs.declared.written.Batch.{Batch};
 ghost use Rattle.of10_msgs.specs.Ranges.{CanWrite};
 ghost use Rattle.switch_state.specs.Fitting.{CanSend};
 ghost use Rattle.switch_state.specs.Messages.{batch_messages, flow_request, installation, packet_out, port_request};
+ghost use Rattle.switch_state.specs.Frames.{QuietChangesNothing, SentIsRead};
 ghost use Rattle.switch_state.specs.Writing.{BatchIsWritten, InstallationIsWritten};
 
 /// In whichever order a switch takes the messages between two barriers: those of a batch make the new table of the old
@@ -12,6 +13,12 @@ ghost use Rattle.switch_state.specs.Writing.{BatchIsWritten, InstallationIsWritt
 pub fn writing()
     ensures batch { BatchIsWritten }
     ensures installation { InstallationIsWritten }
+{}
+
+/// A switch reads what it is sent, and what follows a batch, as polls, packets and echoes, makes no difference to its table.
+pub fn reading()
+    ensures sent { SentIsRead }
+    ensures quiet { QuietChangesNothing }
 {}
 
 /// What switches are sent can be written.

@@ -13,7 +13,7 @@ pub mod worked;
 
 pub use barrier::Barrier;
 pub use known::Known;
-pub use messages::{echo_reply, flow_request, packet_out, port_request};
+pub use messages::echo_reply;
 pub use removal::Removal;
 
 #[cfg(test)]

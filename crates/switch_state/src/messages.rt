@@ -1,10 +1,12 @@
 //! The messages that a switch is sent.
 ghost use Rattle.std.specs.Prelude.{◌≡◌, ◌+◌, ◌<◌, ◌^◌, IfOk, length};
 ghost use Rattle.of10_msgs.specs.Commands.{command_number};
-ghost use Rattle.of10_msgs.specs.Ranges.{CanWrite};
 ghost use Rattle.of10_stats.specs.Ranges.{CanWriteRequest};
-ghost use Rattle.switch_state.specs.Fitting.{CanAdd};
-ghost use Rattle.switch_state.specs.Messages.{addition as addition_of, delete_all as delete_all_of, delete_strict as delete_strict_of, echo_reply as echo_reply_of, flow_mod as flow_mod_of, flow_request as flow_request_of, packet_out as packet_out_of, port_request as port_request_of, stats_request as stats_request_of};
+ghost use Rattle.switch_state.specs.Messages.{addition as addition_of, delete_all as delete_all_of};
+ghost use Rattle.switch_state.specs.Messages.{delete_strict as delete_strict_of, echo_reply as echo_reply_of};
+ghost use Rattle.switch_state.specs.Messages.{flow_mod as flow_mod_of, flow_request as flow_request_of};
+ghost use Rattle.switch_state.specs.Messages.{packet_out as packet_out_of, port_request as port_request_of};
+ghost use Rattle.switch_state.specs.Messages.{stats_request as stats_request_of};
 
 use cv_io::{Bytes, List, Memory};
 use install_plan::Written;
@@ -50,8 +52,7 @@ fn flow_mod(
 
 /// The deletion of every entry.
 pub(crate) fn delete_all(alloc: Global) -> Body
-    ensures value { result ≡ delete_all_of }
-    ensures fits { CanWrite result }
+    ensures { result ≡ delete_all_of }
 {
     let everything = Match::everything();
     Body::FlowMod(flow_mod(&everything, 0, Command::Delete, 0, 0, List::new(alloc)))
@@ -59,8 +60,7 @@ pub(crate) fn delete_all(alloc: Global) -> Body
 
 /// The deletion of an entry that stands.
 pub(crate) fn delete_strict(alloc: Global, written: &Written) -> Body
-    ensures value { result ≡ delete_strict_of written.now }
-    ensures fits { CanWrite result }
+    ensures { result ≡ delete_strict_of written.now }
 {
     let Written { entry, cookie } = written;
     Body::FlowMod(flow_mod(
@@ -75,9 +75,7 @@ pub(crate) fn delete_strict(alloc: Global, written: &Written) -> Body
 
 /// The addition of an entry, of which the switch is to tell when it goes.
 pub(crate) fn addition(written: Written) -> Body
-    requires { CanAdd written }
-    ensures value { result ≡ addition_of written }
-    ensures fits { CanWrite result }
+    ensures { result ≡ addition_of written }
 {
     let Written { entry, cookie } = written;
     let PhysEntry {
@@ -92,8 +90,7 @@ pub(crate) fn addition(written: Written) -> Body
 /// A request for statistics, as a body.
 fn stats_request(alloc: Global, request: &StatsRequest) -> Result<Body, Memory>
     requires { CanWriteRequest request.now }
-    ensures value { IfOk result (λ body. body ≡ stats_request_of request.now) }
-    ensures fits { IfOk result CanWrite }
+    ensures { IfOk result (λ body. body ≡ stats_request_of request.now) }
 {
     let message = write_request(alloc, request, 0)?;
     let body = Bytes::from_slice(alloc, &message.as_slice()[HEADER..])?;
@@ -101,9 +98,8 @@ fn stats_request(alloc: Global, request: &StatsRequest) -> Result<Body, Memory>
 }
 
 /// The request for the numbers of all entries of a switch.
-pub fn flow_request(alloc: Global) -> Result<Body, Memory>
-    ensures value { IfOk result (λ body. body ≡ flow_request_of) }
-    ensures fits { IfOk result CanWrite }
+pub(crate) fn flow_request(alloc: Global) -> Result<Body, Memory>
+    ensures { IfOk result (λ body. body ≡ flow_request_of) }
 {
     let request = StatsRequest::Flow {
         m: Match::everything().write(),
@@ -114,17 +110,15 @@ pub fn flow_request(alloc: Global) -> Result<Body, Memory>
 }
 
 /// The request for the numbers of all ports of a switch.
-pub fn port_request(alloc: Global) -> Result<Body, Memory>
-    ensures value { IfOk result (λ body. body ≡ port_request_of) }
-    ensures fits { IfOk result CanWrite }
+pub(crate) fn port_request(alloc: Global) -> Result<Body, Memory>
+    ensures { IfOk result (λ body. body ≡ port_request_of) }
 {
     stats_request(alloc, &StatsRequest::Port { port_no: NONE })
 }
 
 /// A packet that is to leave by a port.
-pub fn packet_out(alloc: Global, port: u16, bytes: Bytes) -> Result<Body, Memory>
-    ensures value { IfOk result (λ body. body ≡ packet_out_of port bytes) }
-    ensures fits { length bytes < 65512 → IfOk result CanWrite }
+pub(crate) fn packet_out(alloc: Global, port: u16, bytes: Bytes) -> Result<Body, Memory>
+    ensures { IfOk result (λ body. body ≡ packet_out_of port bytes) }
 {
     let mut actions = List::new(alloc);
     actions.push(Action::Output { port, max_len: 0 })?;

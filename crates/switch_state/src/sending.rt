@@ -3,8 +3,10 @@ ghost use Rattle.std.specs.Prelude.{◌≡◌, ◌+◌, ◌<◌, ◌^◌, IsTrue
 ghost use Rattle.std.specs.List.{AllByRecursion};
 ghost use Rattle.of10_msgs.specs.Ranges.{CanWrite};
 ghost use Rattle.switch_state.specs.Fitting.{CanAdd, CanSend};
-ghost use Rattle.switch_state.specs.Messages.{addition as addition_of, batch_messages, delete_strict as delete_strict_of, installation, phase};
-ghost use Rattle.switch_state.specs.Sending.{IsPartlySent, next_xid as next_xid_of, send as send_of, send_all, sending_of};
+ghost use Rattle.switch_state.specs.Messages.{addition as addition_of, batch_messages, beginning};
+ghost use Rattle.switch_state.specs.Messages.{delete_strict as delete_strict_of, installation, phase};
+ghost use Rattle.switch_state.specs.Sending.{IsPartlySent, next_xid as next_xid_of, send as send_of};
+ghost use Rattle.switch_state.specs.Sending.{send_all, sending_of};
 
 use crate::known::Known;
 use crate::messages::{addition, delete_all, delete_strict};
@@ -36,7 +38,8 @@ pub(crate) fn send(
     messages: &mut Letters,
 ) -> Result<(), Memory>
     requires { CanWrite body }
-    ensures sent { OnOk result (sending_of known.new messages.new ≡ send_of (sending_of known.old messages.old) body) }
+    ensures sent { OnOk result (sending_of known.new messages.new
+        ≡ send_of (sending_of known.old messages.old) body) }
     ensures memory { OnErr result ((known.new ≡ known.old) × (messages.new ≡ messages.old)) }
 {
     let xid = next_xid(known.xid());
@@ -53,13 +56,11 @@ pub(crate) fn send(
 }
 
 /// Sends what configures and empties a switch.
-pub(crate) fn install(
-    alloc: Global,
-    known: &mut Known,
-    messages: &mut Letters,
-) -> Result<(), Memory>
-    ensures sent { OnOk result (sending_of known.new messages.new ≡ send_all installation (sending_of known.old messages.old)) }
-    ensures memory { OnErr result (IsPartlySent installation (sending_of known.old messages.old) (sending_of known.new messages.new)) }
+fn install(alloc: Global, known: &mut Known, messages: &mut Letters) -> Result<(), Memory>
+    ensures sent { OnOk result (sending_of known.new messages.new
+        ≡ send_all installation (sending_of known.old messages.old)) }
+    ensures memory { OnErr result (IsPartlySent installation
+        (sending_of known.old messages.old) (sending_of known.new messages.new)) }
 {
     let config = Body::SetConfig {
         flags: 0,
@@ -70,6 +71,24 @@ pub(crate) fn install(
     send(alloc, known, Body::BarrierRequest, messages)
 }
 
+/// Sends the installation, where the round begins.
+pub(crate) fn begin(
+    alloc: Global,
+    known: &mut Known,
+    begins: bool,
+    messages: &mut Letters,
+) -> Result<(), Memory>
+    ensures sent { OnOk result (sending_of known.new messages.new
+        ≡ send_all (beginning begins) (sending_of known.old messages.old)) }
+    ensures memory { OnErr result (IsPartlySent (beginning begins)
+        (sending_of known.old messages.old) (sending_of known.new messages.new)) }
+{
+    if !begins {
+        return Ok(());
+    }
+    install(alloc, known, messages)
+}
+
 /// Sends the deletions.
 fn send_deletes(
     alloc: Global,
@@ -77,8 +96,10 @@ fn send_deletes(
     deletes: List<Written>,
     messages: &mut Letters,
 ) -> Result<(), Memory>
-    ensures sent { OnOk result (sending_of known.new messages.new ≡ send_all (map delete_strict_of deletes) (sending_of known.old messages.old)) }
-    ensures memory { OnErr result (IsPartlySent (map delete_strict_of deletes) (sending_of known.old messages.old) (sending_of known.new messages.new)) }
+    ensures sent { OnOk result (sending_of known.new messages.new
+        ≡ send_all (map delete_strict_of deletes) (sending_of known.old messages.old)) }
+    ensures memory { OnErr result (IsPartlySent (map delete_strict_of deletes)
+        (sending_of known.old messages.old) (sending_of known.new messages.new)) }
 {
     for written in deletes.into_vec() {
         send(alloc, known, delete_strict(alloc, &written), messages)?;
@@ -94,8 +115,10 @@ fn send_adds(
     messages: &mut Letters,
 ) -> Result<(), Memory>
     requires { AllByRecursion CanAdd adds }
-    ensures sent { OnOk result (sending_of known.new messages.new ≡ send_all (map addition_of adds) (sending_of known.old messages.old)) }
-    ensures memory { OnErr result (IsPartlySent (map addition_of adds) (sending_of known.old messages.old) (sending_of known.new messages.new)) }
+    ensures sent { OnOk result (sending_of known.new messages.new
+        ≡ send_all (map addition_of adds) (sending_of known.old messages.old)) }
+    ensures memory { OnErr result (IsPartlySent (map addition_of adds)
+        (sending_of known.old messages.old) (sending_of known.new messages.new)) }
 {
     for written in adds.into_vec() {
         send(alloc, known, addition(written), messages)?;
@@ -110,8 +133,10 @@ fn delete_phase(
     deletes: List<Written>,
     messages: &mut Letters,
 ) -> Result<(), Memory>
-    ensures sent { OnOk result (sending_of known.new messages.new ≡ send_all (phase (map delete_strict_of deletes)) (sending_of known.old messages.old)) }
-    ensures memory { OnErr result (IsPartlySent (phase (map delete_strict_of deletes)) (sending_of known.old messages.old) (sending_of known.new messages.new)) }
+    ensures sent { OnOk result (sending_of known.new messages.new
+        ≡ send_all (phase (map delete_strict_of deletes)) (sending_of known.old messages.old)) }
+    ensures memory { OnErr result (IsPartlySent (phase (map delete_strict_of deletes))
+        (sending_of known.old messages.old) (sending_of known.new messages.new)) }
 {
     if deletes.is_empty() {
         return Ok(());
@@ -128,8 +153,10 @@ fn add_phase(
     messages: &mut Letters,
 ) -> Result<(), Memory>
     requires { AllByRecursion CanAdd adds }
-    ensures sent { OnOk result (sending_of known.new messages.new ≡ send_all (phase (map addition_of adds)) (sending_of known.old messages.old)) }
-    ensures memory { OnErr result (IsPartlySent (phase (map addition_of adds)) (sending_of known.old messages.old) (sending_of known.new messages.new)) }
+    ensures sent { OnOk result (sending_of known.new messages.new
+        ≡ send_all (phase (map addition_of adds)) (sending_of known.old messages.old)) }
+    ensures memory { OnErr result (IsPartlySent (phase (map addition_of adds))
+        (sending_of known.old messages.old) (sending_of known.new messages.new)) }
 {
     if adds.is_empty() {
         return Ok(());
@@ -146,8 +173,10 @@ pub(crate) fn write_batch(
     messages: &mut Letters,
 ) -> Result<(), Memory>
     requires { CanSend batch }
-    ensures sent { OnOk result (sending_of known.new messages.new ≡ send_all (batch_messages batch) (sending_of known.old messages.old)) }
-    ensures memory { OnErr result (IsPartlySent (batch_messages batch) (sending_of known.old messages.old) (sending_of known.new messages.new)) }
+    ensures sent { OnOk result (sending_of known.new messages.new
+        ≡ send_all (batch_messages batch) (sending_of known.old messages.old)) }
+    ensures memory { OnErr result (IsPartlySent (batch_messages batch)
+        (sending_of known.old messages.old) (sending_of known.new messages.new)) }
 {
     let Batch { deletes, adds } = batch;
     delete_phase(alloc, known, deletes, messages)?;

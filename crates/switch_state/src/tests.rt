@@ -75,10 +75,9 @@ fn a_removal_is_taken_once(rt: HostRuntime) -> Result<(), Fail> {
 fn others_are_sent(rt: HostRuntime) -> Result<(), Fail> {
     let alloc = rt.alloc();
     let (mut known, mut messages) = round(alloc)?;
-    known.send(alloc, flow_request(alloc)?, &mut messages)?;
-    known.send(alloc, port_request(alloc)?, &mut messages)?;
-    let packet = packet_out(alloc, 1, List::new(alloc))?;
-    known.send(alloc, packet, &mut messages)?;
+    known.poll_flows(alloc, &mut messages)?;
+    known.poll_ports(alloc, &mut messages)?;
+    known.send_packet(alloc, 1, List::new(alloc), &mut messages)?;
     assert_eq!(rt; known.xid(), 10);
     Ok(())
 }
