@@ -17,9 +17,11 @@ use Rattle.of10_msgs.specs.declared.message.Body.{Body}
 use Rattle.of10_msgs.specs.declared.message.Body.TheVariants as bodies
 use Rattle.of10_msgs.specs.declared.message.FlowMod.{FlowMod}
 use Rattle.switch_state.specs.Fitting.{CanAdd, CanSend}
-use Rattle.switch_state.specs.Messages.{addition, batch_messages, delete_all, delete_strict, flow_mod, flow_request, installation, packet_out, phase, port_request}
+use Rattle.switch_state.specs.Messages.{addition, batch_messages, delete_all, delete_strict, flow_mod, flow_request}
+use Rattle.switch_state.specs.Messages.{installation, packet_out, phase, port_request}
 
-all_joined : {A : Type 0} (P : A → Type 0) (xs ys : List A) → AllByRecursion P xs → AllByRecursion P ys → AllByRecursion P (xs ++ ys)
+all_joined : {A : Type 0} (P : A → Type 0) (xs ys : List A) → AllByRecursion P xs → AllByRecursion P ys
+    → AllByRecursion P (xs ++ ys)
 all_joined P [] ys a b = b
 all_joined P (x ∷ xs) ys a b = (a.0, all_joined P xs ys a.1 b)
 
@@ -30,12 +32,14 @@ match_clear m = refl
 match_long : (m : MatchOf) → length (match_bytes m) ≡ 40
 match_long m = refl
 
-flow_mod_long : (f : FlowMod) → length f.m ≡ 40 → length (body_bytes (bodies.FlowMod f)) ≡ 64 + length (spellings f.actions)
+flow_mod_long : (f : FlowMod) → length f.m ≡ 40
+    → length (body_bytes (bodies.FlowMod f)) ≡ 64 + length (spellings f.actions)
 unfolding body_bytes flow_mod_fields
 flow_mod_long f long = rw length-append (omega (arith, long))
 
 -- a FLOW_MOD whose actions are in range, and fit
-flow_mod_fits : (f : FlowMod) → length f.m ≡ 40 → IsClear f.m → AreInRange f.actions → 72 + length (spellings f.actions) < 2 ^ 16 → CanWrite (bodies.FlowMod f)
+flow_mod_fits : (f : FlowMod) → length f.m ≡ 40 → IsClear f.m → AreInRange f.actions
+    → 72 + length (spellings f.actions) < 2 ^ 16 → CanWrite (bodies.FlowMod f)
 flow_mod_fits f long clear in_range fits =
     let size = flow_mod_long f long in
     record { long = le-leb 72 _ (omega (arith, size)); fits = omega (arith, size, fits); in_range = (clear, in_range) }
@@ -47,10 +51,12 @@ pub delete_all_fits : CanWrite delete_all
 delete_all_fits = flow_mod_fits (flow_mod everything 0 3 0 0 []) refl refl none_in_range (omega arith)
 
 pub delete_strict_fits : (w : Written) → CanWrite (delete_strict w)
-delete_strict_fits w = flow_mod_fits (flow_mod w.entry.m w.cookie 4 w.entry.priority 0 []) (match_long w.entry.m) (match_clear w.entry.m) none_in_range (omega arith)
+delete_strict_fits w = flow_mod_fits (flow_mod w.entry.m w.cookie 4 w.entry.priority 0 []) (match_long w.entry.m)
+    (match_clear w.entry.m) none_in_range (omega arith)
 
 pub addition_fits : (w : Written) → CanAdd w → CanWrite (addition w)
-addition_fits w c = flow_mod_fits (flow_mod w.entry.m w.cookie 0 w.entry.priority 1 w.entry.actions) (match_long w.entry.m) (match_clear w.entry.m) c.in_range c.fits
+addition_fits w c = flow_mod_fits (flow_mod w.entry.m w.cookie 0 w.entry.priority 1 w.entry.actions)
+    (match_long w.entry.m) (match_clear w.entry.m) c.in_range c.fits
 
 pub set_config_fits : CanWrite (bodies.SetConfig 0 0xffff)
 unfolding body_bytes
@@ -78,7 +84,8 @@ additions_fit (w ∷ ws) a = (addition_fits w a.0, additions_fit ws a.1)
 
 pub batch_fits : (b : Batch) → CanSend b → AllByRecursion CanWrite (batch_messages b)
 batch_fits b can =
-    all_joined CanWrite (phase (map delete_strict b.deletes)) (phase (map addition b.adds)) (phase_fits (map delete_strict b.deletes) (deletions_fit b.deletes))
+    all_joined CanWrite (phase (map delete_strict b.deletes)) (phase (map addition b.adds))
+    (phase_fits (map delete_strict b.deletes) (deletions_fit b.deletes))
     (phase_fits (map addition b.adds) (additions_fit b.adds can))
 
 -- a request for statistics
@@ -100,7 +107,11 @@ packet_long port bytes = omega arith
 pub packet_fits : (port : ℕ) (bytes : List ℕ) → length bytes < 65512 → CanWrite (packet_out port bytes)
 packet_fits port bytes short =
     let size = packet_long port bytes in
-    record { long = le-leb 16 _ (omega (arith, size)); fits = omega (arith, size, short); in_range = All-from_recursion IsInRange (Output port 0 ∷ []) (tt, tt) }
+    record {
+      long = le-leb 16 _ (omega (arith, size));
+      fits = omega (arith, size, short);
+      in_range = All-from_recursion IsInRange (Output port 0 ∷ []) (tt, tt);
+    }
 
 pub echo_fits : (bytes : List ℕ) → 8 + length bytes < 2 ^ 16 → CanWrite (bodies.EchoReply bytes)
 unfolding body_bytes

@@ -1,5 +1,6 @@
 -- What is sent is read, and what is quiet changes nothing.
-use Rattle.std.proofs.Common.{◌≡◌, ◌<◌, ◌^◌, ℕ, ◌+◌, Bool, true, false, List, [], ◌∷◌, ◌++◌, Result, Ok, Err, map, length, refl, ap, sym, subst, ◌∙◌, append_assoc, append-nil, arith}
+use Rattle.std.proofs.Common.{◌≡◌, ◌<◌, ◌^◌, ℕ, ◌+◌, Bool, true, false, List, [], ◌∷◌, ◌++◌, Result, Ok, Err, map}
+use Rattle.std.proofs.Common.{length, refl, ap, sym, subst, ◌∙◌, append_assoc, append-nil, arith}
 use Rattle.std.specs.Prelude.{◌==◌, ◌-◌, flat_map, if◌then◌else◌}
 use Rattle.std.specs.BTreeSet.{insert_key}
 use Rattle.std.specs.List.{AllByRecursion}
@@ -17,9 +18,11 @@ use Rattle.of10_msgs.specs.declared.message.Body.{Body}
 use Rattle.of10_msgs.specs.declared.message.Body.TheVariants as bodies
 use Rattle.of10_msgs.proofs.Spelled.{written_is_read}
 use Rattle.switch_state.specs.Fitting.{CanSend}
-use Rattle.switch_state.specs.Frames.{HasTypes, IsQuiet, IsSendable, QuietChangesNothing, SentIsRead, bodies_in, said_by}
+use Rattle.switch_state.specs.Frames.{HasTypes, IsQuiet, IsSendable, QuietChangesNothing, SentIsRead, bodies_in}
+use Rattle.switch_state.specs.Frames.{said_by}
 use Rattle.switch_state.specs.Known.{KnownOf}
-use Rattle.switch_state.specs.Messages.{addition, batch_messages, delete_strict, flow_request, packet_out, phase, port_request, switch_messages}
+use Rattle.switch_state.specs.Messages.{addition, batch_messages, delete_strict, flow_request, packet_out, phase}
+use Rattle.switch_state.specs.Messages.{port_request, switch_messages}
 use Rattle.switch_state.specs.Sending.{Sending, known_after, next_xid, send, send_all}
 use Rattle.switch_state.specs.Writing.{between_barriers, changes_of, in_first}
 
@@ -36,34 +39,44 @@ noted : (body : Body) (xid : ℕ) (x : KnownOf) → (known_after body xid x).xid
 noted bodies.BarrierRequest xid x = refl
 noted (bodies.FlowMod f) xid x = by (f.command == 4)
   where
-    by : (b : Bool) → (if b then record x { xid = xid; deleted = insert_key nat_cmp x.deleted f.cookie } else record x { xid = xid }).xid ≡ xid
+    by : (b : Bool)
+        → (if b then record x { xid = xid; deleted = insert_key nat_cmp x.deleted f.cookie } else record x { xid = xid }).xid ≡ xid
     by true = refl
     by false = refl
 noted body xid x = refl
 
-one_read : (body : Body) (s : Sending) → s.known.xid < 2 ^ 32 → IsSendable body → bodies_in (send s body).messages ≡ bodies_in s.messages ++ body ∷ []
+one_read : (body : Body) (s : Sending) → s.known.xid < 2 ^ 32 → IsSendable body
+    → bodies_in (send s body).messages ≡ bodies_in s.messages ++ body ∷ []
 one_read body s fits good =
     let xid = next_xid s.known.xid in
     let message = spelling (record { xid = xid; body = body }) in
-    let read : reading message ≡ Ok (record { xid = xid; body = body }) = written_is_read (record { xid = xid; body = body }) (record { xid = xid_fits s.known.xid fits; body = good.0; fits = good.1 }) in
+    let read : reading message ≡ Ok (record { xid = xid; body = body }) =
+    written_is_read (record { xid = xid; body = body })
+    (record { xid = xid_fits s.known.xid fits; body = good.0; fits = good.1 }) in
     flat_map-append (λ frame. said_by (reading frame)) s.messages (message ∷ [])
-    ∙ ap (λ (said : List Body). bodies_in s.messages ++ said) (append-nil (said_by (reading message)) ∙ ap said_by read)
+    ∙ ap (λ (said : List Body). bodies_in s.messages ++ said)
+    (append-nil (said_by (reading message)) ∙ ap said_by read)
 
 pub sent_is_read : SentIsRead
 sent_is_read [] s fits good = sym (append-nil (bodies_in s.messages))
 sent_is_read (body ∷ bodies) s fits good =
-    let xid : (send s body).known.xid < 2 ^ 32 = subst (λ (n : ℕ). n < 2 ^ 32) (sym (noted body (next_xid s.known.xid) s.known)) (xid_fits s.known.xid fits) in
+    let xid : (send s body).known.xid < 2 ^ 32 = subst (λ (n : ℕ). n < 2 ^ 32)
+    (sym (noted body (next_xid s.known.xid) s.known)) (xid_fits s.known.xid fits) in
     sent_is_read bodies (send s body) xid good.1
-    ∙ (ap (λ (said : List Body). said ++ bodies) (one_read body s fits good.0) ∙ append_assoc (bodies_in s.messages) (body ∷ []) bodies)
+    ∙ (ap (λ (said : List Body). said ++ bodies) (one_read body s fits good.0)
+    ∙ append_assoc (bodies_in s.messages) (body ∷ []) bodies)
 
 -- what is quiet
 
 quiet_alone : (others : List Body) → AllByRecursion IsQuiet others → between_barriers others ≡ [] ∷ []
 quiet_alone [] quiet = refl
 quiet_alone (bodies.BarrierRequest ∷ others) quiet = absurd quiet.0
-quiet_alone (other ∷ others) quiet = ap (λ changes. in_first changes (between_barriers others)) quiet.0 ∙ ap (in_first []) (quiet_alone others quiet.1)
+quiet_alone (other ∷ others) quiet = ap (λ changes. in_first changes (between_barriers others)) quiet.0
+    ∙ ap (in_first []) (quiet_alone others quiet.1)
 
 pub quiet_changes_nothing : QuietChangesNothing
 quiet_changes_nothing [] others quiet = quiet_alone others quiet
-quiet_changes_nothing (bodies.BarrierRequest ∷ sent) others quiet = ap (λ later. [] ∷ later) (quiet_changes_nothing sent others quiet)
-quiet_changes_nothing (body ∷ sent) others quiet = ap (in_first (changes_of body)) (quiet_changes_nothing sent others quiet)
+quiet_changes_nothing (bodies.BarrierRequest ∷ sent) others quiet =
+    ap (λ later. [] ∷ later) (quiet_changes_nothing sent others quiet)
+quiet_changes_nothing (body ∷ sent) others quiet = ap (in_first (changes_of body))
+    (quiet_changes_nothing sent others quiet)

@@ -1,5 +1,6 @@
 -- The first item that passes a test, and the list without it.
-use Rattle.std.proofs.Common.{◌≡◌, ℕ, suc, ◌+◌, ◌<◌, ◌≤◌, Bool, true, false, List, [], ◌∷◌, ◌++◌, Option, Some, None, length, take, drop, get_or, refl, ap, sym, subst, ◌∙◌, arith, append-nil}
+use Rattle.std.proofs.Common.{◌≡◌, ℕ, suc, ◌+◌, ◌<◌, ◌≤◌, Bool, true, false, List, [], ◌∷◌, ◌++◌, Option, Some}
+use Rattle.std.proofs.Common.{None, length, take, drop, get_or, refl, ap, sym, subst, ◌∙◌, arith, append-nil}
 use Rattle.std.specs.Prelude.{◌↔◌, IfSome, IsSome, OnSome, find, not, nat_lt, position, slice_get, if◌then◌else◌}
 use Rattle.std.specs.List.{position_or_len, remove}
 use Rattle.std.specs.Set.{remove_key}
@@ -22,7 +23,8 @@ module _ {A : Type 0} (p : A → Bool) where
   first_removed [] = refl
   first_removed (x ∷ xs) = by (p x) (first_removed xs)
     where
-      by : (b : Bool) → remove xs (position_or_len p xs) ≡ remove_key p xs → remove (x ∷ xs) (if not b then 1 + position_or_len p xs else 0) ≡ (if b then xs else x ∷ remove_key p xs)
+      by : (b : Bool) → remove xs (position_or_len p xs) ≡ remove_key p xs
+          → remove (x ∷ xs) (if not b then 1 + position_or_len p xs else 0) ≡ (if b then xs else x ∷ remove_key p xs)
       by true same = refl
       by false same = remove-later x xs (position_or_len p xs) ∙ ap (λ ys. x ∷ ys) same
 
@@ -45,7 +47,8 @@ module _ {A : Type 0} (p : A → Bool) where
   none_past xs e = by (nat_lt (position_or_len p xs) (length xs)) refl
     where
       by : (b : Bool) → nat_lt (position_or_len p xs) (length xs) ≡ b → length xs ≤ position_or_len p xs
-      by true t = absurd (none-some (position_or_len p xs) (e ∙ ap (λ b. if b then Some (position_or_len p xs) else None) t))
+      by true t =
+          absurd (none-some (position_or_len p xs) (e ∙ ap (λ b. if b then Some (position_or_len p xs) else None) t))
       by false f = ltb-false (position_or_len p xs) (length xs) f
 
   pub none-first : (xs : List A) → None ≡ position p xs → None ≡ find p xs
@@ -64,10 +67,12 @@ module _ {A : Type 0} (p : A → Bool) where
   taken_there : (xs : List A) (i : ℕ) (n : ℕ) → Some i ≡ position p xs → n ≡ length xs → i < n
   taken_there xs i n e long = let at = place_found xs i e in omega (arith, at.1, long)
 
-  pub taken-first : (xs : List A) (i : ℕ) (r : Option A) (n : ℕ) → Some i ≡ position p xs → n ≡ length xs → (IsSome r ↔ (i < n)) → IfSome r (λ y. y ≡ get_or xs i y) → r ≡ find p xs
+  pub taken-first : (xs : List A) (i : ℕ) (r : Option A) (n : ℕ) → Some i ≡ position p xs → n ≡ length xs
+      → (IsSome r ↔ (i < n)) → IfSome r (λ y. y ≡ get_or xs i y) → r ≡ find p xs
   taken-first xs i None n e long variant value = absurd (none-there (variant.1 (taken_there xs i n e long)))
   taken-first xs i (Some y) n e long variant value = found-first xs i y e value
 
-  pub taken-removed : (xs : List A) (i : ℕ) (r : Option A) (left : List A) (n : ℕ) → Some i ≡ position p xs → n ≡ length xs → (IsSome r ↔ (i < n)) → OnSome r (left ≡ remove xs i) → left ≡ remove_key p xs
+  pub taken-removed : (xs : List A) (i : ℕ) (r : Option A) (left : List A) (n : ℕ) → Some i ≡ position p xs
+      → n ≡ length xs → (IsSome r ↔ (i < n)) → OnSome r (left ≡ remove xs i) → left ≡ remove_key p xs
   taken-removed xs i None left n e long variant items = absurd (none-there (variant.1 (taken_there xs i n e long)))
   taken-removed xs i (Some y) left n e long variant items = items ∙ found-removed xs i e

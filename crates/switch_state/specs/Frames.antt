@@ -45,4 +45,5 @@ IsQuiet body = changes_of body ≡ []
 -- polls, packets and echoes behind a batch make no difference to the table
 abbrev pub QuietChangesNothing : Type 0
 QuietChangesNothing =
-    (bodies others : List Body) → AllByRecursion IsQuiet others → between_barriers (bodies ++ others) ≡ between_barriers bodies
+    (bodies others : List Body) → AllByRecursion IsQuiet others
+    → between_barriers (bodies ++ others) ≡ between_barriers bodies

@@ -32,7 +32,8 @@ known_after BarrierRequest xid x = record x {
   barriers = x.barriers ++ record { number = next_number x.begun; xid = xid } ∷ [];
 }
 known_after (FlowMod f) xid x =
-    if f.command == 4 then record x { xid = xid; deleted = insert_key nat_cmp x.deleted f.cookie } else record x { xid = xid }
+    if f.command == 4 then record x { xid = xid; deleted = insert_key nat_cmp x.deleted f.cookie }
+    else record x { xid = xid }
 known_after body xid x = record x { xid = xid }
 
 -- a message is sent

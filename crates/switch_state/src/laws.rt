@@ -15,7 +15,7 @@ pub fn writing()
     ensures installation { InstallationIsWritten }
 {}
 
-/// A switch reads what it is sent, and what follows a batch, as polls, packets and echoes, makes no difference to its table.
+/// A switch reads what it is sent. What follows a batch, as polls and packets, makes no difference to its table.
 pub fn reading()
     ensures sent { SentIsRead }
     ensures quiet { QuietChangesNothing }

@@ -1,6 +1,7 @@
 //! Worked examples, each computed by the checker.
-ghost use Rattle.switch_state.specs.Worked.{ABatchIsSent, ASwitchIsInstalled, EmptyPhasesAreLeftOut, MessagesAreSpelled};
-ghost use Rattle.switch_state.specs.Worked.{BarriersAreAnswered, PortsAreSeen, RemovalsAreJudged, XidsBeginAgain};
+ghost use Rattle.switch_state.specs.Worked.{ABatchIsSent, ASwitchIsInstalled, EmptyPhasesAreLeftOut};
+ghost use Rattle.switch_state.specs.Worked.{BarriersAreAnswered, MessagesAreSpelled};
+ghost use Rattle.switch_state.specs.Worked.{PortsAreSeen, RemovalsAreJudged, XidsBeginAgain};
 
 /// A switch comes up: five messages, byte for byte.
 #[tactic(auto, using(crate::specs::Worked::switch_is_installed))]

@@ -1,4 +1,5 @@
-use Rattle.switch_state.proofs.Fitting.{batch_fits, flow_request_fits, installation_fits, packet_fits, port_request_fits}
+use Rattle.switch_state.proofs.Fitting.{batch_fits, flow_request_fits, installation_fits, packet_fits}
+use Rattle.switch_state.proofs.Fitting.{port_request_fits}
 use Rattle.switch_state.proofs.laws.fitting.Goals as goal
 
 pub returns-clause-batch : goal.returns-clause-batch

@@ -5,4 +5,5 @@ use Rattle.switch_state.proofs.queue.numbers.Given as goal
 
 -- the numbers so far, and then those of the barriers that are left
 abbrev pub invariant-loop-barrier : goal.invariant-loop-barrier
-invariant-loop-barrier l = l.numbers ++ map (λ (b : Barrier). b.number) (deque_iter_rest l.barrier-iterator) ≡ map (λ (b : Barrier). b.number) l.barriers.items
+invariant-loop-barrier l = l.numbers ++ map (λ (b : Barrier). b.number) (deque_iter_rest l.barrier-iterator) ≡ map
+    (λ (b : Barrier). b.number) l.barriers.items

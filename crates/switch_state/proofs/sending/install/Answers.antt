@@ -19,8 +19,10 @@ send-requires-3 c = barrier_fits
 
 pub returns-in_err-send-2-clause-memory : goal.returns-in_err-send-2-clause-memory
 returns-in_err-send-2-clause-memory c =
-    stopped c.from_residual-in_err-send-2.result (SetConfig 0 65535 ∷ []) (delete_all ∷ BarrierRequest ∷ []) (sending_of c.args.known.now c.args.messages.now)
-    c.send.new.known c.send-2.new.known c.send.new.messages c.send-2.new.messages c.in_ok-send.ensures.sent (on_err c.from_residual-in_err-send-2.result _ c.in_err-send-2.ensures.memory)
+    stopped c.from_residual-in_err-send-2.result (SetConfig 0 65535 ∷ []) (delete_all ∷ BarrierRequest ∷ [])
+    (sending_of c.args.known.now c.args.messages.now)
+    c.send.new.known c.send-2.new.known c.send.new.messages c.send-2.new.messages c.in_ok-send.ensures.sent
+    (on_err c.from_residual-in_err-send-2.result _ c.in_err-send-2.ensures.memory)
 
 pub returns-clause-memory : goal.returns-clause-memory
 returns-clause-memory c =
@@ -28,5 +30,6 @@ returns-clause-memory c =
     let mid = sending_of c.send.new.known c.send.new.messages in
     let new = sending_of c.send-2.new.known c.send-2.new.messages in
     let second = subst (λ (body : Body). new ≡ send mid body) c.delete_all.ensures c.in_ok-send-2.ensures.sent in
-    stopped c.send-3.result (SetConfig 0 65535 ∷ delete_all ∷ []) (BarrierRequest ∷ []) old c.send-2.new.known c.send-3.new.known c.send-2.new.messages c.send-3.new.messages
+    stopped c.send-3.result (SetConfig 0 65535 ∷ delete_all ∷ []) (BarrierRequest ∷ []) old c.send-2.new.known
+    c.send-3.new.known c.send-2.new.messages c.send-3.new.messages
     (one_sent (SetConfig 0 65535 ∷ []) delete_all old mid new c.in_ok-send.ensures.sent second) c.send-3.ensures.memory
