@@ -35,14 +35,15 @@ xid_fits xid fits = by (xid == 4294967295) refl
     by false e = let n = eqb-false xid 4294967295 e in omega (arith, fits)
 
 -- the xid of a message is noted
+noted_by : (b : Bool) (x y : KnownOf) (xid : ℕ) → x.xid ≡ xid → y.xid ≡ xid → (if b then x else y).xid ≡ xid
+noted_by true x y xid e f = e
+noted_by false x y xid e f = f
+
 noted : (body : Body) (xid : ℕ) (x : KnownOf) → (known_after body xid x).xid ≡ xid
 noted bodies.BarrierRequest xid x = refl
-noted (bodies.FlowMod f) xid x = by (f.command == 4)
-  where
-    by : (b : Bool)
-        → (if b then record x { xid = xid; deleted = insert_key nat_cmp x.deleted f.cookie } else record x { xid = xid }).xid ≡ xid
-    by true = refl
-    by false = refl
+noted (bodies.FlowMod f) xid x =
+    let deleting = record x { xid = xid; deleted = insert_key nat_cmp x.deleted f.cookie } in
+    noted_by (f.command == 4) deleting (record x { xid = xid }) xid refl refl
 noted body xid x = refl
 
 one_read : (body : Body) (s : Sending) → s.known.xid < 2 ^ 32 → IsSendable body
