@@ -20,7 +20,7 @@ use Rattle.switch_state.specs.Fitting.{CanAdd, CanSend}
 use Rattle.switch_state.specs.Messages.{addition, batch_messages, delete_all, delete_strict, flow_mod, flow_request}
 use Rattle.switch_state.specs.Messages.{installation, packet_out, phase, port_request}
 
-all_joined : {A : Type 0} (P : A → Type 0) (xs ys : List A) → AllByRecursion P xs → AllByRecursion P ys
+pub all_joined : {A : Type 0} (P : A → Type 0) (xs ys : List A) → AllByRecursion P xs → AllByRecursion P ys
     → AllByRecursion P (xs ++ ys)
 all_joined P [] ys a b = b
 all_joined P (x ∷ xs) ys a b = (a.0, all_joined P xs ys a.1 b)
@@ -29,7 +29,7 @@ all_joined P (x ∷ xs) ys a b = (a.0, all_joined P xs ys a.1 b)
 pub match_clear : (m : MatchOf) → IsClear (match_bytes m)
 match_clear m = refl
 
-match_long : (m : MatchOf) → length (match_bytes m) ≡ 40
+pub match_long : (m : MatchOf) → length (match_bytes m) ≡ 40
 match_long m = refl
 
 flow_mod_long : (f : FlowMod) → length f.m ≡ 40
@@ -69,10 +69,14 @@ barrier_fits = record { long = refl; fits = omega arith; in_range = tt }
 pub installation_fits : AllByRecursion CanWrite installation
 installation_fits = (set_config_fits, (delete_all_fits, (barrier_fits, tt)))
 
--- a phase of messages that can be written
+-- what holds of barriers, and of the messages of a phase
+pub all_of_phase : (P : Body → Type 0) → P bodies.BarrierRequest → (bs : List Body) → AllByRecursion P bs
+    → AllByRecursion P (phase bs)
+all_of_phase P p [] a = tt
+all_of_phase P p (b ∷ bs) a = all_joined P (b ∷ bs) (bodies.BarrierRequest ∷ []) a (p, tt)
+
 phase_fits : (bs : List Body) → AllByRecursion CanWrite bs → AllByRecursion CanWrite (phase bs)
-phase_fits [] a = tt
-phase_fits (b ∷ bs) a = all_joined CanWrite (b ∷ bs) (bodies.BarrierRequest ∷ []) a (barrier_fits, tt)
+phase_fits = all_of_phase CanWrite barrier_fits
 
 deletions_fit : (ws : List Written) → AllByRecursion CanWrite (map delete_strict ws)
 deletions_fit [] = tt

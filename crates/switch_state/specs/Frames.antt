@@ -1,6 +1,7 @@
 -- What a switch reads of the messages that it is sent.
-use Rattle.std.specs.Prelude.{◌≡◌, ◌<◌, ◌^◌, ℕ, Result, Ok, Err, List, [], ◌∷◌, ◌++◌, All, flat_map}
+use Rattle.std.specs.Prelude.{◌≡◌, ◌<◌, ◌^◌, ℕ, Bool, Result, Ok, Err, List, [], ◌∷◌, ◌++◌, All, flat_map, length}
 use Rattle.std.specs.List.{AllByRecursion}
+use Rattle.install_plan.specs.declared.written.Batch.{Batch}
 use Rattle.install_plan.specs.declared.written.Written.{Written}
 use Rattle.of10_actions.specs.Actions.{FitsTypes as ActionFits}
 use Rattle.of10_msgs.specs.Ranges.{CanWrite, FitsTypes}
@@ -9,6 +10,8 @@ use Rattle.of10_msgs.specs.declared.fault.FormFault.{FormFault}
 use Rattle.of10_msgs.specs.declared.message.Body.{Body}
 use Rattle.of10_msgs.specs.declared.message.Body.TheVariants.{BarrierRequest}
 use Rattle.of10_msgs.specs.declared.message.Message.{Message}
+use Rattle.switch_state.specs.Fitting.{CanSend}
+use Rattle.switch_state.specs.Messages.{flow_request, packet_out, port_request, switch_messages}
 use Rattle.switch_state.specs.Sending.{Sending, send_all}
 use Rattle.switch_state.specs.Writing.{between_barriers, changes_of}
 
@@ -36,6 +39,18 @@ pub record HasTypes (w : Written) : Type 0 where
   pub cookie : w.cookie < 2 ^ 64
   pub priority : w.entry.priority < 2 ^ 16
   pub actions : All ActionFits w.entry.actions
+
+-- so it is of the messages of a batch, as far as it hangs on its entries
+abbrev pub BatchIsSendable : Type 0
+BatchIsSendable =
+    (begins : Bool) (b : Batch) → CanSend b → AllByRecursion HasTypes b.deletes → AllByRecursion HasTypes b.adds
+    → AllByRecursion IsSendable (switch_messages begins b)
+
+-- and of polls, and of packets that are short enough
+pub record OthersAreSendable : Type 0 where
+  pub flows : IsSendable flow_request
+  pub ports : IsSendable port_request
+  pub packets : (port : ℕ) (bytes : List ℕ) → port < 2 ^ 16 → length bytes < 65512 → IsSendable (packet_out port bytes)
 
 -- a message that changes no table and is no barrier
 abbrev pub IsQuiet : Body → Type 0

@@ -5,7 +5,7 @@ ghost use Rattle.install_plan.specs.declared.written.Batch.{Batch};
 ghost use Rattle.of10_msgs.specs.Ranges.{CanWrite};
 ghost use Rattle.switch_state.specs.Fitting.{CanSend};
 ghost use Rattle.switch_state.specs.Messages.{batch_messages, flow_request, installation, packet_out, port_request};
-ghost use Rattle.switch_state.specs.Frames.{QuietChangesNothing, SentIsRead};
+ghost use Rattle.switch_state.specs.Frames.{BatchIsSendable, OthersAreSendable, QuietChangesNothing, SentIsRead};
 ghost use Rattle.switch_state.specs.Writing.{BatchIsWritten, InstallationIsWritten};
 
 /// In whichever order a switch takes the messages between two barriers: those of a batch make the new table of the old
@@ -18,6 +18,8 @@ pub fn writing()
 /// A switch reads what it is sent. What follows a batch, as polls and packets, makes no difference to its table.
 pub fn reading()
     ensures sent { SentIsRead }
+    ensures batch { BatchIsSendable }
+    ensures others { OthersAreSendable }
     ensures quiet { QuietChangesNothing }
 {}
 
