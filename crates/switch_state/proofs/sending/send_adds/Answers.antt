@@ -13,7 +13,7 @@ pub send-requires : goal.send-requires
 send-requires c =
     let can =
     next_holds CanAdd c.loop-written.yielded c.in-Some.written (into_iter_items c.next.new.self)
-    (into_iter_items c.loop-written.written-iterator) c.args.adds c.in-Some.ensures.steps c.loop-written.invariant.left
+    (into_iter_items c.loop-written.written-iterator) c.args.adds c.in-Some.ensures.steps.0 c.loop-written.invariant.left
     c.requires in
     subst CanWrite (sym c.addition.ensures) (addition_fits c.in-Some.written can)
 
@@ -26,6 +26,6 @@ loop-written-preserved c = record {
       c.in_ok-send.ensures.sent;
   left =
       more_done c.loop-written.yielded c.in-Some.written (into_iter_items c.next.new.self)
-      (into_iter_items c.loop-written.written-iterator) c.args.adds c.in-Some.ensures.steps
+      (into_iter_items c.loop-written.written-iterator) c.args.adds c.in-Some.ensures.steps.0
       c.loop-written.invariant.left;
 }

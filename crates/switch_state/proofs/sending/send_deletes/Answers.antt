@@ -20,6 +20,6 @@ loop-written-preserved c = record {
       c.in_ok-send.ensures.sent;
   left =
       more_done c.loop-written.yielded c.in-Some.written (into_iter_items c.next.new.self)
-      (into_iter_items c.loop-written.written-iterator) c.args.deletes c.in-Some.ensures.steps
+      (into_iter_items c.loop-written.written-iterator) c.args.deletes c.in-Some.ensures.steps.0
       c.loop-written.invariant.left;
 }
