@@ -13,8 +13,8 @@ pub send-requires : goal.send-requires
 send-requires c =
     let can =
     next_holds CanAdd c.loop-written.yielded c.in-Some.written (into_iter_items c.next.new.self)
-    (into_iter_items c.loop-written.written-iterator) c.args.adds c.in-Some.ensures.steps.0 c.loop-written.invariant.left
-    c.requires in
+    (into_iter_items c.loop-written.written-iterator) c.args.adds c.in-Some.ensures.steps.0
+    c.loop-written.invariant.left c.requires in
     subst CanWrite (sym c.addition.ensures) (addition_fits c.in-Some.written can)
 
 pub loop-written-preserved : goal.loop-written-preserved
