@@ -55,6 +55,16 @@ pub(crate) fn send(
     Ok(())
 }
 
+/// Sends a barrier.
+fn send_barrier(alloc: Global, known: &mut Known, messages: &mut Letters) -> Result<(), Memory>
+    ensures sent { OnOk result (sending_of known.new messages.new
+        ≡ send_of (sending_of known.old messages.old) Body.BarrierRequest) }
+    ensures memory { OnErr result ((known.new ≡ known.old) × (messages.new ≡ messages.old)) }
+{
+    let barrier = Body::BarrierRequest;
+    send(alloc, known, barrier, messages)
+}
+
 /// Sends what configures and empties a switch.
 fn install(alloc: Global, known: &mut Known, messages: &mut Letters) -> Result<(), Memory>
     ensures sent { OnOk result (sending_of known.new messages.new
@@ -68,7 +78,7 @@ fn install(alloc: Global, known: &mut Known, messages: &mut Letters) -> Result<(
     };
     send(alloc, known, config, messages)?;
     send(alloc, known, delete_all(alloc), messages)?;
-    send(alloc, known, Body::BarrierRequest, messages)
+    send_barrier(alloc, known, messages)
 }
 
 /// Sends the installation, where the round begins.
@@ -142,7 +152,7 @@ fn delete_phase(
         return Ok(());
     }
     send_deletes(alloc, known, deletes, messages)?;
-    send(alloc, known, Body::BarrierRequest, messages)
+    send_barrier(alloc, known, messages)
 }
 
 /// Sends the second phase: the additions and a barrier, or nothing.
@@ -162,7 +172,7 @@ fn add_phase(
         return Ok(());
     }
     send_adds(alloc, known, adds, messages)?;
-    send(alloc, known, Body::BarrierRequest, messages)
+    send_barrier(alloc, known, messages)
 }
 
 /// Sends a batch: the deletions and a barrier, the additions and a barrier.
