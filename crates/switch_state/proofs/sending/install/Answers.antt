@@ -29,4 +29,5 @@ returns-clause-memory c =
     let second = subst (λ (body : Body). new ≡ send mid body) c.delete_all.ensures c.in_ok-send-2.ensures.sent in
     stopped c.send_barrier.result (SetConfig 0 65535 ∷ delete_all ∷ []) (BarrierRequest ∷ []) old c.send-2.new.known
     c.send_barrier.new.known c.send-2.new.messages c.send_barrier.new.messages
-    (one_sent (SetConfig 0 65535 ∷ []) delete_all old mid new c.in_ok-send.ensures.sent second) c.send_barrier.ensures.memory
+    (one_sent (SetConfig 0 65535 ∷ []) delete_all old mid new c.in_ok-send.ensures.sent second)
+    c.send_barrier.ensures.memory
