@@ -6,3 +6,5 @@ pub mod Audit
 pub mod Filters
 pub mod Statistics
 pub mod InsideSums
+pub mod Worked
+pub mod WorkedStatistics

@@ -4,6 +4,7 @@ ghost use Rattle.std.specs.List.{slice_get};
 ghost use Rattle.of10_actions.specs.Actions.{AreInRange};
 ghost use Rattle.of10_stats.specs.Ranges.{CanWriteEntry};
 ghost use Rattle.switch_meaning.specs.Counts.{Numbers};
+ghost use Rattle.member_table.specs.Sound.{IsSound};
 ghost use Rattle.member_replies.specs.Filters.{listed};
 ghost use Rattle.member_replies.specs.InsideSums.{sums_of, sums_with};
 ghost use Rattle.member_replies.specs.Statistics.{AreShort, aggregate, flow_stat as stat_of, flows, messages};
@@ -49,17 +50,20 @@ fn stat_at<C: EntryCounts>(
     counts: &C,
     moment: u64,
 ) -> Result<Option<FlowStat>, Memory>
-    requires { AreShort table.now.table.entries }
+    requires sound { IsSound table.now.table }
+    requires short { AreShort table.now.table.entries }
     ensures stats { IfOk result (λ stat. option_to_list stat ≡ map (λ e. stat_of moment (C.numbers counts.now e.serial) e) (listed filter.now (option_to_list (slice_get table.now.table.entries place)))) }
     ensures writable { IfOk result (λ stat. All CanWriteEntry (option_to_list stat)) }
 {
-    match table.at(place) {
-        Some(entry) if filter.lists(entry) => {
-            let (packets, bytes) = counts.count(entry.serial);
-            Ok(Some(flow_stat(alloc, entry, packets, bytes, moment)?))
-        }
-        _ => Ok(None),
+    let Some(entry) = table.at(place) else {
+        return Ok(None);
+    };
+    if !filter.lists(entry) {
+        return Ok(None);
     }
+    let (packets, bytes) = counts.count(entry.serial);
+    let stat = flow_stat(alloc, entry, packets, bytes, moment)?;
+    Ok(Some(stat))
 }
 
 /// The statistics of an entry with its packets and bytes, at a moment.
@@ -137,15 +141,16 @@ fn with_entry_at<C: EntryCounts>(
 ) -> Sums
     ensures { result ≡ sums_with (C.numbers counts.now) sums (listed filter.now (option_to_list (slice_get table.now.table.entries place))) }
 {
-    match table.at(place) {
-        Some(entry) if filter.lists(entry) => {
-            let (packets, bytes) = counts.count(entry.serial);
-            Sums {
-                packets: sums.packets.saturating_add(packets),
-                bytes: sums.bytes.saturating_add(bytes),
-                flows: sums.flows.saturating_add(1),
-            }
-        }
-        _ => sums,
+    let Some(entry) = table.at(place) else {
+        return sums;
+    };
+    if !filter.lists(entry) {
+        return sums;
+    }
+    let (packets, bytes) = counts.count(entry.serial);
+    Sums {
+        packets: sums.packets.saturating_add(packets),
+        bytes: sums.bytes.saturating_add(bytes),
+        flows: sums.flows.saturating_add(1),
     }
 }

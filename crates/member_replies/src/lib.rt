@@ -14,6 +14,7 @@ pub mod packets;
 pub mod ports;
 pub mod refusals;
 pub mod statistics;
+pub mod worked;
 
 pub use answers::{barrier_reply, config_reply, echo_reply, features_reply, port_status};
 pub use audit::{down_line, note_line, policy_line, slow_line};

@@ -1,0 +1,5 @@
+pub mod Ports
+pub mod Filling
+pub mod Writable
+pub mod Entries
+pub mod Sums
