@@ -52,13 +52,12 @@ pub packet_writable : (total_len in_port reason : ℕ) (bytes : List ℕ) → 18
 packet_writable total_len in_port reason bytes fits =
     writable (packet_in total_len in_port reason bytes) (10 + length bytes) (size_is _ _ (omega arith)) (le-leb 18 (8 + (10 + length bytes)) (omega arith)) (omega (arith, fits)) tt
 
-pub removal_writable : (e : Entry) (reason moment : ℕ) (count : Numbers) → length e.raw ≡ 40 → CanWrite (flow_removed e reason moment count)
+pub removal_writable : (e : Entry) (reason moment : ℕ) (count : Numbers) → length (written_match e) ≡ 40 → CanWrite (flow_removed e reason moment count)
 removal_writable e reason moment count long =
     let b = flow_removed e reason moment count in
     let behind = big_bytes 8 e.cookie ++ (big_bytes 2 e.priority ++ (reason ∷ 0 ∷ (big_bytes 4 (seconds_of e moment) ++ (big_bytes 4 0 ++ (big_bytes 2 e.idle ++ (0 ∷ 0 ∷ (big_bytes 8 count.packets ++ big_bytes 8 count.bytes))))))) in
-    let m : length (written_match e) ≡ 40 = length_clear e.raw ∙ long in
-    let size : length (body_with b (written b)) ≡ 80 = omega (arith, length-append (written_match e) behind, m) in
-    writable b 80 (size_is b 80 size) refl (omega arith) (clear_twice e.raw long)
+    let size : length (body_with b (written b)) ≡ 80 = omega (arith, length-append (written_match e) behind, long) in
+    writable b 80 (size_is b 80 size) refl (omega arith) (clear_twice e.raw (sym (length_clear e.raw) ∙ long))
 
 pub port_writable : (v port : ℕ) (is_link is_dark : Bool) → HasAddress (port_of v port is_link is_dark) → CanWrite (port_changed v port is_link is_dark)
 port_writable v port is_link is_dark fits =

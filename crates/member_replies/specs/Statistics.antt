@@ -1,5 +1,5 @@
 -- Statistics of a virtual switch, as a member sees it.
-use Rattle.std.specs.Prelude.{ℕ, ◌^◌, ◌-◌, ◌≤◌, ◌==◌, ◌||◌, Bool, List, [], ◌∷◌, codes, filter, fold, length, map, min, sum_by, if◌then◌else◌}
+use Rattle.std.specs.Prelude.{ℕ, ◌^◌, ◌-◌, ◌≤◌, ◌==◌, ◌||◌, Bool, List, [], ◌∷◌, codes, filter, find, length, map, min, reverse, sum_by, unwrap_or}
 use Rattle.std.specs.List.{AllByRecursion}
 use Rattle.byteorder.specs.Endian.{big_bytes}
 use Rattle.hex.specs.Hex.{encode_lower}
@@ -23,9 +23,14 @@ use Rattle.member_replies.specs.declared.filter.Filter.{Filter}
 abbrev pub messages : ℕ → ReplyBody → List (List ℕ)
 messages xid body = map (reply_message xid) (replies_of body)
 
--- DESC: what the virtual switch is, with its datapath id in 16 hexadecimal digits, and its name
+-- what a virtual switch is, with its datapath id in 16 hexadecimal digits, and its name
+abbrev pub texts_of : ℕ → List ℕ → List (List ℕ)
+texts_of dpid name =
+    filled 256 (codes "CoVisor") ∷ filled 256 (codes "virtual switch") ∷ filled 256 (codes "of10 profile 1") ∷ filled 32 (encode_lower (big_bytes 8 dpid)) ∷ filled 256 name ∷ []
+
+-- DESC: these texts
 abbrev pub description : ℕ → List ℕ → ReplyBody
-description dpid name = Desc (filled 256 (codes "CoVisor") ∷ filled 256 (codes "virtual switch") ∷ filled 256 (codes "of10 profile 1") ∷ filled 32 (encode_lower (big_bytes 8 dpid)) ∷ filled 256 name ∷ [])
+description dpid name = Desc (texts_of dpid name)
 
 -- each list of actions is short
 abbrev pub AreShort : List Entry → Type 0
@@ -84,12 +89,12 @@ unknown port = record {
 
 -- what was told last of a port
 abbrev pub told_of : List PortStat → ℕ → PortStat
-told_of told port = fold (λ (known : PortStat) (s : PortStat). if s.port_no == port then s else known) (unknown port) told
+told_of told port = unwrap_or (find (λ (s : PortStat). s.port_no == port) (reverse told)) (unknown port)
 
--- the visible ports that are asked for: one, or each
-abbrev pub asked : ℕ → PortView → List ℕ
-asked number view = filter (λ port. (number == NONE) || (port == number)) (visible view)
+-- a port is asked for, or each
+abbrev pub is_asked : ℕ → ℕ → Bool
+is_asked number port = (number == NONE) || (port == number)
 
 -- PORT: the visible ports that are asked for, rising, with what was told of each by its number at the virtual switch
 abbrev pub ports : ℕ → PortView → List PortStat → ReplyBody
-ports number view told = Port (map (told_of told) (asked number view))
+ports number view told = Port (map (told_of told) (filter (is_asked number) (visible view)))

@@ -1,6 +1,6 @@
 //! The audit's other lines.
 ghost use Rattle.std.specs.Prelude.{◌≡◌, IfOk};
-ghost use Rattle.std.specs.Option.{option_copied};
+ghost use Rattle.script_text.specs.Lines.{audit_text};
 ghost use Rattle.member_replies.specs.Audit.{down_line as down_text, note_line as note_text, policy_line as policy_text, session_name as name_of, slow_line as slow_text};
 
 use cv_io::{Bytes, Duplicate, Memory, Text};
@@ -9,7 +9,7 @@ use std::alloc::Global;
 
 /// A line, as the bytes of a message.
 fn line(alloc: Global, told: &Audit) -> Result<Bytes, Memory>
-    ensures { IfOk result (λ line. line ≡ Rattle.script_text.specs.Lines.audit_text told.now) }
+    ensures { IfOk result (λ line. line ≡ audit_text told.now) }
 {
     Ok(audit_line(alloc, told)?.into_bytes())
 }

@@ -10,6 +10,7 @@ mod features;
 mod filling;
 pub mod filter;
 pub mod flows;
+pub mod laws;
 pub mod packets;
 pub mod ports;
 pub mod refusals;

@@ -33,7 +33,8 @@ pub fn packet_in(
 
 /// The match of an entry as it was written, with zeros for its padding.
 pub(crate) fn match_of(entry: &Entry) -> [u8; MATCH]
-    ensures { result ≡ written_match entry.now }
+    ensures value { result ≡ written_match entry.now }
+    ensures size { length result ≡ 40 }
 {
     cleared(entry.raw)
 }
@@ -42,7 +43,7 @@ pub(crate) fn match_of(entry: &Entry) -> [u8; MATCH]
 pub(crate) fn seconds(entry: &Entry, moment: u64) -> u32
     ensures { result ≡ seconds_of entry.now moment }
 {
-    u32::try_from(moment.saturating_sub(entry.added)).unwrap_or(u32::MAX)
+    moment.saturating_sub(entry.added).min(u64::from(u32::MAX)) as u32
 }
 
 /// The FLOW_REMOVED of an entry that was removed at a moment, with its packets and bytes.

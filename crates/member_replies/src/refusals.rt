@@ -2,6 +2,7 @@
 ghost use Rattle.std.specs.Prelude.{◌≡◌, ◌≤◌, ◌++◌, IfOk, IsTrue, codes, decimal, length};
 ghost use Rattle.std.specs.List.{list_all};
 ghost use Rattle.script_text.specs.Lines.{is_ascii};
+ghost use Rattle.grants.specs.Names.{field_at};
 ghost use Rattle.member_replies.specs.Refusals.{deny_line as deny_text, detail_text, name_of, reason_text, refusal, rule_text};
 
 use cv_io::{Bytes, Duplicate, Memory, Text};
@@ -122,7 +123,7 @@ fn reason_word(why: Why) -> &'static str
 
 /// The name of the field of a bit.
 fn field_word(bit: u8) -> &'static str
-    ensures text { result.now ≡ name_of (Rattle.grants.specs.Names.field_at bit) }
+    ensures text { result.now ≡ name_of (field_at bit) }
     ensures ascii { IsTrue (list_all is_ascii result.now) }
 {
     match Field::from_bit(bit) {

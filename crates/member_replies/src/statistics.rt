@@ -1,9 +1,9 @@
 //! Statistics of the virtual switch, its table and its ports (section 5.3.5 of the standard).
-ghost use Rattle.std.specs.Prelude.{◌≡◌, ◌^◌, ◌-◌, IfOk, length, map};
+ghost use Rattle.std.specs.Prelude.{◌≡◌, ◌∷◌, [], IfOk, filter, map, option_to_list};
 ghost use Rattle.byteorder.specs.Endian.{big_bytes};
 ghost use Rattle.hex.specs.Hex.{encode_lower};
 ghost use Rattle.member_replies.specs.Ports.{HasFewPorts, filled as filled_to};
-ghost use Rattle.member_replies.specs.Statistics.{asked, description, how_many, messages, ports, tables, told_of, unknown as unknown_of};
+ghost use Rattle.member_replies.specs.Statistics.{description, is_asked, messages, ports, tables, texts_of, told_of, unknown as unknown_of};
 
 use crate::filling::filled;
 use crate::ports::visible;
@@ -18,17 +18,33 @@ use std::alloc::Global;
 pub fn desc_reply(alloc: Global, xid: u32, dpid: u64, name: &Text) -> Result<List<Bytes>, Memory>
     ensures { IfOk result (λ sent. sent ≡ messages xid (description dpid name.now)) }
 {
-    let mut texts = List::with_capacity(alloc, 5)?;
-    texts.push(Bytes::from_slice(alloc, &filled::<256>(b"CoVisor"))?)?;
-    texts.push(Bytes::from_slice(alloc, &filled::<256>(b"virtual switch"))?)?;
-    texts.push(Bytes::from_slice(alloc, &filled::<256>(b"of10 profile 1"))?)?;
-    texts.push(serial_number(alloc, dpid)?)?;
-    texts.push(Bytes::from_slice(alloc, &filled::<256>(name.as_bytes()))?)?;
     let reply = StatsReply {
         more: false,
-        body: ReplyBody::Desc { texts },
+        body: ReplyBody::Desc {
+            texts: texts(alloc, dpid, name)?,
+        },
     };
     write_reply(alloc, &reply, xid)
+}
+
+/// The five texts of a description.
+fn texts(alloc: Global, dpid: u64, name: &Text) -> Result<List<Bytes>, Memory>
+    ensures { IfOk result (λ texts. texts ≡ texts_of dpid name.now) }
+{
+    let mut texts = List::with_capacity(alloc, 5)?;
+    texts.push(text::<256>(alloc, b"CoVisor")?)?;
+    texts.push(text::<256>(alloc, b"virtual switch")?)?;
+    texts.push(text::<256>(alloc, b"of10 profile 1")?)?;
+    texts.push(serial_number(alloc, dpid)?)?;
+    texts.push(text::<256>(alloc, name.as_bytes())?)?;
+    Ok(texts)
+}
+
+/// A text of a width.
+fn text<const N: usize>(alloc: Global, bytes: &[u8]) -> Result<Bytes, Memory>
+    ensures { IfOk result (λ text. text ≡ filled_to N bytes.now) }
+{
+    Bytes::from_slice(alloc, &filled::<N>(bytes))
 }
 
 /// A datapath id in 16 hexadecimal digits, in the place of the serial number.
@@ -38,7 +54,7 @@ fn serial_number(alloc: Global, dpid: u64) -> Result<Bytes, Memory>
     let mut number = [0; 8];
     BigEndian::write_u64(&mut number, dpid);
     let digits = hex::encode(alloc, &number[..])?;
-    Bytes::from_slice(alloc, &filled::<32>(digits.as_bytes()))
+    text::<32>(alloc, digits.as_bytes())
 }
 
 /// The TABLE reply of a virtual switch, whose one table may have so many entries.
@@ -57,7 +73,7 @@ pub fn table_reply(
             name: filled(b"covisor"),
             wildcards: 0x003f_ffff,
             max_entries: limit,
-            active: u32::try_from(table.len()).unwrap_or(u32::MAX),
+            active: table.len().min(u32::MAX as usize) as u32,
             lookup: 0,
             matched: 0,
         },
@@ -80,9 +96,7 @@ pub fn port_reply(
     let all = visible(alloc, view)?;
     let mut ports = List::with_capacity(alloc, all.len())?;
     for port in all.as_slice() {
-        if number == port::NONE || *port == number {
-            ports.push(told_of(told, *port))?;
-        }
+        ports.push_some(stat_if_asked(number, told, *port))?;
     }
     let reply = StatsReply {
         more: false,
@@ -91,17 +105,25 @@ pub fn port_reply(
     write_reply(alloc, &reply, xid)
 }
 
+/// A port's statistics, if they are asked for.
+fn stat_if_asked(number: u16, told: &[PortStat], port: u16) -> Option<PortStat>
+    ensures { option_to_list result ≡ map (told_of told.now) (filter (is_asked number) (port ∷ [])) }
+{
+    if number == port::NONE || port == number {
+        Some(latest(told, port))
+    } else {
+        None
+    }
+}
+
 /// What was told last of a port.
-fn told_of(told: &[PortStat], port: u16) -> PortStat
+fn latest(told: &[PortStat], port: u16) -> PortStat
     ensures { result ≡ told_of told.now port }
 {
-    let mut known = unknown(port);
-    for stat in told {
-        if stat.port_no == port {
-            known = *stat;
-        }
+    match told.iter().rev().find(|stat| stat.port_no == port) {
+        Some(stat) => *stat,
+        None => unknown(port),
     }
-    known
 }
 
 /// A port of which nothing is known.
