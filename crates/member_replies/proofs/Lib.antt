@@ -1,5 +1,5 @@
-pub mod Ports
-pub mod Filling
+pub mod PortLists
+pub mod Widths
 pub mod Writable
 pub mod Entries
 pub mod Sums

@@ -20,7 +20,7 @@ use Rattle.member_table.specs.declared.entry.Entry.{Entry}
 use Rattle.member_replies.specs.Packets.{flow_removed, packet_in, seconds_of, written_match}
 use Rattle.member_replies.specs.Ports.{HasFewPorts, port_of, visible}
 use Rattle.member_replies.specs.Switches.{config, echo, features, port_changed, shown}
-use Rattle.member_replies.proofs.Ports.{length_port_of, length_shown, length_visible}
+use Rattle.member_replies.proofs.PortLists.{length_port_of, length_shown, length_visible}
 
 -- what is written is the body with zeros in its padding
 spelled : (b : Body) → body_bytes b ≡ body_with b (written b)
