@@ -5,3 +5,4 @@ pub mod Entries
 pub mod Sums
 pub mod Rising
 pub mod Short
+pub mod Replies

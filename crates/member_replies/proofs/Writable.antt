@@ -10,8 +10,6 @@ use Rattle.of10_msgs.specs.Bodies.{kind_of}
 use Rattle.of10_msgs.specs.Kinds.{is_among, lengths_of}
 use Rattle.of10_msgs.specs.Ranges.{CanWrite, HasAddress, IsInRange}
 use Rattle.of10_msgs.specs.Spelling.{body_bytes, body_with, clear_match, port_bytes, written}
-use Rattle.of10_msgs.proofs.FoundParts.{clear_twice}
-use Rattle.of10_msgs.proofs.SpelledBodies.{length_clear}
 use Rattle.of10_msgs.specs.declared.message.Body.{Body}
 use Rattle.of10_msgs.specs.declared.message.Body.TheVariants.{BarrierReply}
 use Rattle.grants.specs.declared.grant.Grant.{Grant}
@@ -21,6 +19,7 @@ use Rattle.member_replies.specs.Packets.{flow_removed, packet_in, seconds_of, wr
 use Rattle.member_replies.specs.Ports.{HasFewPorts, port_of, visible}
 use Rattle.member_replies.specs.Switches.{config, echo, features, port_changed, shown}
 use Rattle.member_replies.proofs.PortLists.{length_port_of, length_shown, length_visible}
+use Rattle.member_replies.proofs.Replies.{clear_written}
 
 -- what is written is the body with zeros in its padding
 spelled : (b : Body) → body_bytes b ≡ body_with b (written b)
@@ -57,7 +56,7 @@ removal_writable e reason moment count long =
     let b = flow_removed e reason moment count in
     let behind = big_bytes 8 e.cookie ++ (big_bytes 2 e.priority ++ (reason ∷ 0 ∷ (big_bytes 4 (seconds_of e moment) ++ (big_bytes 4 0 ++ (big_bytes 2 e.idle ++ (0 ∷ 0 ∷ (big_bytes 8 count.packets ++ big_bytes 8 count.bytes))))))) in
     let size : length (body_with b (written b)) ≡ 80 = omega (arith, length-append (written_match e) behind, long) in
-    writable b 80 (size_is b 80 size) refl (omega arith) (clear_twice e.raw (sym (length_clear e.raw) ∙ long))
+    writable b 80 (size_is b 80 size) refl (omega arith) (clear_written e long)
 
 pub port_writable : (v port : ℕ) (is_link is_dark : Bool) → HasAddress (port_of v port is_link is_dark) → CanWrite (port_changed v port is_link is_dark)
 port_writable v port is_link is_dark fits =

@@ -1,5 +1,5 @@
 -- Statistics of a virtual switch, as a member sees it.
-use Rattle.std.specs.Prelude.{ℕ, ◌^◌, ◌-◌, ◌≤◌, ◌==◌, ◌||◌, Bool, List, [], ◌∷◌, codes, filter, find, length, map, min, reverse, sum_by, unwrap_or}
+use Rattle.std.specs.Prelude.{ℕ, ◌^◌, ◌-◌, ◌≤◌, ◌==◌, ◌||◌, Bool, List, [], ◌∷◌, codes, filter, fold, length, map, min, sum_by, if◌then◌else◌}
 use Rattle.std.specs.List.{AllByRecursion}
 use Rattle.byteorder.specs.Endian.{big_bytes}
 use Rattle.hex.specs.Hex.{encode_lower}
@@ -87,9 +87,13 @@ unknown port = record {
   collisions = 2 ^ 64 - 1;
 }
 
+-- what is told of a port, where it is this one's, and else what was known
+abbrev pub later : ℕ → PortStat → PortStat → PortStat
+later port known s = if s.port_no == port then s else known
+
 -- what was told last of a port
 abbrev pub told_of : List PortStat → ℕ → PortStat
-told_of told port = unwrap_or (find (λ (s : PortStat). s.port_no == port) (reverse told)) (unknown port)
+told_of told port = fold (later port) (unknown port) told
 
 -- a port is asked for, or each
 abbrev pub is_asked : ℕ → ℕ → Bool

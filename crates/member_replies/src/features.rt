@@ -1,13 +1,12 @@
 //! What a virtual switch can do, as a member may use it.
-ghost use Rattle.std.specs.Prelude.{◌≡◌, ◌<◌, ◌≤◌, ◌^◌, All, IfOk, map};
+ghost use Rattle.std.specs.Prelude.{◌≡◌, ◌≤◌, All, IfOk, map, if◌then◌else◌};
 ghost use Rattle.of10_msgs.specs.Ranges.{HasAddress};
 ghost use Rattle.member_replies.specs.Ports.{visible as visible_of};
-ghost use Rattle.member_replies.specs.Switches.{actions_of as actions_granted, bit_where, may as may_do, may_output as may_output_of, shown as shown_of};
+ghost use Rattle.member_replies.specs.Switches.{actions_of as actions_granted, may as may_do, may_output as may_output_of, shown as shown_of};
 
 use crate::ports::{is_one_of, port_of, visible};
 use cv_io::{List, Memory};
 use grants::{Grant, Kind};
-use of10_actions::Kind as ActionKind;
 use of10_msgs::PhyPort;
 use std::alloc::Global;
 
@@ -25,27 +24,27 @@ fn may_output(g: &Grant) -> bool
     may(g, Kind::Output) || may(g, Kind::Controller) || may(g, Kind::Pass) || may(g, Kind::Link)
 }
 
-/// The bit of an action's type, where it is granted.
-fn bit(granted: bool, kind: u32) -> u32
-    requires { kind ≤ 10 }
-    ensures bit { result ≡ bit_where granted kind }
+/// A bit, where it is granted.
+fn bit_if(granted: bool, bit: u32) -> u32
+    requires { bit ≤ 1024 }
+    ensures bit { result ≡ (if granted then bit else 0) }
     ensures small { result ≤ 1024 }
 {
-    if granted { 1 << kind } else { 0 }
+    if granted { bit } else { 0 }
 }
 
 /// The actions of a grant, each by its type on the wire (`ofp_action_type`).
 pub(crate) fn actions_of(g: &Grant) -> u32
     ensures { result ≡ actions_granted g.now }
 {
-    bit(may_output(g), 0)
-        + (bit(may(g, Kind::SetDlSrc), 4)
-            + (bit(may(g, Kind::SetDlDst), 5)
-                + (bit(may(g, Kind::SetNwSrc), 6)
-                    + (bit(may(g, Kind::SetNwDst), 7)
-                        + (bit(may(g, Kind::SetNwTos), 8)
-                            + (bit(may(g, Kind::SetTpSrc), 9)
-                                + bit(may(g, Kind::SetTpDst), 10)))))))
+    bit_if(may_output(g), 1)
+        + (bit_if(may(g, Kind::SetDlSrc), 1 << 4)
+            + (bit_if(may(g, Kind::SetDlDst), 1 << 5)
+                + (bit_if(may(g, Kind::SetNwSrc), 1 << 6)
+                    + (bit_if(may(g, Kind::SetNwDst), 1 << 7)
+                        + (bit_if(may(g, Kind::SetNwTos), 1 << 8)
+                            + (bit_if(may(g, Kind::SetTpSrc), 1 << 9)
+                                + bit_if(may(g, Kind::SetTpDst), 1 << 10)))))))
 }
 
 /// The visible ports of the virtual switch of a number, of which these are dark.

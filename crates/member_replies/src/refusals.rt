@@ -62,14 +62,20 @@ fn numbered(alloc: Global, word: &str, number: u64) -> Result<Text, Memory>
 }
 
 /// Two words, each before a number.
-fn numbered_twice(alloc: Global, words: (&str, &str), numbers: (u64, u64)) -> Result<Text, Memory>
-    requires first { IsTrue (list_all is_ascii words.0.now) }
-    requires second { IsTrue (list_all is_ascii words.1.now) }
-    ensures { IfOk result (λ text. text ≡ words.0.now ++ (decimal numbers.0 ++ (words.1.now ++ decimal numbers.1))) }
+fn numbered_twice(
+    alloc: Global,
+    first: &str,
+    number: u64,
+    second: &str,
+    other: u64,
+) -> Result<Text, Memory>
+    requires first { IsTrue (list_all is_ascii first.now) }
+    requires second { IsTrue (list_all is_ascii second.now) }
+    ensures { IfOk result (λ text. text ≡ first.now ++ (decimal number ++ (second.now ++ decimal other))) }
 {
-    let mut text = numbered(alloc, words.0, numbers.0)?;
-    say(&mut text, words.1)?;
-    say_number(alloc, &mut text, numbers.1)?;
+    let mut text = numbered(alloc, first, number)?;
+    say(&mut text, second)?;
+    say_number(alloc, &mut text, other)?;
     Ok(text)
 }
 
@@ -138,7 +144,7 @@ fn detail(alloc: Global, detail: &Detail) -> Result<Text, Memory>
 {
     match *detail {
         Detail::Form { kind, code } => {
-            numbered_twice(alloc, ("error=", ","), (u64::from(kind), u64::from(code)))
+            numbered_twice(alloc, "error=", u64::from(kind), ",", u64::from(code))
         }
         Detail::G1 { command } => numbered(alloc, "command=", u64::from(command)),
         Detail::G2Emerg => word(alloc, "flag=emerg"),
@@ -156,8 +162,10 @@ fn detail(alloc: Global, detail: &Detail) -> Result<Text, Memory>
         Detail::Budget { ranks, limit } => {
             numbered_twice(
                 alloc,
-                ("ranks=", " limit="),
-                (u64::from(ranks), u64::from(limit)),
+                "ranks=",
+                u64::from(ranks),
+                " limit=",
+                u64::from(limit),
             )
         }
     }

@@ -1,9 +1,9 @@
 //! Statistics of the virtual switch, its table and its ports (section 5.3.5 of the standard).
-ghost use Rattle.std.specs.Prelude.{◌≡◌, ◌∷◌, [], IfOk, filter, map, option_to_list};
+ghost use Rattle.std.specs.Prelude.{◌≡◌, ◌≤◌, ◌∷◌, [], IfOk, filter, map, option_to_list};
 ghost use Rattle.byteorder.specs.Endian.{big_bytes};
 ghost use Rattle.hex.specs.Hex.{encode_lower};
 ghost use Rattle.member_replies.specs.Ports.{HasFewPorts, filled as filled_to};
-ghost use Rattle.member_replies.specs.Statistics.{description, is_asked, messages, ports, tables, texts_of, told_of, unknown as unknown_of};
+ghost use Rattle.member_replies.specs.Statistics.{description, is_asked, later as later_of, messages, ports, tables, texts_of, told_of, unknown as unknown_of};
 
 use crate::filling::filled;
 use crate::ports::visible;
@@ -18,11 +18,10 @@ use std::alloc::Global;
 pub fn desc_reply(alloc: Global, xid: u32, dpid: u64, name: &Text) -> Result<List<Bytes>, Memory>
     ensures { IfOk result (λ sent. sent ≡ messages xid (description dpid name.now)) }
 {
+    let described = texts(alloc, dpid, name)?;
     let reply = StatsReply {
         more: false,
-        body: ReplyBody::Desc {
-            texts: texts(alloc, dpid, name)?,
-        },
+        body: ReplyBody::Desc { texts: described },
     };
     write_reply(alloc, &reply, xid)
 }
@@ -42,6 +41,7 @@ fn texts(alloc: Global, dpid: u64, name: &Text) -> Result<List<Bytes>, Memory>
 
 /// A text of a width.
 fn text<const N: usize>(alloc: Global, bytes: &[u8]) -> Result<Bytes, Memory>
+    requires { N ≤ 256 }
     ensures { IfOk result (λ text. text ≡ filled_to N bytes.now) }
 {
     Bytes::from_slice(alloc, &filled::<N>(bytes))
@@ -120,10 +120,18 @@ fn stat_if_asked(number: u16, told: &[PortStat], port: u16) -> Option<PortStat>
 fn latest(told: &[PortStat], port: u16) -> PortStat
     ensures { result ≡ told_of told.now port }
 {
-    match told.iter().rev().find(|stat| stat.port_no == port) {
-        Some(stat) => *stat,
-        None => unknown(port),
+    let mut known = unknown(port);
+    for stat in told {
+        known = later(known, *stat, port);
     }
+    known
+}
+
+/// What is told of a port, where it is this one's, and else what was known.
+fn later(known: PortStat, stat: PortStat, port: u16) -> PortStat
+    ensures { result ≡ later_of port known stat }
+{
+    if stat.port_no == port { stat } else { known }
 }
 
 /// A port of which nothing is known.
