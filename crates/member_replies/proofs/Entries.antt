@@ -1,5 +1,5 @@
 -- Entries that are gone through by their places.
-use Rattle.std.proofs.Common.{◌≡◌, ℕ, ◌+◌, ◌*◌, ◌≤◌, List, [], ◌∷◌, ◌++◌, length, map, take, ap, sym, refl, subst, suc, zero, ◌∙◌, arith}
+use Rattle.std.proofs.Common.{◌≡◌, ℕ, ◌+◌, ◌*◌, ◌≤◌, List, [], ◌∷◌, ◌++◌, length, map, take, ap, sym, refl, subst, suc, zero, suc-add, ◌∙◌, arith}
 use Rattle.std.specs.Prelude.{Option, Some, None, option_to_list}
 use Rattle.std.specs.List.{AllByRecursion, slice_get}
 use Rattle.std.proofs.lemmas.List.{length-append, map-append}
@@ -15,9 +15,9 @@ use Rattle.member_replies.specs.declared.filter.Filter.{Filter}
 -- the first so many items and the next
 pub take_with : {X : Type 0} (xs : List X) (n : ℕ) → take (n + 1) xs ≡ take n xs ++ option_to_list (slice_get xs n)
 take_with [] zero = refl
-take_with [] (suc n) = refl
+take_with [] (suc n) = rw suc-add refl
 take_with (x ∷ xs) zero = refl
-take_with (x ∷ xs) (suc n) = ap (λ k. take k (x ∷ xs)) (omega arith) ∙ ap (λ ys. x ∷ ys) (take_with xs n)
+take_with (x ∷ xs) (suc n) = rw suc-add (ap (λ ys. x ∷ ys) (take_with xs n))
 
 -- what is true of each item is true of one by its place
 pub at_place : {X : Type 0} (P : X → Type 0) (xs : List X) (n : ℕ) (x : X) → AllByRecursion P xs → Some x ≡ slice_get xs n → P x
