@@ -1,0 +1,4 @@
+pub mod Ids
+pub mod Parted
+pub mod Changes
+pub mod Widening

@@ -1,5 +1,7 @@
 -- A change of a node's rules that is made ready: what comes is there, and what goes is there still.
 use Rattle.std.specs.Prelude.{◌≡◌, ℕ, Bool, List, [], ◌∷◌, ◌++◌, Contains, IsPermutation, if◌then◌else◌, map}
+use Rattle.std.specs.List.Sorted.{IsStrictlySortedBy}
+use Rattle.std.specs.Ordering.{nat_cmp}
 use Rattle.rule_ancestry.specs.Holding.{Held, id_of, item_of}
 use Rattle.made_rules.specs.declared.made.Made.{Made}
 use Rattle.made_rules.specs.Parting.{AreApart, was_of as old_of, is_of as new_of}
@@ -31,12 +33,13 @@ side_of back s = if back then was_of s else is_of s
 abbrev pub AreWide : List (Held Made) → List Stay → Type 0
 AreWide held stays = (rest : List (Held Made)) × IsPermutation held (rest ++ map wide_of stays)
 
--- From the rules before, without the ids that are lost and with those that are made: nothing is lost but what
+-- From the rules before, whose ids rise, without the ids that are lost and with those that are made: nothing is lost but what
 -- goes, what stays keeps its id, and no rule both goes and comes.
 pub record IsReady (before now : List (Held Made)) (lost : List ℕ) (made : List Made) (change : ChangeOf) : Type 0 where
   pub kept : List (Held Made)
   pub going : List (Held Made)
   pub coming : List (Held Made)
+  pub rises : IsStrictlySortedBy nat_cmp (map id_of before)
   pub was : IsPermutation before ((kept ++ going) ++ map was_of change.stays)
   pub is : IsPermutation now (((kept ++ coming) ++ going) ++ map wide_of change.stays)
   pub gone : map id_of going ≡ change.gone

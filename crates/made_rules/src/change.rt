@@ -69,6 +69,8 @@ impl Change {
         ensures ready { IfOk result (λ change. IsReady store.old store.new lost.now made.items change) }
         ensures memory { OnErr result (store.new ≡ store.old) }
     {
+        // That no two are held under one id.
+        let _count = store.len();
         let plan = plan_of(alloc, store, lost, made)?;
         let left = Vec::with_capacity(alloc, plan.gone.len())?;
         let stays = widen(alloc, store, plan.both)?;
@@ -81,6 +83,7 @@ impl Change {
             }),
             Err(wanted) => {
                 narrow(store, stays, true);
+                let _rest = store.len();
                 Err(wanted)
             }
         }

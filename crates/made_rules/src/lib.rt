@@ -7,7 +7,7 @@
 pub mod change;
 pub mod made;
 pub mod named;
-mod old;
+pub mod old;
 pub mod parting;
 mod plan;
 pub mod stay;
@@ -15,6 +15,7 @@ pub mod stay;
 pub use change::Change;
 pub use made::{Made, Origin};
 pub use named::made_of;
+pub use old::{Old, olds};
 
 #[cfg(test)]
 mod tests;

@@ -28,7 +28,7 @@ impl<'a> Model for Old<'a> {
 }
 
 /// The rules of these ids.
-pub(crate) fn olds<'a>(
+pub fn olds<'a>(
     alloc: Global,
     store: &'a Store<Made>,
     ids: &[usize],
