@@ -11,7 +11,7 @@ use Rattle.rule_ancestry.specs.Holding.{Held}
 use Rattle.list_change.specs.Pairing.{Way}
 use Rattle.made_rules.specs.declared.made.Made.{Made}
 use Rattle.made_rules.specs.declared.made.Origin.{Origin}
-use Rattle.made_rules.specs.declared.made.Origin.TheVariants.{Rule'}
+use Rattle.made_rules.specs.declared.made.Origin.TheVariants.{Rule as OfRule}
 
 -- the rule that a left rule of this tail makes alone: of `>>` unless it passes the packet on, of a hop unless it
 -- leads over a link, of `|>` where it is touched
@@ -49,10 +49,10 @@ stays_out Hop touched = false
 
 -- a rule of the left operand as an origin, and one of the right
 abbrev pub left_origin : ℕ → Origin
-left_origin id = Rule' 0 id
+left_origin id = OfRule 0 id
 
 abbrev pub right_origin : ℕ → Origin
-right_origin id = Rule' 1 id
+right_origin id = OfRule 1 id
 
 -- a rule with its origins
 abbrev pub made_with : List Origin → Rule → Made

@@ -5,14 +5,14 @@ use Rattle.rule_ancestry.specs.Holding.{Held}
 use Rattle.policy_meaning.specs.declared.rule.Rule.{Rule}
 use Rattle.made_rules.specs.declared.made.Made.{Made}
 use Rattle.made_rules.specs.declared.made.Origin.{Origin}
-use Rattle.made_rules.specs.declared.made.Origin.TheVariants.{Leaf, Rule'}
+use Rattle.made_rules.specs.declared.made.Origin.TheVariants.{Leaf, Rule as OfRule}
 
 -- the same leaf, or the same rule of the same operand
 abbrev pub same_origin : Origin → Origin → Bool
 same_origin (Leaf l) (Leaf m) = (l.member == m.member) && (l.kind == m.kind)
-same_origin (Rule' side i) (Rule' other j) = (side == other) && (i == j)
-same_origin (Leaf l) (Rule' side i) = false
-same_origin (Rule' side i) (Leaf l) = false
+same_origin (OfRule side i) (OfRule other j) = (side == other) && (i == j)
+same_origin (Leaf l) (OfRule side i) = false
+same_origin (OfRule side i) (Leaf l) = false
 
 -- it is one of these
 abbrev pub is_one_of : List Origin → Origin → Bool

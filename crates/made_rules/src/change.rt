@@ -22,6 +22,7 @@ pub struct Change {
 }
 
 impl Model for Change {
+    ghost use Rattle.std.specs.Prelude.{◌≡◌, ◌≤◌, [], length, vec_capacity};
     ghost use Rattle.made_rules.specs.Changing.{ChangeOf};
 
     ghost Value = { ChangeOf };

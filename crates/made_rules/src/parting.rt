@@ -35,7 +35,8 @@ fn order_of_last(gone: &[Old], come: &[Made]) -> Ordering
     requires come { 0 < length come.now }
     ensures { (x : Held Rule) → (y : Made) → result ≡ by_ancestry (get_or gone.now (length gone.now - 1) x).item (get_or come.now (length come.now - 1) y).rule }
 {
-    gone[gone.len() - 1].rule.cmp_listed(&come[come.len() - 1].rule)
+    let old = &gone[gone.len() - 1];
+    old.rule.cmp_listed(&come[come.len() - 1].rule)
 }
 
 /// How a rule that is held is listed against another; equal only if it is the same, else greater.
@@ -90,8 +91,8 @@ fn part_one<'a>(
     if let Some(made) = come.pop() {
         match place_of(gone, &made.rule) {
             Some(place) => {
-                let id = gone.remove(place).id;
-                parted.both.push(Both { id, made })?;
+                let old = gone.remove(place);
+                parted.both.push(Both { id: old.id, made })?;
             }
             None => parted.come.push(made)?,
         }
@@ -105,7 +106,7 @@ pub(crate) fn part<'a>(
     gone: Vec<Old<'a>>,
     come: Vec<Made>,
 ) -> Result<Parted<'a>, Memory>
-    ensures { IfOk result (λ parted. IsToldApart gone.items come.items parted.gone.items parted.come.items parted.both.items) }
+    ensures { IfOk result (λ parted. IsToldApart gone.entry.items come.items parted.gone.items parted.come.items parted.both.items) }
 {
     let mut gone = gone;
     let mut come = come;
