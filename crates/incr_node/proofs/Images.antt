@@ -56,9 +56,9 @@ module _ (r : RewriteOf) (m n : MatchOf) (a : IsNormal m) (b : IsNormal n) (i : 
       let s = IsMatch-both m (pulled r n) i (in-range r n j) in
       let o = (overlaps_exact true q q s s (sym (overlaps_self q))).0 refl in
       let both-hold : (holds m o.header && holds (pulled r n) o.header) ≡ true =
-          sym (holds-both m (pulled r n) o.header) ∙ (ap (λ z. holds q o.header && z) f ∙ (and-true (holds q o.header) ∙ o.in_first)) in
+      sym (holds-both m (pulled r n) o.header) ∙ (ap (λ z. holds q o.header && z) f ∙ (and-true (holds q o.header) ∙ o.in_first)) in
       let in-n : holds n (apply r o.header) ≡ true =
-          sym (pull_is_exact r n o.header b) ∙ (ap (λ z. holds (pulled r n) o.header && z) e ∙ (and-true (holds (pulled r n) o.header) ∙ and-second (holds m o.header) (holds (pulled r n) o.header) both-hold)) in
+      sym (pull_is_exact r n o.header b) ∙ (ap (λ z. holds (pulled r n) o.header && z) e ∙ (and-true (holds (pulled r n) o.header) ∙ and-second (holds m o.header) (holds (pulled r n) o.header) both-hold)) in
       absurd (none-at o.header (and-first (holds m o.header) (holds (pulled r n) o.header) both-hold) in-n)
 
   -- m doesn't meet what n asks for before r

@@ -1,2 +1,6 @@
 pub mod Images
-pub mod Joining
+pub mod Joins
+pub mod Shares
+pub mod Whole
+pub mod Finding
+pub mod Enough

@@ -1,5 +1,8 @@
 -- Which rules of one operand could meet a rule of the other.
-use Rattle.std.specs.Prelude.{ℕ, Bool, false, Option, Some, None, List, ◌+◌, count_by, sum_by}
+use Rattle.std.specs.Prelude.{ℕ, Bool, false, Option, Some, None, List, [], ◌+◌, count_by, option_map, sum_by}
+use Rattle.match_index.specs.Items.{ids_of}
+use Rattle.match_index.specs.Questions.{is_meeting}
+use Rattle.match_index.specs.declared.item.Item.{Item}
 use Rattle.of10_match.specs.Fields.{MatchOf}
 use Rattle.of10_match.specs.Matching.{overlaps}
 use Rattle.of10_actions.specs.declared.effects.Tail.{Tail}
@@ -26,14 +29,22 @@ reach_by Hop (Pass r) m = None
 abbrev pub reach : Op → Rule → Option MatchOf
 reach op a = reach_by op a.tail a.m
 
--- the image, if there is one, overlaps the match
-abbrev pub meets : Option MatchOf → MatchOf → Bool
-meets None m = false
-meets (Some i) m = overlaps i m
+-- what a right rule asks of a left one's image: that it overlaps its match; `|>` joins none
+abbrev pub asked : Op → Rule → Option MatchOf
+asked Par b = Some b.m
+asked Seq b = Some b.m
+asked Over b = None
+asked Hop b = Some b.m
+
+-- both are there and overlap
+abbrev pub both_overlap : Option MatchOf → Option MatchOf → Bool
+both_overlap None n = false
+both_overlap (Some m) None = false
+both_overlap (Some m) (Some n) = overlaps m n
 
 -- the two could meet
 abbrev pub could_meet : Op → Rule → Rule → Bool
-could_meet op a b = meets (reach op a) b.m
+could_meet op a b = both_overlap (reach op a) (asked op b)
 
 -- one step for each rule that comes to the left, and one for each rule of the right that it could meet
 abbrev pub left_cost : Op → List (Held Rule) → List (Held Rule) → ℕ
@@ -42,3 +53,20 @@ left_cost op rights come = sum_by (λ (a : Held Rule). 1 + count_by (λ (b : Hel
 -- the same for rules that come to the right
 abbrev pub right_cost : Op → List (Held Rule) → List (Held Rule) → ℕ
 right_cost op lefts come = sum_by (λ (b : Held Rule). 1 + count_by (λ (a : Held Rule). could_meet op a.item b.item) lefts) come
+
+-- a match under an id, as an index holds it
+abbrev pub item_for : ℕ → MatchOf → Item
+item_for id m = record { id = id; rank = 0; normal = m }
+
+-- a rule in an index, by a match of it
+abbrev pub shown : (Rule → Option MatchOf) → Held Rule → Option Item
+shown by h = option_map (item_for h.id) (by h.item)
+
+-- the ids in an index whose matches overlap
+abbrev pub overlapping : Option MatchOf → List Item → List ℕ
+overlapping None items = []
+overlapping (Some m) items = ids_of (is_meeting m) items
+
+-- a rule is found in an index by a match that overlaps the one it is shown by
+abbrev pub is_found : Option MatchOf → (Rule → Option MatchOf) → Held Rule → Bool
+is_found m by h = both_overlap m (by h.item)

@@ -1,3 +1,4 @@
 pub mod Ways
 pub mod Candidates
+pub mod Sound
 pub mod Nodes

@@ -1,7 +1,9 @@
 //! The rules that could meet a rule of the other operand.
-ghost use Rattle.std.specs.Prelude.{◌≡◌, IfOk};
-ghost use Rattle.incr_node.specs.Candidates.{reach as reach_of};
-ghost use Rattle.incr_node.specs.Nodes.{asked as asked_of};
+ghost use Rattle.std.specs.Prelude.{◌≡◌, IfOk, IsPermutation, Option, filter, filter_map};
+ghost use Rattle.of10_match.specs.Fields.{MatchOf};
+ghost use Rattle.policy_meaning.specs.declared.rule.Rule.{Rule};
+ghost use Rattle.made_rules.specs.Rules.{rules_in};
+ghost use Rattle.incr_node.specs.Candidates.{asked as asked_of, is_found, overlapping, reach as reach_of, shown};
 
 use cv_io::{List, Memory};
 use made_rules::{Made, Old, olds};
@@ -51,7 +53,9 @@ fn places(alloc: Global, ids: &[u64]) -> Result<Vec<usize>, Memory>
 }
 
 /// The ids in an index whose matches overlap; none where nothing is asked.
-fn meeting(alloc: Global, index: &Index, m: Option<Match>) -> Result<Vec<usize>, Memory> {
+fn meeting(alloc: Global, index: &Index, m: Option<Match>) -> Result<Vec<usize>, Memory>
+    ensures { IfOk result (λ ids. IsPermutation (overlapping m index.now.items) ids.items) }
+{
     match m {
         Some(m) => places(alloc, index.meeting(&m)?.as_slice()),
         None => Ok(Vec::new(alloc)),
@@ -64,7 +68,9 @@ pub(crate) fn candidates<'a>(
     index: &Index,
     m: Option<Match>,
     store: &'a Store<Made>,
-) -> Result<Vec<Old<'a>>, Memory> {
+) -> Result<Vec<Old<'a>>, Memory>
+    ensures { (by : Rule → Option MatchOf) → IsPermutation index.now.items (filter_map (shown by) (rules_in store.now)) → IfOk result (λ olds. IsPermutation olds.items (filter (is_found m by) (rules_in store.now))) }
+{
     let ids = meeting(alloc, index, m)?;
     olds(alloc, store, &ids)
 }

@@ -5,6 +5,7 @@
 
 mod candidates;
 pub mod joining;
+pub mod making;
 pub mod node;
 
 pub use joining::{left_rule, right_rule};

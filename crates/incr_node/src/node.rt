@@ -1,6 +1,7 @@
 //! A node of an operator over the rules of its operands.
 use crate::candidates::{asked, candidates, reach};
-use crate::joining::{add_by_left, add_by_right, left_rule, right_rule};
+use crate::joining::{add_by_right, left_rule, right_rule};
+use crate::making::made_by_left;
 use cv_io::{Duplicate, Memory, Steps};
 use made_rules::{Change, Made, Old, Origin, made_of, olds};
 use match_index::Index;
@@ -70,22 +71,6 @@ impl Node {
         &self.made
     }
 
-    /// What rules that come to the left make.
-    fn made_by_left<G: Ledger>(
-        &self,
-        alloc: Global,
-        come: &[Old],
-        right: &Store<Made>,
-        steps: &mut Steps<G>,
-    ) -> Result<Vec<Made>, Memory> {
-        let mut fresh = Vec::new(alloc);
-        for a in come {
-            let rights = candidates(alloc, &self.rights, reach(self.op, a.rule), right)?;
-            add_by_left(alloc, self.op, self.size, a, &rights, &mut fresh, steps)?;
-        }
-        Ok(fresh)
-    }
-
     /// What rules that come to the right make.
     fn made_by_right<G: Ledger>(
         &self,
@@ -113,8 +98,12 @@ impl Node {
         steps: &mut Steps<G>,
     ) -> Result<Change, Memory> {
         let come = olds(alloc, left, below.come())?;
-        let fresh = self.made_by_left(alloc, &come, right, steps)?;
-        let lost = made_of(alloc, &self.made, &origins(alloc, Side::Left, below.gone())?)?;
+        let fresh = made_by_left(alloc, self.op, self.size, &come, &self.rights, right, steps)?;
+        let lost = made_of(
+            alloc,
+            &self.made,
+            &origins(alloc, Side::Left, below.gone())?,
+        )?;
         self.lefts.reserve(come.len())?;
         let change = Change::ready(alloc, &mut self.made, &lost, fresh)?;
         show(&mut self.lefts, self.op, Side::Left, &come);
@@ -132,7 +121,11 @@ impl Node {
     ) -> Result<Change, Memory> {
         let come = olds(alloc, right, below.come())?;
         let fresh = self.made_by_right(alloc, left, &come, steps)?;
-        let lost = made_of(alloc, &self.made, &origins(alloc, Side::Right, below.gone())?)?;
+        let lost = made_of(
+            alloc,
+            &self.made,
+            &origins(alloc, Side::Right, below.gone())?,
+        )?;
         self.rights.reserve(come.len())?;
         let change = Change::ready(alloc, &mut self.made, &lost, fresh)?;
         show(&mut self.rights, self.op, Side::Right, &come);

@@ -1,33 +1,31 @@
 -- What a change does to what is held, in any order.
-use Rattle.std.proofs.Common.{◌≡◌, ℕ, zero, suc, ◌+◌, ◌<◌, ◌≤◌, ◌==◌, Bool, true, false, ◌||◌, List, [], ◌∷◌, ◌++◌, Option, Some, None, length, get_or, take, drop, map, refl, subst, sym, ap, ◌∙◌, arith, append_assoc}
-use Rattle.std.specs.Prelude.{Contains, IsPermutation, filter}
-use Rattle.std.specs.List.{list_any}
-use Rattle.std.specs.List.Sorted.{IsStrictlySortedBy}
-use Rattle.std.specs.Ordering.{is_eq, nat_cmp}
+use Rattle.std.proofs.Common.{◌≡◌, ℕ, zero, suc, ◌+◌, ◌<◌, List, [], ◌∷◌, ◌++◌, Option, Some, None, length, get_or, take, drop, map, refl, subst, sym, ap, ◌∙◌, arith, append_assoc}
+use Rattle.std.specs.Prelude.{Contains, IsPermutation, filter, option_map, option_to_list}
+use Rattle.std.specs.List.{AllByRecursion}
 use Rattle.std.proofs.lemmas.Grind.{common_steps}
 use Rattle.std.proofs.lemmas.List.{append-nil, drop_more, get_or-map, map-append, map_more}
-use Rattle.std.proofs.lemmas.List.Folds.{list_any-append}
-use Rattle.std.proofs.lemmas.List.Sorted.{IsPermutation-append, IsPermutation-append_comm, IsPermutation-append_left, IsPermutation-append_right, IsPermutation-cons, IsPermutation-map, IsPermutation-refl, IsPermutation-sym, IsPermutation-to_front, IsPermutation-trans}
+use Rattle.std.proofs.lemmas.List.Sorted.{IsPermutation-append_comm, IsPermutation-append_left, IsPermutation-append_right, IsPermutation-cons, IsPermutation-map, IsPermutation-refl, IsPermutation-sym, IsPermutation-trans}
 use Rattle.list_change.proofs.Permute.{Perm, nil, skip, turn, next, by-cases, by-equation}
 use Rattle.policy_meaning.specs.declared.rule.Rule.{Rule}
-use Rattle.rule_ancestry.specs.Holding.{Held, held_as, id_of, is_outside, item_at, item_of, with_item}
-use Rattle.rule_ancestry.specs.Names.{names, names_at}
-use Rattle.made_rules.specs.Changing.{AreHeld, AreOld, AreWide, AreWidened, ChangeOf, IsOld, IsPlan, IsReady, IsWidened, anew, is_of, settled, side_of, was_of, wide_of}
+use Rattle.rule_ancestry.specs.Holding.{Held, held_as, id_of, is_other, is_outside, item_at, item_of}
+use Rattle.made_rules.specs.Changing.{AreHeld, AreOld, AreWidened, ChangeOf, IsPlan, IsReady, anew, is_of, settled, was_of, wide_of}
 use Rattle.made_rules.specs.Parting.{AreApart, IsToldApart, was_of as old_of, is_of as new_of}
-use Rattle.made_rules.specs.Rules.{rule_held, rules_in}
+use Rattle.made_rules.specs.Rules.{rule_held, rule_under, rules_in}
 use Rattle.made_rules.specs.declared.made.Made.{Made}
 use Rattle.made_rules.specs.declared.parting.Both.{Both}
 use Rattle.made_rules.specs.declared.stay.Stay.{Stay}
-use Rattle.made_rules.proofs.Ids.{Rising, in-place, item-there, same-held, without-all, without-one}
+use Rattle.made_rules.proofs.Ids.{Rising, item-there, same-held, without-all, without-one}
+use Rattle.rule_ancestry.proofs.Lists.{found-all}
+use Rattle.policy_meaning.proofs.Rising.{all-permuted}
 
 -- ---- a list that came of another by a function, in parts and in another order
 module _ {X Y : Type 0} (f : X → Y) where
-  record Lifted (xs : List X) (zs : List Y) : Type 0 where
-    items : List X
-    is : map f items ≡ zs
-    all : IsPermutation xs items
+  pub record Lifted (xs : List X) (zs : List Y) : Type 0 where
+    pub items : List X
+    pub is : map f items ≡ zs
+    pub all : IsPermutation xs items
 
-  lift : (xs : List X) {ws zs : List Y} → Perm ws zs → map f xs ≡ ws → Lifted xs zs
+  pub lift : (xs : List X) {ws zs : List Y} → Perm ws zs → map f xs ≡ ws → Lifted xs zs
   lift xs nil e = record { items = xs; is = e; all = IsPermutation-refl xs }
   lift [] (skip w p) e = absurd (cc)
   lift (x ∷ xs) (skip {xs = ws} {ys = vs} w p) e =
@@ -87,73 +85,89 @@ module _ {X : Type 0} where
       (IsPermutation-trans _ (c ++ (k ++ (g ++ m))) _ (front k c (g ++ m))
       (by-equation _ _ (ap (λ z. c ++ z) (sym (append_assoc k g m)))))
 
-  at-front : (s rest : List X) (x : X) → IsPermutation s (rest ++ x ∷ []) → IsPermutation s (x ∷ rest)
-  at-front s rest x p = IsPermutation-trans s _ _ p (IsPermutation-to_front rest x)
-
-  at-end : (s rest : List X) (x : X) → IsPermutation s (x ∷ rest) → IsPermutation s (rest ++ x ∷ [])
-  at-end s rest x p = IsPermutation-trans s _ _ p (IsPermutation-sym _ _ (IsPermutation-to_front rest x))
-
--- ---- one rule that stays
-module _ {N : Type 0} (same : N → N → Bool) where
-  any-of-both : (us vs : List N) (P : N → Bool) → list_any P us ≡ true → list_any P (us ++ vs) ≡ true
-  any-of-both us vs P e = list_any-append P us vs ∙ ap (λ b. b || list_any P vs) e
-
-  left-or : (a b : Bool) → b ≡ true → (a || b) ≡ true
-  left-or true b e = refl
-  left-or false b e = e
-
-  any-of-later : (us vs : List N) (P : N → Bool) → list_any P vs ≡ true → list_any P (us ++ vs) ≡ true
-  any-of-later us vs P e = list_any-append P us vs ∙ left-or (list_any P us) (list_any P vs) e
-
-module _ (held rest : List (Held Made)) (stay : Stay) (up : Rising held) (p : IsPermutation held (rest ++ wide_of stay ∷ [])) where
-  pub wide-there : item_at held stay.id ≡ Some ((wide_of stay).item)
-  wide-there = item-there held rest (wide_of stay) up (at-front held rest (wide_of stay) p)
-
-  pub narrowed : (back : Bool) (new : List (Held Made)) (item : Made) → item ≡ (side_of back stay).item → new ≡ with_item stay.id item held → IsPermutation new (rest ++ side_of back stay ∷ [])
-  narrowed true new item i e = rw (e, i) (at-end _ _ _ (in-place held rest (wide_of stay) ((was_of stay).item) up (at-front held rest (wide_of stay) p)))
-  narrowed false new item i e = rw (e, i) (at-end _ _ _ (in-place held rest (wide_of stay) ((is_of stay).item) up (at-front held rest (wide_of stay) p)))
-
 -- ---- the rules of some ids go
-nth : {X : Type 0} (xs : List X) (i : ℕ) → i < length xs → X
+shorter : {X : Type 0} (x : X) (xs : List X) (i : ℕ) → suc i < length (x ∷ xs) → i < length xs
+shorter x xs i p = omega arith
+
+pub nth : {X : Type 0} (xs : List X) (i : ℕ) → i < length xs → X
 nth [] i p = absurd (omega arith)
 nth (x ∷ xs) zero p = x
-nth (x ∷ xs) (suc i) p = nth xs i (omega arith)
+nth (x ∷ xs) (suc i) p = nth xs i (shorter x xs i p)
 
-drop-nth : {X : Type 0} (xs : List X) (i : ℕ) (p : i < length xs) → drop i xs ≡ nth xs i p ∷ drop (i + 1) xs
+pub drop-nth : {X : Type 0} (xs : List X) (i : ℕ) (p : i < length xs) → drop i xs ≡ nth xs i p ∷ drop (i + 1) xs
 drop-nth [] i p = absurd (omega arith)
 drop-nth (x ∷ xs) zero p = refl
-drop-nth (x ∷ xs) (suc i) p = drop-nth xs i (omega arith)
+drop-nth (x ∷ xs) (suc i) p = drop-nth xs i (shorter x xs i p)
 
-get-nth : {X : Type 0} (xs : List X) (i : ℕ) (p : i < length xs) (d : X) → get_or xs i d ≡ nth xs i p
+pub get-nth : {X : Type 0} (xs : List X) (i : ℕ) (p : i < length xs) (d : X) → get_or xs i d ≡ nth xs i p
 get-nth [] i p d = absurd (omega arith)
 get-nth (x ∷ xs) zero p d = refl
-get-nth (x ∷ xs) (suc i) p d = get-nth xs i (omega arith) d
+get-nth (x ∷ xs) (suc i) p d = get-nth xs i (shorter x xs i p) d
 
 abbrev pub Leaves : List (Held Made) → List (Held Made) → List Made → List Made → List ℕ → ℕ → Type 0
 Leaves first now left left' gone i = (going rest : List (Held Made)) → map id_of going ≡ gone → IsPermutation first (going ++ rest) → IsPermutation now (drop i going ++ rest) × (left' ≡ left ++ map item_of (take i going))
 
-length-map : {X Y : Type 0} (f : X → Y) (xs : List X) → length (map f xs) ≡ length xs
+pub length-map : {X Y : Type 0} (f : X → Y) (xs : List X) → length (map f xs) ≡ length xs
 length-map f [] = refl
 length-map f (x ∷ xs) = grind (arith, common_steps, length-map f xs)
 
 pub leaves-none : (first : List (Held Made)) (left : List Made) (gone : List ℕ) → Leaves first first left left gone 0
 leaves-none first left gone going rest e p = (p, sym (append-nil left))
 
-pub leaves-more : (first now now' : List (Held Made)) (left left' left2 : List Made) (gone : List ℕ) (i id : ℕ) → i < length gone → id ≡ get_or gone i id → Leaves first now left left' gone i →
-    ((item : Made) (rest : List (Held Made)) → IsPermutation now (record { id = id; item = item } ∷ rest) → IsPermutation now' rest) →
-    ((item : Made) (rest : List (Held Made)) → IsPermutation now (record { id = id; item = item } ∷ rest) → left2 ≡ left' ++ item ∷ []) →
+pub leaves-more : (first now now' : List (Held Made)) (left left' left2 : List Made) (gone : List ℕ) (i d : ℕ) → i < length gone → Leaves first now left left' gone i →
+    ((item : Made) (rest : List (Held Made)) → IsPermutation now (record { id = get_or gone i d; item = item } ∷ rest) → IsPermutation now' rest) →
+    ((item : Made) (rest : List (Held Made)) → IsPermutation now (record { id = get_or gone i d; item = item } ∷ rest) → left2 ≡ left' ++ item ∷ []) →
     Leaves first now' left left2 gone (i + 1)
-leaves-more first now now' left left' left2 gone i id lt at h out add going rest e p =
+leaves-more first now now' left left' left2 gone i d lt h out add going rest e p =
     let below : i < length going = let l = length-map id_of going in let m = ap (λ (z : List ℕ). length z) e in omega arith in
     let x = nth going i below in
     let r = h going rest e p in
-    let is : x.id ≡ id = sym (at ∙ ap (λ z. get_or z i id) (sym e) ∙ get_or-map id_of going i x id below ∙ ap id_of (get-nth going i below x)) in
-    let q : IsPermutation now (record { id = id; item = x.item } ∷ (drop (i + 1) going ++ rest)) =
-        subst (λ j. IsPermutation now (record { id = j; item = x.item } ∷ (drop (i + 1) going ++ rest))) is
-        (subst (λ z. IsPermutation now (z ++ rest)) (drop-nth going i below) r.0) in
-    (out x.item _ q,
-    add x.item _ q ∙ ap (λ z. z ++ x.item ∷ []) r.1 ∙ append_assoc left (map item_of (take i going)) (x.item ∷ [])
-    ∙ ap (λ z. left ++ z) (ap (λ y. map item_of (take i going) ++ item_of y ∷ []) (sym (get-nth going i below x)) ∙ sym (map_more item_of going i x below)))
+    let is : x.id ≡ get_or gone i d = sym (ap (λ z. get_or z i d) (sym e) ∙ get_or-map id_of going i x d below ∙ ap id_of (get-nth going i below x)) in
+    let q : IsPermutation now (record { id = get_or gone i d; item = x.item } ∷ (drop (i + 1) going ++ rest)) =
+    subst (λ (j : ℕ). IsPermutation now (record { id = j; item = x.item } ∷ (drop (i + 1) going ++ rest))) is
+    (subst (λ z. IsPermutation now (z ++ rest)) (drop-nth going i below) r.0) in (
+      out x.item _ q,
+      add x.item _ q ∙ ap (λ z. z ++ x.item ∷ []) r.1 ∙ append_assoc left (map item_of (take i going)) (x.item ∷ [])
+          ∙ ap (λ z. left ++ z) (ap (λ y. map item_of (take i going) ++ item_of y ∷ []) (sym (get-nth going i below x)) ∙ sym (map_more item_of going i x below)),
+    )
+
+-- ---- one id of several
+module _ (P : Held Made → Type 0) where
+  at-nth : (items rest : List (Held Made)) (i : ℕ) (lt : i < length items) → AllByRecursion P (items ++ rest) → P (nth items i lt)
+  at-nth [] rest i lt a = absurd (omega arith)
+  at-nth (x ∷ items) rest zero lt a = a.0
+  at-nth (x ∷ items) rest (suc i) lt a = at-nth items rest i (shorter x items i lt) a.1
+
+module _ (store items rest : List (Held Made)) (ids : List ℕ) (i d : ℕ) (up : Rising store) (are : map id_of items ≡ ids) (p : IsPermutation store (items ++ rest)) (lt : i < length ids) where
+  below : i < length items
+  below = let l = length-map id_of items in let m = ap (λ (z : List ℕ). length z) are in omega arith
+
+  id-nth : (nth items i below).id ≡ get_or ids i d
+  id-nth = sym (ap (λ z. get_or z i d) (sym are) ∙ get_or-map id_of items i (nth items i below) d below ∙ ap id_of (get-nth items i below (nth items i below)))
+
+  there-nth : item_at store (get_or ids i d) ≡ Some ((nth items i below).item)
+  there-nth =
+      subst (λ (z : ℕ). item_at store z ≡ Some ((nth items i below).item)) id-nth
+      (at-nth (λ (x : Held Made). item_at store x.id ≡ Some x.item) items rest i below (all-permuted store (items ++ rest) p (λ (x : Held Made). item_at store x.id ≡ Some x.item) (found-all store up)))
+
+  pub olds-more : (olds olds' : List (Held Rule)) (old : Option (Held Rule)) → olds ≡ rules_in (take i items) → old ≡ option_map (rule_under (get_or ids i d)) (item_at store (get_or ids i d)) → olds' ≡ olds ++ option_to_list old → olds' ≡ rules_in (take (i + 1) items)
+  olds-more olds olds' old far is added =
+      let x = nth items i below in
+      added ∙ ap (λ z. z ++ option_to_list old) far
+      ∙ ap (λ z. rules_in (take i items) ++ option_to_list z) (is ∙ ap (option_map (rule_under (get_or ids i d))) there-nth)
+      ∙ ap (λ (z : ℕ). rules_in (take i items) ++ (record { id = z; item = x.item.rule }) ∷ []) (sym id-nth)
+      ∙ ap (λ (z : Held Made). rules_in (take i items) ++ rule_held z ∷ []) (sym (get-nth items i below x))
+      ∙ sym (map_more rule_held items i x below)
+
+-- ---- one rule goes
+pub out-rest : (store new rest : List (Held Made)) (id : ℕ) (item : Made) → Rising store → IsPermutation store ((record { id = id; item = item }) ∷ rest) → new ≡ filter (is_other id) store → IsPermutation new rest
+out-rest store new rest id item up p e = subst (λ z. IsPermutation z rest) (sym e) (without-one store rest (record { id = id; item = item }) up p)
+
+pub out-item : (store rest : List (Held Made)) (id : ℕ) (item found : Made) → Rising store → IsPermutation store ((record { id = id; item = item }) ∷ rest) → item_at store id ≡ Some found → found ≡ item
+out-item store rest id item found up p e = let s : Some found ≡ Some item = sym e ∙ item-there store rest (record { id = id; item = item }) up p in cc
+
+pub out-there : (store rest : List (Held Made)) (id : ℕ) (item : Made) → Rising store → IsPermutation store ((record { id = id; item = item }) ∷ rest) → item_at store id ≡ None → ⊥
+out-there store rest id item up p e = let s : Some item ≡ None = sym (item-there store rest (record { id = id; item = item }) up p) ∙ e in absurd (cc)
 
 -- ---- what is told apart is a plan
 ids-rules : (hs : List (Held Made)) → map id_of (rules_in hs) ≡ map id_of hs
@@ -230,9 +244,9 @@ plan-undone held wide new rest was both stays up rise p w n =
 
 -- ---- what is ready is settled, or taken back
 module _ (before now : List (Held Made)) (lost : List ℕ) (made : List Made) (change : ChangeOf) (r : IsReady before now lost made change) where
-  pub ready-settled : (narrow new : List (Held Made)) (left : List Made) → IsPermutation narrow (((r.kept ++ r.coming) ++ r.going) ++ map is_of change.stays) →
+  pub ready-settled : (narrow new : List (Held Made)) → IsPermutation narrow (((r.kept ++ r.coming) ++ r.going) ++ map is_of change.stays) →
       ((going rest : List (Held Made)) → map id_of going ≡ change.gone → IsPermutation narrow (going ++ rest) → IsPermutation new rest) → IsPermutation new (settled r)
-  ready-settled narrow new left n out = out r.going (settled r) r.gone (IsPermutation-trans _ _ _ n (front (r.kept ++ r.coming) r.going (map is_of change.stays)))
+  ready-settled narrow new n out = out r.going (settled r) r.gone (IsPermutation-trans _ _ _ n (front (r.kept ++ r.coming) r.going (map is_of change.stays)))
 
   pub ready-left : (narrow : List (Held Made)) → IsPermutation narrow (((r.kept ++ r.coming) ++ r.going) ++ map is_of change.stays) → IsPermutation narrow (r.going ++ settled r)
   ready-left narrow n = IsPermutation-trans _ _ _ n (front (r.kept ++ r.coming) r.going (map is_of change.stays))

@@ -40,9 +40,17 @@ all-less i [] a = tt
 all-less i (j ∷ ids) a = (less-differs i j a.0, all-less i ids a.1)
 
 rising-distinct : (ids : List ℕ) → IsStrictlySortedBy nat_cmp ids → IsDistinct ◌==◌ ids
-unfolding IsStrictlySortedBy, IsDistinct
+unfolding IsStrictlySortedBy IsDistinct
 rising-distinct [] s = tt
 rising-distinct (i ∷ ids) s = (all-less i ids s.0, rising-distinct ids s.1)
+
+both-false : (a b : Bool) → a ≡ false → b ≡ false → (a || b) ≡ false
+both-false true b e f = e
+both-false false b e f = f
+
+either : (a b : Bool) → b ≡ true → (a || b) ≡ true
+either true b e = refl
+either false b e = e
 
 module _ {R : Type 0} where
   abbrev pub Rising : List (Held R) → Type 0
@@ -93,10 +101,6 @@ module _ {R : Type 0} where
   later P [] rest a = a
   later P (h ∷ gone) rest a = later P gone rest a.1
 
-  both-false : (a b : Bool) → a ≡ false → b ≡ false → (a || b) ≡ false
-  both-false true b e f = e
-  both-false false b e f = f
-
   all-both : (id : ℕ) (ids : List ℕ) (hs : List (Held R)) → AllByRecursion (λ (x : Held R). (x.id == id) ≡ false) hs → AllByRecursion (λ (x : Held R). list_any (λ j. x.id == j) ids ≡ false) hs →
       AllByRecursion (λ (x : Held R). list_any (λ j. x.id == j) (id ∷ ids) ≡ false) hs
   all-both id ids [] a b = tt
@@ -118,10 +122,6 @@ module _ {R : Type 0} where
   all-inside : (first : List ℕ) (gone : List (Held R)) → AllByRecursion (λ (x : Held R). list_any (λ j. x.id == j) (first) ≡ true) gone → filter (is_outside first) gone ≡ []
   all-inside first [] a = refl
   all-inside first (x ∷ gone) a = ap (λ b. cond (not b) (x ∷ filter (is_outside first) gone) (filter (is_outside first) gone)) a.0 ∙ all-inside first gone a.1
-
-  either : (a b : Bool) → b ≡ true → (a || b) ≡ true
-  either true b e = refl
-  either false b e = e
 
   more-inside : (id : ℕ) (ids : List ℕ) (hs : List (Held R)) → AllByRecursion (λ (x : Held R). list_any (λ j. x.id == j) ids ≡ true) hs → AllByRecursion (λ (x : Held R). list_any (λ j. x.id == j) (id ∷ ids) ≡ true) hs
   more-inside id ids [] a = tt

@@ -2,3 +2,5 @@ pub mod Ids
 pub mod Parted
 pub mod Changes
 pub mod Widening
+pub mod SameRules
+pub mod Naming

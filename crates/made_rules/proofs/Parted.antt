@@ -8,6 +8,7 @@ use Rattle.std.specs.declared.cmp.Ordering.TheVariants.{Less, Equal, Greater}
 use Rattle.std.specs.Cmp.{IsStrictWeakOrder}
 use Rattle.std.proofs.lemmas.Bool.{cases_lt}
 use Rattle.std.proofs.Math.Seq.{get_or-append_seam}
+use Rattle.std.proofs.lemmas.Grind.{common_steps}
 use Rattle.std.proofs.lemmas.List.{get_or_append_left, get_or_default, length-append, map-append, append-nil}
 use Rattle.std.proofs.lemmas.List.Edits.{length-remove, get_or-remove_below, get_or-remove_above}
 use Rattle.std.proofs.lemmas.List.Elements.{Contains-append_cases, Contains-append_left, Contains-append_right, Contains-get_or, Contains-push, Contains-push_cases}
@@ -218,21 +219,39 @@ module _ (gone : List (Held Rule)) (come : List Made) where
 abbrev pub DifferFrom : List (Held Rule) → ℕ → Rule → Type 0
 DifferFrom olds end rule = (k : ℕ) (d : Held Rule) → end ≤ k → k < length olds → (get_or olds k d).item ≡ rule → ⊥
 
-pub differ-all : (olds : List (Held Rule)) (end : ℕ) (rule : Rule) → end ≤ 0 → DifferFrom olds end rule → Differ olds rule
-differ-all olds end rule none from h (k, below, e) same = from k h (omega arith) below (ap (λ (x : Held Rule). x.item) e ∙ same)
-
-pub differ-more : (olds : List (Held Rule)) (end : ℕ) (rule : Rule) (x : Held Rule) → x ≡ get_or olds end x → (x.item ≡ rule → ⊥) → DifferFrom olds (end + 1) rule → DifferFrom olds end rule
-differ-more olds end rule x at differs from k d low high = either (cases_lt end k)
-    (λ lt. from k d (omega arith) high)
-    (λ le. λ same. let here : k ≡ end = omega arith in
-      differs (ap held_key at ∙ ap held_key (get_or_default olds end d x (omega arith)) ∙ (ap (λ n. (get_or olds n d).item) (sym here) ∙ same)))
-
 -- what is listed below all that were looked at
 pub differ-below : (olds : List (Held Rule)) (end : ℕ) (rule : Rule) (x : Held Rule) → end < length olds → x ≡ get_or olds end x → by_ancestry x.item rule ≡ Less → OldsRise olds → DifferFrom olds (end + 1) rule → Differ olds rule
 differ-below olds end rule x lt at less up from h (k, below, e) same = either (cases_lt end k)
     (λ high. from k h (omega arith) below (ap held_key e ∙ same))
     (λ low.
-      let z = get_or olds k h in
-      let step = far held_key olds k end h up low lt in
-      let is : get_or olds end h ≡ x = sym (at ∙ get_or_default olds end x h lt) in
-      less-differs x.item z.item rule less (subst (λ (w : Held Rule). is_lt (by_ancestry w.item z.item) ≡ false) is step) (ap held_key e ∙ same))
+    let z = get_or olds k h in
+    let step = far held_key olds k end h up low lt in
+    let is : get_or olds end h ≡ x = sym (at ∙ get_or_default olds end x h lt) in
+    less-differs x.item z.item rule less (subst (λ (w : Held Rule). is_lt (by_ancestry w.item z.item) ≡ false) is step) (ap held_key e ∙ same))
+
+-- ---- the last of a list
+record Last {X : Type 0} (xs : List X) : Type 0 where
+  before : List X
+  last : X
+  is : xs ≡ before ++ last ∷ []
+
+last-of : {X : Type 0} (xs : List X) → 0 < length xs → Last xs
+last-of [] lt = absurd (omega arith)
+last-of (x ∷ []) lt = record { before = []; last = x; is = refl }
+last-of (x ∷ y ∷ xs) lt = let r = last-of (y ∷ xs) (grind (arith, common_steps)) in record { before = x ∷ r.before; last = r.last; is = ap (λ z. x ∷ z) r.is }
+
+last-is : {X : Type 0} (xs ys : List X) (x d : X) → xs ≡ ys ++ x ∷ [] → get_or xs (length xs - 1) d ≡ x
+last-is xs ys x d e =
+    let more = length-append ys (x ∷ []) in
+    rw e (subst (λ (n : ℕ). get_or (ys ++ x ∷ []) n d ≡ x) {x = length ys} {y = length (ys ++ x ∷ []) - 1} (omega arith) (get_or-append_seam ys x [] d))
+
+-- the last of the left is above the last of the right
+pub gone-last : (gone : List (Held Rule)) (come : List Made) (left rest left' rest' ls : List (Held Rule)) (right others rs : List Made) (both : List Both) (x : Held Rule) (r : Ordering) → ls ≡ left → rs ≡ right →
+    ((p : Held Rule) (q : Made) → r ≡ by_ancestry (get_or ls (length ls - 1) p).item (get_or rs (length rs - 1) q).rule) → 0 < length right → left ≡ left' ++ x ∷ [] → rest' ≡ rest ++ x ∷ [] → r ≡ Greater →
+    IsParted gone come left right rest others both → IsParted gone come left' right rest' others both
+gone-last gone come left rest left' rest' ls right others rs both x r l-is r-is compared some e g above p =
+    let y = last-of right some in
+    gone-taken gone come left rest left' rest' right y.before others both x y.last e y.is g
+    (sym (compared x y.last
+    ∙ ap (λ (z : Held Rule). by_ancestry z.item (get_or rs (length rs - 1) y.last).rule) (last-is ls left' x x (l-is ∙ e))
+    ∙ ap (λ (z : Made). by_ancestry x.item z.rule) (last-is rs y.before y.last y.last (r-is ∙ y.is))) ∙ above) p

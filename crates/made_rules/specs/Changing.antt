@@ -83,6 +83,12 @@ pub record IsWidened (rest : List (Held Made)) (was : Held Made) (both : Both) (
   pub as_is : is_of stay ≡ anew both
   pub all : IsPermutation held (rest ++ wide_of stay ∷ [])
 
+-- it is noted
+pub record NotesOne (rest : List (Held Made)) (was : Held Made) (both : Both) (held : List (Held Made)) (stays stays' : List Stay) : Type 0 where
+  pub stay : Stay
+  pub widened : IsWidened rest was both held stay
+  pub noted : stays' ≡ stays ++ stay ∷ []
+
 -- so are some
 pub record AreWidened (rest was : List (Held Made)) (both : List Both) (held : List (Held Made)) (stays : List Stay) : Type 0 where
   pub as_was : map was_of stays ≡ was

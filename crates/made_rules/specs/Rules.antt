@@ -30,6 +30,10 @@ rule_of m = m.rule
 abbrev pub rule_held : Held Made → Held Rule
 rule_held h = record { id = h.id; item = h.item.rule }
 
+-- the rule of an item under an id
+abbrev pub rule_under : ℕ → Made → Held Rule
+rule_under id m = record { id = id; item = m.rule }
+
 -- all rules, each under its id
 abbrev pub rules_in : List (Held Made) → List (Held Rule)
 rules_in held = map rule_held held

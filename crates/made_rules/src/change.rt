@@ -111,7 +111,10 @@ impl Change {
         ensures left { (before : List (Held Made)) → (lost : _) → (made : List Made) → (r : IsReady before store.old lost made self) → result.items ≡ map item_of r.going }
     {
         let Change {
-            gone, stays, left, ..
+            gone,
+            stays,
+            left,
+            ..
         } = self;
         let mut left = left;
         narrow(store, stays, false);

@@ -16,6 +16,3 @@ pub use change::Change;
 pub use made::{Made, Origin};
 pub use named::made_of;
 pub use old::{Old, olds};
-
-#[cfg(test)]
-mod tests;

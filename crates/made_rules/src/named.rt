@@ -9,11 +9,7 @@ use rule_ancestry::Store;
 use std::alloc::Global;
 
 /// The ids of the rules that are made of some of these, rising.
-pub fn made_of(
-    alloc: Global,
-    store: &Store<Made>,
-    origins: &[Origin],
-) -> Result<Vec<usize>, Memory>
+pub fn made_of(alloc: Global, store: &Store<Made>, origins: &[Origin]) -> Result<Vec<usize>, Memory>
     ensures { IfOk result (λ ids. ids.items ≡ map id_of (filter (is_held_of origins.now) store.now)) }
 {
     let mut ids = Vec::new(alloc);

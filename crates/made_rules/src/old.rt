@@ -1,7 +1,7 @@
 //! Rules that are held, as a change looks at them.
-ghost use Rattle.std.specs.Prelude.{◌≡◌, ◌++◌, IfOk, IsPermutation, List, map};
-ghost use Rattle.rule_ancestry.specs.Holding.{Held, id_of};
-ghost use Rattle.made_rules.specs.Rules.{rules_in};
+ghost use Rattle.std.specs.Prelude.{◌≡◌, ◌++◌, IfOk, IsPermutation, List, OnOk, map, option_map, option_to_list};
+ghost use Rattle.rule_ancestry.specs.Holding.{Held, id_of, item_at};
+ghost use Rattle.made_rules.specs.Rules.{rule_under, rules_in};
 ghost use Rattle.made_rules.specs.declared.made.Made.{Made};
 
 use crate::made::Made;
@@ -27,6 +27,29 @@ impl<'a> Model for Old<'a> {
     ghost view = { λ old. record { id = old.id; item = old.rule.now } };
 }
 
+/// The rule of an id.
+fn old_at<'a>(store: &'a Store<Made>, id: usize) -> Option<Old<'a>>
+    ensures { result ≡ option_map (rule_under id) (item_at store.now id) }
+{
+    match store.get(id) {
+        Some(made) => Some(Old {
+            id,
+            rule: &made.rule,
+        }),
+        None => None,
+    }
+}
+
+/// Appends a rule, if there is one.
+fn push_old<'a>(olds: &mut Vec<Old<'a>>, old: Option<Old<'a>>) -> Result<(), Memory>
+    ensures { OnOk result (olds.new.items ≡ olds.old.items ++ option_to_list old.entry) }
+{
+    if let Some(old) = old {
+        olds.push(old)?;
+    }
+    Ok(())
+}
+
 /// The rules of these ids.
 pub fn olds<'a>(
     alloc: Global,
@@ -39,12 +62,7 @@ pub fn olds<'a>(
     let _count = store.len();
     let mut olds = Vec::with_capacity(alloc, ids.len())?;
     for id in ids {
-        if let Some(made) = store.get(*id) {
-            olds.push(Old {
-                id: *id,
-                rule: &made.rule,
-            })?;
-        }
+        push_old(&mut olds, old_at(store, *id))?;
     }
     Ok(olds)
 }

@@ -1,5 +1,5 @@
 //! What goes and comes in one change is told apart from what stays.
-ghost use Rattle.std.specs.Prelude.{◌≡◌, ◌+◌, ◌-◌, ◌<◌, List, OnOk, IfOk, IfNone, IfSome, get_or, length};
+ghost use Rattle.std.specs.Prelude.{◌≡◌, ◌+◌, ◌-◌, ◌<◌, List, OnOk, IfOk, IfNone, IfSome, false, get_or, length, true};
 ghost use Rattle.std.specs.declared.cmp.Ordering.TheVariants.{Equal, Greater, Less};
 ghost use Rattle.rule_ancestry.specs.Holding.{Held};
 ghost use Rattle.policy_meaning.specs.declared.rule.Rule.{Rule};
@@ -39,21 +39,30 @@ fn order_of_last(gone: &[Old], come: &[Made]) -> Ordering
     old.rule.cmp_listed(&come[come.len() - 1].rule)
 }
 
+/// Whether two rules are the same.
+fn is_same(a: &Rule, b: &Rule) -> bool
+    ensures same { result ≡ true → a.now ≡ b.now }
+    ensures other { result ≡ false → a.now ≡ b.now → ⊥ }
+{
+    *a == *b
+}
+
 /// How a rule that is held is listed against another; equal only if it is the same, else greater.
 fn compared(old: &Old, rule: &Rule) -> Ordering
     ensures same { result ≡ Equal → old.now.item ≡ rule.now }
     ensures below { result ≡ Less → by_ancestry old.now.item rule.now ≡ Less }
     ensures other { result ≡ Greater → old.now.item ≡ rule.now → ⊥ }
 {
+    if is_same(old.rule, rule) {
+        return Ordering::Equal;
+    }
     match old.rule.cmp_listed(rule) {
-        Ordering::Equal if *old.rule == *rule => Ordering::Equal,
         Ordering::Less => Ordering::Less,
         _ => Ordering::Greater,
     }
 }
 
-/// A place, in a rising list, of a rule that is equal. Only rules that are listed alike are compared in
-/// full.
+/// A place, in a rising list, of a rule that is the same.
 fn place_of(gone: &[Old], rule: &Rule) -> Option<usize>
     ensures found { IfSome result (λ place. (place < length gone.now) × ((d : Held Rule) → (get_or gone.now place d).item ≡ rule.now)) }
     ensures none { IfNone result (OldsRise gone.now → Differ gone.now rule.now) }
@@ -70,24 +79,16 @@ fn place_of(gone: &[Old], rule: &Rule) -> Option<usize>
     None
 }
 
-/// Takes the last of the rules that go, where it is above those that come; else the last of those that
-/// come, with the rule that is the same, if there is one.
-fn part_one<'a>(
+/// Takes the last of the rules that come, with the one that goes and is the same, if there is one.
+fn take_come<'a>(
     gone: &mut Vec<Old<'a>>,
     come: &mut Vec<Made>,
     parted: &mut Parted<'a>,
 ) -> Result<(), Memory>
-    requires gone { 0 < length gone.old.items }
-    requires come { 0 < length come.old.items }
+    requires { 0 < length come.old.items }
     ensures parted { (all : List (Held Rule)) → (others : List Made) → IsParted all others gone.old.items come.old.items parted.old.gone.items parted.old.come.items parted.old.both.items → OnOk result (IsParted all others gone.new.items come.new.items parted.new.gone.items parted.new.come.items parted.new.both.items) }
     ensures fewer { length gone.new.items + length come.new.items < length gone.old.items + length come.old.items }
 {
-    if order_of_last(gone, come) == Ordering::Greater {
-        if let Some(old) = gone.pop() {
-            parted.gone.push(old)?;
-        }
-        return Ok(());
-    }
     if let Some(made) = come.pop() {
         match place_of(gone, &made.rule) {
             Some(place) => {
@@ -98,6 +99,29 @@ fn part_one<'a>(
         }
     }
     Ok(())
+}
+
+/// Takes the last of the rules that go, where it is above those that come; else the last of those that
+/// come.
+fn part_one<'a>(
+    gone: &mut Vec<Old<'a>>,
+    come: &mut Vec<Made>,
+    parted: &mut Parted<'a>,
+) -> Result<(), Memory>
+    requires gone { 0 < length gone.old.items }
+    requires come { 0 < length come.old.items }
+    ensures parted { (all : List (Held Rule)) → (others : List Made) → IsParted all others gone.old.items come.old.items parted.old.gone.items parted.old.come.items parted.old.both.items → OnOk result (IsParted all others gone.new.items come.new.items parted.new.gone.items parted.new.come.items parted.new.both.items) }
+    ensures fewer { length gone.new.items + length come.new.items < length gone.old.items + length come.old.items }
+{
+    match order_of_last(gone, come) {
+        Ordering::Greater => {
+            if let Some(old) = gone.pop() {
+                parted.gone.push(old)?;
+            }
+            Ok(())
+        }
+        _ => take_come(gone, come, parted),
+    }
 }
 
 /// Tells the rules that go and those that come apart from those that do both.

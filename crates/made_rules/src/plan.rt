@@ -39,9 +39,11 @@ pub(crate) fn plan_of(
     requires { AreHeld lost.now store.now }
     ensures { IfOk result (λ plan. IsPlan store.now lost.now made.items plan.gone.items plan.come.items plan.both.items) }
 {
-    let parted = part(alloc, olds(alloc, store, lost)?, made)?;
+    let held = olds(alloc, store, lost)?;
+    let parted = part(alloc, held, made)?;
+    let gone = ids_of(alloc, &parted.gone)?;
     Ok(Plan {
-        gone: ids_of(alloc, &parted.gone)?,
+        gone,
         come: parted.come,
         both: parted.both,
     })

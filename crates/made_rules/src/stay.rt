@@ -1,7 +1,7 @@
 //! Rules that stay, and are made of other rules from then on.
-ghost use Rattle.std.specs.Prelude.{◌≡◌, ◌++◌, ◌∷◌, [], IfOk, IsPermutation, List, OnErr, Some, map};
+ghost use Rattle.std.specs.Prelude.{◌≡◌, ◌++◌, ◌∷◌, [], IfOk, IsPermutation, List, OnErr, OnOk, Some, map};
 ghost use Rattle.rule_ancestry.specs.Holding.{Held, item_at};
-ghost use Rattle.made_rules.specs.Changing.{AreOld, AreWide, AreWidened, IsOld, IsWidened, side_of, wide_of};
+ghost use Rattle.made_rules.specs.Changing.{AreOld, AreWide, AreWidened, IsOld, IsWidened, NotesOne, side_of, wide_of};
 ghost use Rattle.made_rules.specs.Parting.{was_of as old_of};
 ghost use Rattle.made_rules.specs.Rules.{rule_held, rules_in};
 ghost use Rattle.made_rules.specs.declared.made.Made.{Made};
@@ -79,6 +79,24 @@ fn widen_one(alloc: Global, store: &mut Store<Made>, both: Both) -> Result<Stay,
     Ok(Stay { id, rule, was, is })
 }
 
+/// A rule that stays is made of both sides, and is noted.
+fn widen_noted(
+    alloc: Global,
+    store: &mut Store<Made>,
+    both: Both,
+    stays: &mut Vec<Stay>,
+) -> Result<(), Memory>
+    requires { IsOld store.old both }
+    ensures noted { (rest : List (Held Made)) → (was : Held Made) → rule_held was ≡ old_of both → IsPermutation store.old (rest ++ was ∷ []) → OnOk result (NotesOne rest was both store.new stays.old.items stays.new.items) }
+    ensures memory { OnErr result (store.new ≡ store.old) }
+    ensures unnoted { OnErr result (stays.new.items ≡ stays.old.items) }
+{
+    stays.reserve(1)?;
+    let stay = widen_one(alloc, store, both)?;
+    stays.push_reserved(stay);
+    Ok(())
+}
+
 /// The rules that stay are made of both sides, or none is.
 pub(crate) fn widen(
     alloc: Global,
@@ -92,13 +110,10 @@ pub(crate) fn widen(
     let _count = store.len();
     let mut stays = Vec::with_capacity(alloc, both.len())?;
     for one in both {
-        match widen_one(alloc, store, one) {
-            Ok(stay) => stays.push(stay)?,
-            Err(wanted) => {
-                narrow(store, stays, true);
-                let _rest = store.len();
-                return Err(wanted);
-            }
+        if let Err(wanted) = widen_noted(alloc, store, one, &mut stays) {
+            narrow(store, stays, true);
+            let _rest = store.len();
+            return Err(wanted);
         }
     }
     Ok(stays)

@@ -1,5 +1,5 @@
 use Rattle.std.proofs.lemmas.Result.{on_ok_weaker}
-use Rattle.incr_node.proofs.Joining.{alone-added, not-so}
+use Rattle.incr_node.proofs.Joins.{alone-added, not-so}
 use Rattle.incr_node.proofs.joining.add_by_left.Goals as goal
 
 pub returns-clause-made : goal.returns-clause-made

@@ -1,5 +1,5 @@
 use Rattle.std.proofs.Common.{sym, ap, ◌∙◌, Some}
-use Rattle.incr_node.proofs.Joining.{lone-in}
+use Rattle.incr_node.proofs.Joins.{lone-in}
 use Rattle.incr_node.proofs.joining.lone_rule.Goals as goal
 
 pub returns-clause-rule : goal.returns-clause-rule

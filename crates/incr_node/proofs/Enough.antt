@@ -1,0 +1,125 @@
+-- Rules that couldn't meet make nothing, so that candidates are enough.
+use Rattle.std.proofs.Common.{◌≡◌, ℕ, ◌+◌, ◌≤◌, ◌<◌, Bool, true, false, cond, List, [], ◌∷◌, ◌++◌, Option, Some, None, length, get_or, take, refl, sym, ap, subst, ◌∙◌, arith}
+use Rattle.std.specs.Prelude.{IsPermutation, count_by, filter, filter_map, flat_map, if◌then◌else◌, option_map, sum_by}
+use Rattle.std.specs.List.{All, AllByRecursion, cons_option}
+use Rattle.std.proofs.lemmas.Grind.{common_steps}
+use Rattle.std.proofs.lemmas.Grind.{flat_map-append}
+use Rattle.std.proofs.lemmas.List.{append-nil, take_all, take_more}
+use Rattle.std.proofs.lemmas.List.Elements.{All-filter}
+use Rattle.std.proofs.lemmas.List.Sorted.{All-permutation, IsPermutation-append_left, IsPermutation-append_right, IsPermutation-sym, IsPermutation-trans, length_permutation}
+use Rattle.of10_match.specs.Fields.{MatchOf}
+use Rattle.of10_match.specs.Matching.{both, overlaps}
+use Rattle.of10_match.specs.Ranges.{IsMatch}
+use Rattle.of10_actions.specs.declared.effects.Tail.{Tail}
+use Rattle.of10_actions.specs.declared.effects.Tail.TheVariants.{Nothing, Pass, Link}
+use Rattle.pull_back.specs.Pulling.{image}
+use Rattle.list_change.specs.Pairing.{by_left, by_one, by_right, pairs}
+use Rattle.list_change.proofs.Flat.{each-made}
+use Rattle.list_change.proofs.Permute.{by-equation, permuted-filter_map}
+use Rattle.policy_meaning.specs.Hops.{hopped, without_port}
+use Rattle.policy_meaning.specs.Rules.{chained, summed}
+use Rattle.policy_meaning.specs.declared.rule.Rule.{Rule}
+use Rattle.policy_meaning.proofs.Normality.{normal-without_port}
+use Rattle.rule_ancestry.specs.Holding.{Held}
+use Rattle.op_compose.specs.Composition.{crossed, joined, passed}
+use Rattle.op_compose.specs.declared.op.Op.{Op}
+use Rattle.op_compose.specs.declared.op.Op.TheVariants.{Par, Seq, Over, Hop}
+use Rattle.made_rules.specs.declared.made.Made.{Made}
+use Rattle.incr_node.specs.Candidates.{asked, both_overlap, could_meet, reach, reach_by}
+use Rattle.incr_node.specs.Sound.{AreSound, IsSound}
+use Rattle.incr_node.specs.Ways.{held_way}
+use Rattle.incr_node.proofs.Images.{apart-image, open-port}
+
+open-range : (n : MatchOf) → IsMatch n → IsMatch (without_port n)
+open-range n i = record {
+  in_port = tt;
+  dl_src = i.dl_src;
+  dl_dst = i.dl_dst;
+  dl_vlan = i.dl_vlan;
+  dl_vlan_pcp = i.dl_vlan_pcp;
+  dl_type = i.dl_type;
+  nw_tos = i.nw_tos;
+  nw_proto = i.nw_proto;
+  nw_src = i.nw_src;
+  nw_dst = i.nw_dst;
+  tp_src = i.tp_src;
+  tp_dst = i.tp_dst;
+}
+
+module _ (size : ℕ) (a b : Rule) (p : IsSound a) (q : IsSound b) where
+  unpassed : (t : Tail) → both_overlap (reach_by Seq t a.m) (Some b.m) ≡ false → passed t size a b ≡ None
+  unpassed Nothing e = refl
+  unpassed (Link r port) e = refl
+  unpassed (Pass r) e = ap (option_map (chained size r a b)) (apart-image r a.m b.m p.normal q.normal p.in_range q.in_range e)
+
+  uncrossed : (t : Tail) → both_overlap (reach_by Hop t a.m) (Some b.m) ≡ false → crossed t size a b ≡ None
+  uncrossed Nothing e = refl
+  uncrossed (Pass r) e = refl
+  uncrossed (Link r port) e =
+      ap (option_map (hopped size r a b))
+      (apart-image r a.m (without_port b.m) p.normal (normal-without_port b.m q.normal) p.in_range (open-range b.m q.in_range) (sym (open-port (image r a.m) b.m) ∙ e))
+
+  -- a pair that couldn't meet makes nothing
+  pub unmet : (op : Op) → could_meet op a b ≡ false → joined op size a b ≡ None
+  unmet Par e = ap (λ t. option_map (summed a b) (if t then Some (both a.m b.m) else None)) e
+  unmet Seq e = unpassed a.tail e
+  unmet Over e = refl
+  unmet Hop e = uncrossed a.tail e
+
+module _ {B C : Type 0} (g : B → Option C) (could : B → Bool) where
+  passed-over : (y : B) (t : Bool) (zs : List B) → (t ≡ false → g y ≡ None) → filter_map g (cond t (y ∷ zs) zs) ≡ cons_option (g y) (filter_map g zs)
+  passed-over y true zs h = refl
+  passed-over y false zs h = ap (λ o. cons_option o (filter_map g zs)) (sym (h refl))
+
+  enough : (ys : List B) → AllByRecursion (λ y. could y ≡ false → g y ≡ None) ys → filter_map g (filter could ys) ≡ filter_map g ys
+  enough [] a = refl
+  enough (y ∷ ys) a = passed-over y (could y) (filter could ys) a.0 ∙ ap (cons_option (g y)) (enough ys a.1)
+
+none-made : {C D : Type 0} (f : C → D) (o : Option C) → o ≡ None → option_map f o ≡ None
+none-made f o e = ap (option_map f) e
+
+module _ (op : Op) (size : ℕ) where
+  each-unmet : (a : Held Rule) (rights : List (Held Rule)) → IsSound a.item → AreSound rights → AllByRecursion (λ (b : Held Rule). could_meet op a.item b.item ≡ false → (held_way op size).pair a b ≡ None) rights
+  each-unmet a [] p s = tt
+  each-unmet a (b ∷ rights) p s = (λ e. none-made _ _ (unmet size a.item b.item p s.0 op e), each-unmet a rights p s.1)
+
+  -- what one of the left makes with those that it could meet is what it makes
+  pub enough-rights : (a : Held Rule) (rights found : List (Held Rule)) → IsSound a.item → AreSound rights → IsPermutation found (filter (λ (b : Held Rule). could_meet op a.item b.item) rights) →
+      IsPermutation (by_left (held_way op size) (a ∷ []) found) (by_one (held_way op size) rights a)
+  enough-rights a rights found p s f =
+      let g = (held_way op size).pair a in
+      let lones = filter_map (held_way op size).lone (a ∷ []) in
+      IsPermutation-append_right lones (filter_map g found ++ []) (filter_map g rights ++ [])
+      (IsPermutation-append_left [] (filter_map g found) (filter_map g rights)
+      (IsPermutation-trans _ _ _ (permuted-filter_map g found _ f) (by-equation _ _ (enough g (λ (b : Held Rule). could_meet op a.item b.item) rights (each-unmet a rights p s)))))
+
+-- how many pass a test
+pub count-passing : {X : Type 0} (p : X → Bool) (xs : List X) → length (filter p xs) ≡ count_by p xs
+count-passing p [] = refl
+count-passing p (x ∷ xs) = at (p x)
+  where
+    at : (b : Bool) → length (cond b (x ∷ filter p xs) (filter p xs)) ≡ cond b (1 + count_by p xs) (count_by p xs)
+    at true = grind (arith, common_steps, count-passing p xs)
+    at false = count-passing p xs
+
+-- what holds of all rules holds of those that are found among them
+pub found-all : {X : Type 0} (P : X → Type 0) (test : X → Bool) (all found : List X) → IsPermutation found (filter test all) → All P all → All P found
+found-all P test all found p a = All-permutation P (filter test all) found (IsPermutation-sym _ _ p) (All-filter test P all a)
+
+-- as many are found as pass the test
+pub found-count : {X : Type 0} (test : X → Bool) (all found : List X) → IsPermutation found (filter test all) → length found ≡ count_by test all
+found-count test all found p = sym (length_permutation _ _ p) ∙ count-passing test all
+
+module _ (op : Op) (size : ℕ) where
+  -- one more rule of the left
+  pub lefts-more : (rights come : List (Held Rule)) (i : ℕ) (d : Held Rule) (old new : List Made) → i < length come → IsPermutation old (flat_map (by_one (held_way op size) rights) (take i come)) →
+      IsPermutation new (old ++ by_one (held_way op size) rights (get_or come i d)) → IsPermutation new (flat_map (by_one (held_way op size) rights) (take (i + 1) come))
+  lefts-more rights come i d old new lt far now =
+      IsPermutation-trans _ _ _ now
+      (IsPermutation-trans _ _ _ (IsPermutation-append_left (by_one (held_way op size) rights (get_or come i d)) _ _ far)
+      (by-equation _ _ (ap (λ z. flat_map (by_one (held_way op size) rights) (take i come) ++ z) (sym (append-nil _)) ∙ sym (flat_map-append (by_one (held_way op size) rights) (take i come) (get_or come i d ∷ [])) ∙ ap (flat_map (by_one (held_way op size) rights)) (sym (take_more come i d lt)))))
+
+  pub lefts-all : (rights come : List (Held Rule)) (i : ℕ) (fresh : List Made) → length come ≤ i → IsPermutation fresh (flat_map (by_one (held_way op size) rights) (take i come)) → IsPermutation fresh (by_left (held_way op size) come rights)
+  lefts-all rights come i fresh past p =
+      IsPermutation-trans _ _ _ p
+      (IsPermutation-trans _ _ _ (by-equation _ _ (ap (flat_map (by_one (held_way op size) rights)) (take_all i come past))) (IsPermutation-sym _ _ (each-made (held_way op size) rights come)))
