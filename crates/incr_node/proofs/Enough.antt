@@ -3,8 +3,7 @@ use Rattle.std.proofs.Common.{◌≡◌, ℕ, ◌+◌, ◌≤◌, ◌<◌, Bool,
 use Rattle.std.specs.Prelude.{IsPermutation, count_by, filter, filter_map, flat_map, if◌then◌else◌, option_map, sum_by}
 use Rattle.std.specs.List.{All, AllByRecursion, cons_option}
 use Rattle.std.proofs.lemmas.Grind.{common_steps}
-use Rattle.std.proofs.lemmas.Grind.{flat_map-append}
-use Rattle.std.proofs.lemmas.List.{append-nil, take_all, take_more}
+use Rattle.std.proofs.lemmas.List.{take_more}
 use Rattle.std.proofs.lemmas.List.Elements.{All-filter}
 use Rattle.std.proofs.lemmas.List.Sorted.{All-permutation, IsPermutation-append_left, IsPermutation-append_right, IsPermutation-sym, IsPermutation-trans, length_permutation}
 use Rattle.of10_match.specs.Fields.{MatchOf}
@@ -13,9 +12,9 @@ use Rattle.of10_match.specs.Ranges.{IsMatch}
 use Rattle.of10_actions.specs.declared.effects.Tail.{Tail}
 use Rattle.of10_actions.specs.declared.effects.Tail.TheVariants.{Nothing, Pass, Link}
 use Rattle.pull_back.specs.Pulling.{image}
-use Rattle.list_change.specs.Pairing.{by_left, by_one, by_right, pairs}
-use Rattle.list_change.proofs.Flat.{each-made}
-use Rattle.list_change.proofs.Permute.{by-equation, permuted-filter_map}
+use Rattle.list_change.specs.Pairing.{by_left, by_right}
+use Rattle.list_change.proofs.PairLemmas.{by_left-append, by_right-append}
+use Rattle.list_change.proofs.Permute.{by-equation, permuted-filter_map, permuted-flat_map}
 use Rattle.policy_meaning.specs.Hops.{hopped, without_port}
 use Rattle.policy_meaning.specs.Rules.{chained, summed}
 use Rattle.policy_meaning.specs.declared.rule.Rule.{Rule}
@@ -75,6 +74,15 @@ module _ {B C : Type 0} (g : B → Option C) (could : B → Bool) where
   enough [] a = refl
   enough (y ∷ ys) a = passed-over y (could y) (filter could ys) a.0 ∙ ap (cons_option (g y)) (enough ys a.1)
 
+module _ {B C : Type 0} (g : B → List C) (could : B → Bool) where
+  flat-over : (y : B) (t : Bool) (zs : List B) → (t ≡ false → g y ≡ []) → flat_map g (cond t (y ∷ zs) zs) ≡ g y ++ flat_map g zs
+  flat-over y true zs h = refl
+  flat-over y false zs h = ap (λ o. o ++ flat_map g zs) (sym (h refl))
+
+  flat-enough : (ys : List B) → AllByRecursion (λ y. could y ≡ false → g y ≡ []) ys → flat_map g (filter could ys) ≡ flat_map g ys
+  flat-enough [] a = refl
+  flat-enough (y ∷ ys) a = flat-over y (could y) (filter could ys) a.0 ∙ ap (λ z. g y ++ z) (flat-enough ys a.1)
+
 none-made : {C D : Type 0} (f : C → D) (o : Option C) → o ≡ None → option_map f o ≡ None
 none-made f o e = ap (option_map f) e
 
@@ -85,7 +93,7 @@ module _ (op : Op) (size : ℕ) where
 
   -- what one of the left makes with those that it could meet is what it makes
   pub enough-rights : (a : Held Rule) (rights found : List (Held Rule)) → IsSound a.item → AreSound rights → IsPermutation found (filter (λ (b : Held Rule). could_meet op a.item b.item) rights) →
-      IsPermutation (by_left (held_way op size) (a ∷ []) found) (by_one (held_way op size) rights a)
+      IsPermutation (by_left (held_way op size) (a ∷ []) found) (by_left (held_way op size) (a ∷ []) rights)
   enough-rights a rights found p s f =
       let g = (held_way op size).pair a in
       let lones = filter_map (held_way op size).lone (a ∷ []) in
@@ -112,14 +120,32 @@ found-count test all found p = sym (length_permutation _ _ p) ∙ count-passing 
 
 module _ (op : Op) (size : ℕ) where
   -- one more rule of the left
-  pub lefts-more : (rights come : List (Held Rule)) (i : ℕ) (d : Held Rule) (old new : List Made) → i < length come → IsPermutation old (flat_map (by_one (held_way op size) rights) (take i come)) →
-      IsPermutation new (old ++ by_one (held_way op size) rights (get_or come i d)) → IsPermutation new (flat_map (by_one (held_way op size) rights) (take (i + 1) come))
+  pub lefts-more : (rights come : List (Held Rule)) (i : ℕ) (d : Held Rule) (old new : List Made) → i < length come → IsPermutation old (by_left (held_way op size) (take i come) rights) →
+      IsPermutation new (old ++ by_left (held_way op size) (get_or come i d ∷ []) rights) → IsPermutation new (by_left (held_way op size) (take (i + 1) come) rights)
   lefts-more rights come i d old new lt far now =
       IsPermutation-trans _ _ _ now
-      (IsPermutation-trans _ _ _ (IsPermutation-append_left (by_one (held_way op size) rights (get_or come i d)) _ _ far)
-      (by-equation _ _ (ap (λ z. flat_map (by_one (held_way op size) rights) (take i come) ++ z) (sym (append-nil _)) ∙ sym (flat_map-append (by_one (held_way op size) rights) (take i come) (get_or come i d ∷ [])) ∙ ap (flat_map (by_one (held_way op size) rights)) (sym (take_more come i d lt)))))
+      (IsPermutation-trans _ _ _ (IsPermutation-append_left (by_left (held_way op size) (get_or come i d ∷ []) rights) _ _ far)
+      (IsPermutation-trans _ _ _ (IsPermutation-sym _ _ (by_left-append (held_way op size) (take i come) (get_or come i d ∷ []) rights))
+      (by-equation _ _ (ap (λ z. by_left (held_way op size) z rights) (sym (take_more come i d lt))))))
 
-  pub lefts-all : (rights come : List (Held Rule)) (i : ℕ) (fresh : List Made) → length come ≤ i → IsPermutation fresh (flat_map (by_one (held_way op size) rights) (take i come)) → IsPermutation fresh (by_left (held_way op size) come rights)
-  lefts-all rights come i fresh past p =
-      IsPermutation-trans _ _ _ p
-      (IsPermutation-trans _ _ _ (by-equation _ _ (ap (flat_map (by_one (held_way op size) rights)) (take_all i come past))) (IsPermutation-sym _ _ (each-made (held_way op size) rights come)))
+  -- one more rule of the right
+  pub rights-more : (lefts come : List (Held Rule)) (i : ℕ) (d : Held Rule) (old new : List Made) → i < length come → IsPermutation old (by_right (held_way op size) lefts (take i come)) →
+      IsPermutation new (old ++ by_right (held_way op size) lefts (get_or come i d ∷ [])) → IsPermutation new (by_right (held_way op size) lefts (take (i + 1) come))
+  rights-more lefts come i d old new lt far now =
+      IsPermutation-trans _ _ _ now
+      (IsPermutation-trans _ _ _ (IsPermutation-append_left (by_right (held_way op size) lefts (get_or come i d ∷ [])) _ _ far)
+      (IsPermutation-trans _ _ _ (IsPermutation-sym _ _ (by_right-append (held_way op size) lefts (take i come) (get_or come i d ∷ [])))
+      (by-equation _ _ (ap (λ z. by_right (held_way op size) lefts z) (sym (take_more come i d lt))))))
+
+  each-unmet-left : (b : Held Rule) (lefts : List (Held Rule)) → IsSound b.item → AreSound lefts → AllByRecursion (λ (a : Held Rule). could_meet op a.item b.item ≡ false → filter_map ((held_way op size).pair a) (b ∷ []) ≡ []) lefts
+  each-unmet-left b [] q s = tt
+  each-unmet-left b (a ∷ lefts) q s = (λ e. ap (λ o. cons_option o []) (none-made _ _ (unmet size a.item b.item s.0 q op e)), each-unmet-left b lefts q s.1)
+
+  -- what one of the right makes with those that it could meet is what it makes
+  pub enough-lefts : (b : Held Rule) (lefts found : List (Held Rule)) → IsSound b.item → AreSound lefts → IsPermutation found (filter (λ (a : Held Rule). could_meet op a.item b.item) lefts) →
+      IsPermutation (by_right (held_way op size) found (b ∷ [])) (by_right (held_way op size) lefts (b ∷ []))
+  enough-lefts b lefts found q s f =
+      let g = λ (a : Held Rule). filter_map ((held_way op size).pair a) (b ∷ []) in
+      let others = filter_map (held_way op size).other (b ∷ []) in
+      IsPermutation-append_left others (flat_map g found) (flat_map g lefts)
+      (IsPermutation-trans _ _ _ (permuted-flat_map g found _ f) (by-equation _ _ (flat-enough g (λ (a : Held Rule). could_meet op a.item b.item) lefts (each-unmet-left b lefts q s))))

@@ -72,5 +72,6 @@ pub(crate) fn candidates<'a>(
     ensures { (by : Rule → Option MatchOf) → IsPermutation index.now.items (filter_map (shown by) (rules_in store.now)) → IfOk result (λ olds. IsPermutation olds.items (filter (is_found m by) (rules_in store.now))) }
 {
     let ids = meeting(alloc, index, m)?;
-    olds(alloc, store, &ids)
+    let found = olds(alloc, store, &ids)?;
+    Ok(found)
 }

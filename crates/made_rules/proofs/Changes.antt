@@ -68,7 +68,7 @@ module _ {X Y : Type 0} (f : X → Y) where
   in-map : (xs : List X) (x : X) → Contains xs x → Contains (map f xs) (f x)
   in-map [] x (k, below, e) = absurd (omega arith)
   in-map (y ∷ xs) x (zero, below, e) = (0, grind (arith, common_steps), ap f e)
-  in-map (y ∷ xs) x (suc k, below, e) = let r = in-map xs x (k, omega arith, e) in (suc r.0, let l = r.1.0 in grind (arith, common_steps), r.1.1)
+  in-map (y ∷ xs) x (suc k, below, e) = let r = in-map xs x (k, omega arith, e) in (suc r.0, let l = r.1 in grind (arith, common_steps), r.2)
 
 map-map : {X Y Z : Type 0} (g : Y → Z) (f : X → Y) (xs : List X) → map g (map f xs) ≡ map (λ x. g (f x)) xs
 map-map g f [] = refl
@@ -89,20 +89,18 @@ module _ {X : Type 0} where
 shorter : {X : Type 0} (x : X) (xs : List X) (i : ℕ) → suc i < length (x ∷ xs) → i < length xs
 shorter x xs i p = omega arith
 
-pub nth : {X : Type 0} (xs : List X) (i : ℕ) → i < length xs → X
+abbrev pub nth : {X : Type 0} (xs : List X) (i : ℕ) → i < length xs → X
 nth [] i p = absurd (omega arith)
 nth (x ∷ xs) zero p = x
 nth (x ∷ xs) (suc i) p = nth xs i (shorter x xs i p)
-
-pub drop-nth : {X : Type 0} (xs : List X) (i : ℕ) (p : i < length xs) → drop i xs ≡ nth xs i p ∷ drop (i + 1) xs
-drop-nth [] i p = absurd (omega arith)
-drop-nth (x ∷ xs) zero p = refl
-drop-nth (x ∷ xs) (suc i) p = drop-nth xs i (shorter x xs i p)
 
 pub get-nth : {X : Type 0} (xs : List X) (i : ℕ) (p : i < length xs) (d : X) → get_or xs i d ≡ nth xs i p
 get-nth [] i p d = absurd (omega arith)
 get-nth (x ∷ xs) zero p d = refl
 get-nth (x ∷ xs) (suc i) p d = get-nth xs i (shorter x xs i p) d
+
+pub drop-nth : {X : Type 0} (xs : List X) (i : ℕ) (p : i < length xs) → drop i xs ≡ nth xs i p ∷ drop (i + 1) xs
+drop-nth xs i p = drop_more xs i (nth xs i p) p ∙ ap (λ z. z ∷ drop (i + 1) xs) (get-nth xs i p (nth xs i p))
 
 abbrev pub Leaves : List (Held Made) → List (Held Made) → List Made → List Made → List ℕ → ℕ → Type 0
 Leaves first now left left' gone i = (going rest : List (Held Made)) → map id_of going ≡ gone → IsPermutation first (going ++ rest) → IsPermutation now (drop i going ++ rest) × (left' ≡ left ++ map item_of (take i going))

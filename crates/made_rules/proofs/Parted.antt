@@ -1,5 +1,5 @@
 -- The last rules of two rising lists, taken one at a time.
-use Rattle.std.proofs.Common.{◌≡◌, ℕ, ◌+◌, ◌-◌, ◌<◌, ◌≤◌, true, false, List, [], ◌∷◌, ◌++◌, ◌⊎◌, inl, inr, length, get_or, map, refl, subst, sym, ap, ◌∙◌, arith, append_assoc}
+use Rattle.std.proofs.Common.{◌≡◌, ℕ, ◌+◌, ◌-◌, ◌<◌, ◌≤◌, ◌==◌, eqb-true, true, false, List, [], ◌∷◌, ◌++◌, ◌⊎◌, inl, inr, length, get_or, map, refl, subst, sym, ap, ◌∙◌, arith, append_assoc}
 use Rattle.std.specs.Prelude.{Contains, IsPermutation, IsSortedBy}
 use Rattle.std.specs.List.{remove}
 use Rattle.std.specs.Ordering.{is_lt, ordering_reverse}
@@ -255,3 +255,8 @@ gone-last gone come left rest left' rest' ls right others rs both x r l-is r-is 
     (sym (compared x y.last
     ∙ ap (λ (z : Held Rule). by_ancestry z.item (get_or rs (length rs - 1) y.last).rule) (last-is ls left' x x (l-is ∙ e))
     ∙ ap (λ (z : Made). by_ancestry x.item z.rule) (last-is rs y.before y.last y.last (r-is ∙ y.is))) ∙ above) p
+
+-- a list of no length has no item
+pub one-empty : {X : Type 0} (xs : List X) (n : ℕ) → n ≡ length xs → (n == 0) ≡ true → xs ≡ []
+one-empty [] n k e = refl
+one-empty (x ∷ xs) n k e = absurd (omega (arith, k, eqb-true n 0 e))
