@@ -9,6 +9,7 @@ use Rattle.std.proofs.lemmas.List.Sorted.{All-permutation, IsPermutation-append_
 use Rattle.of10_match.specs.Fields.{MatchOf}
 use Rattle.of10_match.specs.Matching.{both, overlaps}
 use Rattle.of10_match.specs.Ranges.{IsMatch}
+use Rattle.of10_match.proofs.Commuting.{overlaps-comm}
 use Rattle.of10_actions.specs.declared.effects.Tail.{Tail}
 use Rattle.of10_actions.specs.declared.effects.Tail.TheVariants.{Nothing, Pass, Link}
 use Rattle.pull_back.specs.Pulling.{image}
@@ -24,7 +25,7 @@ use Rattle.op_compose.specs.Composition.{crossed, joined, passed}
 use Rattle.op_compose.specs.declared.op.Op.{Op}
 use Rattle.op_compose.specs.declared.op.Op.TheVariants.{Par, Seq, Over, Hop}
 use Rattle.made_rules.specs.declared.made.Made.{Made}
-use Rattle.incr_node.specs.Candidates.{asked, both_overlap, could_meet, reach, reach_by}
+use Rattle.incr_node.specs.Candidates.{asked, both_overlap, could_meet, is_found, reach, reach_by}
 use Rattle.incr_node.specs.Sound.{AreSound, IsSound}
 use Rattle.incr_node.specs.Ways.{held_way}
 use Rattle.incr_node.proofs.Images.{apart-image, open-port}
@@ -149,3 +150,31 @@ module _ (op : Op) (size : ℕ) where
       let others = filter_map (held_way op size).other (b ∷ []) in
       IsPermutation-append_left others (flat_map g found) (flat_map g lefts)
       (IsPermutation-trans _ _ _ (permuted-flat_map g found _ f) (by-equation _ _ (flat-enough g (λ (a : Held Rule). could_meet op a.item b.item) lefts (each-unmet-left b lefts q s))))
+
+turned-overlap : (m n : Option MatchOf) → both_overlap m n ≡ both_overlap n m
+turned-overlap None None = refl
+turned-overlap None (Some n) = refl
+turned-overlap (Some m) None = refl
+turned-overlap (Some m) (Some n) = overlaps-comm m n
+
+same-tests : {X : Type 0} (p q : X → Bool) → ((x : X) → p x ≡ q x) → (xs : List X) → filter p xs ≡ filter q xs
+same-tests p q e [] = refl
+same-tests p q e (x ∷ xs) = ap (λ b. cond b (x ∷ filter p xs) (filter p xs)) (e x) ∙ ap (λ z. cond (q x) (x ∷ z) z) (same-tests p q e xs)
+
+-- what a query by what a left rule reaches finds is what it could meet
+pub reach-found : (op : Op) (m : Option MatchOf) (inside : Rule) (a : Held Rule) (rights found deref : List (Held Rule)) → m ≡ reach op inside → inside ≡ a.item → IsPermutation found (filter (is_found m (asked op)) rights) → deref ≡ found →
+    IsPermutation deref (filter (λ (b : Held Rule). could_meet op a.item b.item) rights)
+reach-found op m inside a rights found deref e f p d =
+    subst (λ z. IsPermutation z (filter (λ (b : Held Rule). could_meet op a.item b.item) rights)) (sym d)
+    (subst (λ (r : Rule). IsPermutation found (filter (λ (b : Held Rule). could_meet op r b.item) rights)) f
+    (subst (λ (n : Option MatchOf). IsPermutation found (filter (is_found n (asked op)) rights)) e p))
+
+-- and one by what a right rule asks
+pub asked-found : (op : Op) (m : Option MatchOf) (inside : Rule) (b : Held Rule) (lefts found deref : List (Held Rule)) → m ≡ asked op inside → inside ≡ b.item → IsPermutation found (filter (is_found m (reach op)) lefts) → deref ≡ found →
+    IsPermutation deref (filter (λ (a : Held Rule). could_meet op a.item b.item) lefts)
+asked-found op m inside b lefts found deref e f p d =
+    subst (λ z. IsPermutation z (filter (λ (a : Held Rule). could_meet op a.item b.item) lefts)) (sym d)
+    (IsPermutation-trans _ _ _
+    (subst (λ (r : Rule). IsPermutation found (filter (is_found (asked op r) (reach op)) lefts)) f
+    (subst (λ (n : Option MatchOf). IsPermutation found (filter (is_found n (reach op)) lefts)) e p))
+    (by-equation _ _ (same-tests (is_found (asked op b.item) (reach op)) (λ (a : Held Rule). could_meet op a.item b.item) (λ a. turned-overlap (asked op b.item) (reach op a.item)) lefts)))

@@ -4,3 +4,4 @@ pub mod Shares
 pub mod Whole
 pub mod Finding
 pub mod Enough
+pub mod Bridge

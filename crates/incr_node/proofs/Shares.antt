@@ -8,9 +8,9 @@ use Rattle.list_change.proofs.Permute.{Perm, nil, skip, turn, next, by-cases}
 use Rattle.op_compose.specs.declared.op.Op.{Op}
 use Rattle.policy_meaning.specs.declared.rule.Rule.{Rule}
 use Rattle.rule_ancestry.specs.Holding.{Held, is_outside, item_of}
-use Rattle.made_rules.specs.Rules.{is_made_of, is_one_of, rule_held, rules_in}
+use Rattle.made_rules.specs.Rules.{is_one_of, rule_held, rules_in}
 use Rattle.made_rules.specs.declared.made.Made.{Made}
-use Rattle.incr_node.specs.Ways.{held_way, left_origin, made_with, right_origin}
+use Rattle.incr_node.specs.Ways.{held_way, is_not_of, left_origin, made_with, right_origin}
 
 -- ---- which origins are among some of one side
 or-none : (a : Bool) → (a || false) ≡ a
@@ -38,32 +38,26 @@ of-option f P h None c e = absurd (cc)
 of-option f P h (Some r) c e = let s : f r ≡ c = cc in subst P s (h r)
 
 module _ (op : Op) (size : ℕ) (ids : List ℕ) where
-  abbrev pub not-of-lefts : Made → Bool
-  not-of-lefts m = not (is_made_of (map left_origin ids) m)
-
-  abbrev pub not-of-rights : Made → Bool
-  not-of-rights m = not (is_made_of (map right_origin ids) m)
-
   -- without some of the left: what was made of them goes, and nothing else
-  pub made-without-lefts : (lefts rights : List (Held Rule)) → filter not-of-lefts (made (held_way op size) lefts rights) ≡ made (held_way op size) (filter (is_outside ids) lefts) rights
+  pub made-without-lefts : (lefts rights : List (Held Rule)) → filter (is_not_of (map left_origin ids)) (made (held_way op size) lefts rights) ≡ made (held_way op size) (filter (is_outside ids) lefts) rights
   made-without-lefts lefts rights =
-      made-without_left (held_way op size) not-of-lefts (is_outside ids)
-      (λ a c e. of-option (made_with (left_origin a.id ∷ [])) (λ m. not-of-lefts m ≡ is_outside ids a)
+      made-without_left (held_way op size) (is_not_of (map left_origin ids)) (is_outside ids)
+      (λ a c e. of-option (made_with (left_origin a.id ∷ [])) (λ m. is_not_of (map left_origin ids) m ≡ is_outside ids a)
       (λ r. ap not (or-none (is_one_of (map left_origin ids) (left_origin a.id)) ∙ left-among a.id ids)) _ c e)
-      (λ a b c e. of-option (made_with (left_origin a.id ∷ right_origin b.id ∷ [])) (λ m. not-of-lefts m ≡ is_outside ids a)
+      (λ a b c e. of-option (made_with (left_origin a.id ∷ right_origin b.id ∷ [])) (λ m. is_not_of (map left_origin ids) m ≡ is_outside ids a)
       (λ r. ap not (ap (λ z. is_one_of (map left_origin ids) (left_origin a.id) || (z || false)) (left-not-right b.id ids) ∙ or-none (is_one_of (map left_origin ids) (left_origin a.id)) ∙ left-among a.id ids)) _ c e)
-      (λ b c e. of-option (made_with (right_origin b.id ∷ [])) (λ m. not-of-lefts m ≡ true)
+      (λ b c e. of-option (made_with (right_origin b.id ∷ [])) (λ m. is_not_of (map left_origin ids) m ≡ true)
       (λ r. ap not (ap (λ z. z || false) (left-not-right b.id ids))) _ c e)
       lefts rights
 
-  pub made-without-rights : (lefts rights : List (Held Rule)) → filter not-of-rights (made (held_way op size) lefts rights) ≡ made (held_way op size) lefts (filter (is_outside ids) rights)
+  pub made-without-rights : (lefts rights : List (Held Rule)) → filter (is_not_of (map right_origin ids)) (made (held_way op size) lefts rights) ≡ made (held_way op size) lefts (filter (is_outside ids) rights)
   made-without-rights lefts rights =
-      made-without_right (held_way op size) not-of-rights (is_outside ids)
-      (λ a c e. of-option (made_with (left_origin a.id ∷ [])) (λ m. not-of-rights m ≡ true)
+      made-without_right (held_way op size) (is_not_of (map right_origin ids)) (is_outside ids)
+      (λ a c e. of-option (made_with (left_origin a.id ∷ [])) (λ m. is_not_of (map right_origin ids) m ≡ true)
       (λ r. ap not (ap (λ z. z || false) (right-not-left a.id ids))) _ c e)
-      (λ a b c e. of-option (made_with (left_origin a.id ∷ right_origin b.id ∷ [])) (λ m. not-of-rights m ≡ is_outside ids b)
+      (λ a b c e. of-option (made_with (left_origin a.id ∷ right_origin b.id ∷ [])) (λ m. is_not_of (map right_origin ids) m ≡ is_outside ids b)
       (λ r. ap not (ap (λ z. z || (is_one_of (map right_origin ids) (right_origin b.id) || false)) (right-not-left a.id ids) ∙ or-none (is_one_of (map right_origin ids) (right_origin b.id)) ∙ right-among b.id ids)) _ c e)
-      (λ b c e. of-option (made_with (right_origin b.id ∷ [])) (λ m. not-of-rights m ≡ is_outside ids b)
+      (λ b c e. of-option (made_with (right_origin b.id ∷ [])) (λ m. is_not_of (map right_origin ids) m ≡ is_outside ids b)
       (λ r. ap not (or-none (is_one_of (map right_origin ids) (right_origin b.id)) ∙ right-among b.id ids)) _ c e)
       lefts rights
 

@@ -16,8 +16,8 @@ use Rattle.made_rules.specs.declared.made.Made.{Made}
 use Rattle.made_rules.specs.declared.stay.Stay.{Stay}
 use Rattle.made_rules.proofs.Changes.{front}
 use Rattle.made_rules.proofs.Ids.{Rising, without-all}
-use Rattle.incr_node.specs.Ways.{held_way}
-use Rattle.incr_node.proofs.Shares.{filter-items, filter-rules, made-without-lefts, made-without-rights, not-of-lefts, not-of-rights, outside-turned}
+use Rattle.incr_node.specs.Ways.{held_way, is_not_of, left_origin, right_origin}
+use Rattle.incr_node.proofs.Shares.{filter-items, filter-rules, made-without-lefts, made-without-rights, outside-turned}
 
 module _ {X : Type 0} where
   ends-first : (k c m : List X) → IsPermutation ((k ++ c) ++ m) ((c ++ m) ++ k)
@@ -65,15 +65,15 @@ module _ (before now : List (Held Made)) (lost : List ℕ) (fresh : List Made) (
 
 module _ (op : Op) (size : ℕ) (gone : List ℕ) (items fresh : List Made) where
   pub whole-left : (lefts lefts' coming rights : List (Held Rule)) → IsPermutation items (made (held_way op size) lefts rights) → IsPermutation fresh (by_left (held_way op size) coming rights) →
-      IsPermutation lefts' (coming ++ filter (is_outside gone) lefts) → IsPermutation (fresh ++ filter (not-of-lefts op size gone) items) (made (held_way op size) lefts' rights)
+      IsPermutation lefts' (coming ++ filter (is_outside gone) lefts) → IsPermutation (fresh ++ filter (is_not_of (map left_origin gone)) items) (made (held_way op size) lefts' rights)
   whole-left lefts lefts' coming rights h f l =
       IsPermutation-trans _ _ _
-      (IsPermutation-append _ _ _ _ f (IsPermutation-trans _ _ _ (permuted-filter (not-of-lefts op size gone) items _ h) (by-equation _ _ (made-without-lefts op size gone lefts rights))))
+      (IsPermutation-append _ _ _ _ f (IsPermutation-trans _ _ _ (permuted-filter (is_not_of (map left_origin gone)) items _ h) (by-equation _ _ (made-without-lefts op size gone lefts rights))))
       (IsPermutation-sym _ _ (left-split (held_way op size) lefts' coming (filter (is_outside gone) lefts) rights l))
 
   pub whole-right : (lefts rights rights' coming : List (Held Rule)) → IsPermutation items (made (held_way op size) lefts rights) → IsPermutation fresh (by_right (held_way op size) lefts coming) →
-      IsPermutation rights' (coming ++ filter (is_outside gone) rights) → IsPermutation (fresh ++ filter (not-of-rights op size gone) items) (made (held_way op size) lefts rights')
+      IsPermutation rights' (coming ++ filter (is_outside gone) rights) → IsPermutation (fresh ++ filter (is_not_of (map right_origin gone)) items) (made (held_way op size) lefts rights')
   whole-right lefts rights rights' coming h f l =
       IsPermutation-trans _ _ _
-      (IsPermutation-append _ _ _ _ f (IsPermutation-trans _ _ _ (permuted-filter (not-of-rights op size gone) items _ h) (by-equation _ _ (made-without-rights op size gone lefts rights))))
+      (IsPermutation-append _ _ _ _ f (IsPermutation-trans _ _ _ (permuted-filter (is_not_of (map right_origin gone)) items _ h) (by-equation _ _ (made-without-rights op size gone lefts rights))))
       (IsPermutation-sym _ _ (right-split (held_way op size) lefts rights' coming (filter (is_outside gone) rights) l))

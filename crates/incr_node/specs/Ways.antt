@@ -1,5 +1,5 @@
 -- How an operator makes rules of those of its operands.
-use Rattle.std.specs.Prelude.{ℕ, Bool, true, false, not, Option, Some, None, List, [], ◌∷◌, option_map, if◌then◌else◌}
+use Rattle.std.specs.Prelude.{ℕ, Bool, true, false, not, Option, Some, None, List, [], ◌∷◌, map, option_map, if◌then◌else◌}
 use Rattle.of10_actions.specs.declared.effects.Tail.{Tail}
 use Rattle.of10_actions.specs.declared.effects.Tail.TheVariants.{Nothing, Pass, Link}
 use Rattle.op_compose.specs.Composition.{joined, alone}
@@ -7,8 +7,9 @@ use Rattle.op_compose.specs.declared.op.Op.{Op}
 use Rattle.op_compose.specs.declared.op.Op.TheVariants.{Par, Seq, Over, Hop}
 use Rattle.op_compose.specs.declared.op.Side.TheVariants.{Left}
 use Rattle.policy_meaning.specs.declared.rule.Rule.{Rule}
-use Rattle.rule_ancestry.specs.Holding.{Held}
+use Rattle.rule_ancestry.specs.Holding.{Held, item_of}
 use Rattle.list_change.specs.Pairing.{Way}
+use Rattle.made_rules.specs.Rules.{is_made_of}
 use Rattle.made_rules.specs.declared.made.Made.{Made}
 use Rattle.made_rules.specs.declared.made.Origin.{Origin}
 use Rattle.made_rules.specs.declared.made.Origin.TheVariants.{Rule as OfRule}
@@ -65,3 +66,11 @@ held_way op size = record {
   pair = λ a b. option_map (made_with (left_origin a.id ∷ right_origin b.id ∷ [])) (joined op size a.item b.item);
   other = λ b. option_map (made_with (right_origin b.id ∷ [])) (other op b.item);
 }
+
+-- it is made of none of these
+abbrev pub is_not_of : List Origin → Made → Bool
+is_not_of origins m = not (is_made_of origins m)
+
+-- rules without their ids
+abbrev pub without_ids : List (Held Rule) → List Rule
+without_ids hs = map item_of hs

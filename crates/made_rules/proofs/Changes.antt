@@ -86,7 +86,7 @@ module _ {X : Type 0} where
       (by-equation _ _ (ap (λ z. c ++ z) (sym (append_assoc k g m)))))
 
 -- ---- the rules of some ids go
-shorter : {X : Type 0} (x : X) (xs : List X) (i : ℕ) → suc i < length (x ∷ xs) → i < length xs
+pub shorter : {X : Type 0} (x : X) (xs : List X) (i : ℕ) → suc i < length (x ∷ xs) → i < length xs
 shorter x xs i p = omega arith
 
 abbrev pub nth : {X : Type 0} (xs : List X) (i : ℕ) → i < length xs → X
