@@ -53,7 +53,7 @@ pub fn made_by_left<G: Ledger>(
     right: &Store<Made>,
     steps: &mut Steps<G>,
 ) -> Result<Vec<Made>, Memory>
-    requires sound { AreSound come.now }
+    requires sound { All (λ (a : Held Rule). IsSound a.item) come.now }
     requires sound_rights { AreSound (rules_in right.now) }
     requires shown { IsPermutation index.now.items (filter_map (shown (asked_of op)) (rules_in right.now)) }
     requires alone { All (λ (a : Held Rule). alone_level op Left a.item.level size < 2 ^ 64) come.now }
@@ -102,7 +102,7 @@ pub fn made_by_right<G: Ledger>(
     left: &Store<Made>,
     steps: &mut Steps<G>,
 ) -> Result<Vec<Made>, Memory>
-    requires sound { AreSound come.now }
+    requires sound { All (λ (b : Held Rule). IsSound b.item) come.now }
     requires sound_lefts { AreSound (rules_in left.now) }
     requires shown { IsPermutation index.now.items (filter_map (shown (reach_of op)) (rules_in left.now)) }
     requires alone { All (λ (b : Held Rule). alone_level op Right b.item.level size < 2 ^ 64) come.now }
