@@ -1,0 +1,12 @@
+//! A member's state: its flow table, and the levels of the ranks that its entries have. A message is judged first,
+//! which takes all memory and changes nothing; what it plans is then made, which takes none and can't fail.
+#![tactic(auto)]
+
+pub mod fault;
+pub mod planned;
+pub mod state;
+pub mod worked;
+
+pub use fault::FlowFault;
+pub use planned::Planned;
+pub use state::MemberState;
