@@ -5,3 +5,4 @@ pub mod Plans
 pub mod Leaves
 pub mod Sound
 pub mod Worked
+pub mod InsideRanks

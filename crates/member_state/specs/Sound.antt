@@ -8,7 +8,6 @@ use Rattle.of10_actions.specs.declared.effects.PortView.{PortView}
 use Rattle.of10_msgs.specs.declared.message.FlowMod.{FlowMod}
 use Rattle.grants.specs.Granted.{IsGranted}
 use Rattle.grants.specs.declared.grant.Grant.{Grant}
-use Rattle.level_map.specs.Levels.{IsLevelling}
 use Rattle.member_table.specs.Sound.{IsSound}
 use Rattle.member_table.specs.declared.entry.Entry.{Entry}
 use Rattle.policy_meaning.specs.Disjoint.{IsTableOfMember}
@@ -21,14 +20,13 @@ use Rattle.agreement.specs.Premises.{TableGoesWithin, TableKeepsTo}
 use Rattle.member_state.specs.Changes.{accepted, expired, touched, without}
 use Rattle.member_state.specs.Denials.{denial}
 use Rattle.member_state.specs.Leaves.{leaf_of}
-use Rattle.member_state.specs.States.{AreLevelled, MemberStateOf}
+use Rattle.member_state.specs.States.{IsKept, MemberStateOf}
 
 -- what is true of every member's state: its table is sound, levels lie from 2 to the last one in the order of ranks, and
 -- they are those of the ranks of its entries
 pub record IsSoundState (x : MemberStateOf) : Type 0 where
   pub table : IsSound x.table
-  pub levels : IsLevelling x.levels.size x.levels.ranked
-  pub ranks : AreLevelled x.table.entries x.levels
+  pub kept : IsKept x
 
 -- each entry is one that the grant lets through, at a virtual switch of these ports
 abbrev pub AreWithin : Grant → PortView → MemberStateOf → Type 0

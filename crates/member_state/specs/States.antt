@@ -1,7 +1,7 @@
 -- A member's table with the levels of its ranks.
 use Rattle.std.specs.Prelude.{◌≡◌, ℕ, ◌^◌, List, [], is_some}
 use Rattle.std.specs.List.{list_any}
-use Rattle.level_map.specs.Levels.{Levels, level_of}
+use Rattle.level_map.specs.Levels.{IsLevelling, Levels, level_of}
 use Rattle.member_table.specs.Tables.{TableOf, Held, has_rank}
 use Rattle.member_table.specs.declared.entry.Entry.{Entry}
 
@@ -26,3 +26,9 @@ opening bits limit = record { table = record { entries = []; next = 1; limit = l
 -- exactly the ranks of these entries have a level
 abbrev pub AreLevelled : List Entry → Levels → Type 0
 AreLevelled es l = (rank : ℕ) → is_some (level_of l rank) ≡ list_any (has_rank rank) es
+
+-- what every member's state keeps: levels lie from 2 to the last one in the order of ranks, and are those of the ranks of
+-- its entries
+pub record IsKept (x : MemberStateOf) : Type 0 where
+  pub levels : IsLevelling x.levels.size x.levels.ranked
+  pub ranks : AreLevelled x.table.entries x.levels

@@ -2,9 +2,16 @@
 //! which takes all memory and changes nothing; what it plans is then made, which takes none and can't fail.
 #![tactic(auto)]
 
+mod commit;
 pub mod fault;
+mod judging;
+pub mod laws;
+mod leaf;
 pub mod planned;
+mod planning;
 pub mod state;
+#[cfg(test)]
+mod tests;
 pub mod worked;
 
 pub use fault::FlowFault;

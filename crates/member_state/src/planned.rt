@@ -1,20 +1,60 @@
 //! What an event changes in a member's state, before it is changed.
+ghost use Rattle.std.specs.Prelude.{◌≡◌, ℕ, [], OnOk, OnErr};
+ghost use Rattle.member_state.specs.Changes.{touched as touched_of};
+ghost use Rattle.member_state.specs.InsideRanks.{rank_if_added};
+ghost use Rattle.member_state.specs.Plans.{IsReady, after_planned};
+ghost use Rattle.member_state.specs.States.{HeldState, MemberStateOf};
 
-use cv_io::List;
+use cv_io::{List, Memory};
 use level_map::LevelMap;
 use member_table::Change;
+use std::alloc::Global;
 
 /// What an event changes in a member's state. It is made by `MemberState::commit`, without memory.
 #[derive(Debug, Drop)]
 pub struct Planned {
     /// The entries that come and go, and those that get other actions.
     pub change: Change,
-    /// The ranks of the entries that go: those of which none is left lose their levels.
+    /// The ranks of entries that go: those of which none is left lose their levels.
     pub ranks: List<u32>,
-    /// The serial numbers of entries that go besides.
+    /// The serial numbers of entries that go afterwards.
     pub dropped: List<u64>,
     /// The serial numbers of entries whose counts were seen to have risen.
     pub touched: List<u64>,
     /// The levels, with one for the rank of the entry that comes.
     pub levels: LevelMap,
+}
+
+impl Planned {
+    /// A change, with the ranks of the entries that go, and the levels with one for the entry that comes.
+    pub(crate) fn of(alloc: Global, change: Change, ranks: List<u32>, levels: LevelMap) -> Planned
+        ensures { result ≡ record { change = change; ranks = ranks; dropped = []; touched = []; levels = levels } }
+    {
+        Planned {
+            change,
+            ranks,
+            dropped: List::new(alloc),
+            touched: List::new(alloc),
+            levels,
+        }
+    }
+
+    /// The rank of the entry that comes, if it has the number.
+    pub(crate) fn rank_added(&self, serial: u64) -> Option<u32>
+        ensures { result ≡ rank_if_added serial self.now.change.added }
+    {
+        match &self.change.added {
+            Some(entry) if entry.serial == serial => Some(entry.rank),
+            _ => None,
+        }
+    }
+
+    /// Plans that the count of the entry of a number was seen to have risen.
+    pub fn touch(&mut self, serial: u64) -> Result<(), Memory>
+        ensures touched { OnOk result ((x : MemberStateOf) (now : ℕ) → after_planned x self.new now ≡ touched_of serial now (after_planned x self.old now)) }
+        ensures ready { (h : HeldState) → IsReady h self.old → IsReady h self.new }
+        ensures memory { OnErr result (self.new ≡ self.old) }
+    {
+        self.touched.push(serial)
+    }
 }
