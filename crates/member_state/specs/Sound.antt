@@ -8,7 +8,6 @@ use Rattle.of10_actions.specs.declared.effects.PortView.{PortView}
 use Rattle.of10_msgs.specs.declared.message.FlowMod.{FlowMod}
 use Rattle.grants.specs.Granted.{IsGranted}
 use Rattle.grants.specs.declared.grant.Grant.{Grant}
-use Rattle.member_table.specs.Sound.{IsSound}
 use Rattle.member_table.specs.declared.entry.Entry.{Entry}
 use Rattle.policy_meaning.specs.Disjoint.{IsTableOfMember}
 use Rattle.policy_meaning.specs.EveryNode.{HasPlainTable}
@@ -20,13 +19,7 @@ use Rattle.agreement.specs.Premises.{TableGoesWithin, TableKeepsTo}
 use Rattle.member_state.specs.Changes.{accepted, expired, touched, without}
 use Rattle.member_state.specs.Denials.{denial}
 use Rattle.member_state.specs.Leaves.{leaf_of}
-use Rattle.member_state.specs.States.{IsKept, MemberStateOf}
-
--- what is true of every member's state: its table is sound, levels lie from 2 to the last one in the order of ranks, and
--- they are those of the ranks of its entries
-pub record IsSoundState (x : MemberStateOf) : Type 0 where
-  pub table : IsSound x.table
-  pub kept : IsKept x
+use Rattle.member_state.specs.States.{IsSoundState, MemberStateOf}
 
 -- each entry is one that the grant lets through, at a virtual switch of these ports
 abbrev pub AreWithin : Grant → PortView → MemberStateOf → Type 0
@@ -34,10 +27,10 @@ AreWithin g v x = AllByRecursion (λ (e : Entry). IsGranted g v e.normal e.actio
 
 -- entries stay within their grant
 pub record StayWithin (g : Grant) (v : PortView) (x : MemberStateOf) : Type 0 where
-  pub accepted : (m : FlowMod) (now : ℕ) → denial g v x m ≡ None → AreWithin g v (accepted m now x)
-  pub expired : (now : ℕ) → AreWithin g v (expired now x)
-  pub without : (serial : ℕ) → AreWithin g v (without serial x)
-  pub touched : (serial now : ℕ) → AreWithin g v (touched serial now x)
+  pub message : (m : FlowMod) (now : ℕ) → denial g v x m ≡ None → AreWithin g v (accepted m now x)
+  pub time : (now : ℕ) → AreWithin g v (expired now x)
+  pub removal : (serial : ℕ) → AreWithin g v (without serial x)
+  pub count : (serial now : ℕ) → AreWithin g v (touched serial now x)
 
 abbrev pub GrantsAreKept : Type 0
 GrantsAreKept = (g : Grant) (v : PortView) (x : MemberStateOf) → AreWithin g v x → StayWithin g v x

@@ -2,6 +2,7 @@
 use Rattle.std.specs.Prelude.{◌≡◌, ℕ, ◌^◌, List, [], is_some}
 use Rattle.std.specs.List.{list_any}
 use Rattle.level_map.specs.Levels.{IsLevelling, Levels, level_of}
+use Rattle.member_table.specs.Sound.{IsSound}
 use Rattle.member_table.specs.Tables.{TableOf, Held, has_rank}
 use Rattle.member_table.specs.declared.entry.Entry.{Entry}
 
@@ -32,3 +33,8 @@ AreLevelled es l = (rank : ℕ) → is_some (level_of l rank) ≡ list_any (has_
 pub record IsKept (x : MemberStateOf) : Type 0 where
   pub levels : IsLevelling x.levels.size x.levels.ranked
   pub ranks : AreLevelled x.table.entries x.levels
+
+-- what is true of every member's state: so it is kept, and its table is sound
+pub record IsSoundState (x : MemberStateOf) : Type 0 where
+  pub table : IsSound x.table
+  pub kept : IsKept x

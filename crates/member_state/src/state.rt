@@ -28,8 +28,7 @@ impl Model for MemberState {
 
 impl MemberState {
     ghost use Rattle.member_state.specs.Changes.{entries_of, is_told};
-    ghost use Rattle.member_state.specs.Sound.{IsSoundState};
-    ghost use Rattle.member_state.specs.States.{held_table, opening};
+    ghost use Rattle.member_state.specs.States.{IsSoundState, held_table, opening};
 
     /// A state without entries, of 2 to the power of the bits levels, which may have so many entries. It takes no memory.
     pub fn new(alloc: Global, bits: u32, limit: u32) -> MemberState
