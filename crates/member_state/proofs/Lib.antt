@@ -5,3 +5,5 @@ pub mod Unused
 pub mod Planned
 pub mod Judging
 pub mod Within
+pub mod LeafEffects
+pub mod LeafFacts

@@ -4,6 +4,7 @@ use Rattle.std.specs.List.{AllByRecursion}
 use Rattle.of10_match.specs.Fields.{MatchOf}
 use Rattle.of10_match.specs.Matching.{overlaps}
 use Rattle.of10_match.specs.Normal.{IsNormal}
+use Rattle.of10_actions.specs.Numbers.{MAX}
 use Rattle.of10_actions.specs.declared.effects.PortView.{PortView}
 use Rattle.of10_msgs.specs.declared.message.FlowMod.{FlowMod}
 use Rattle.grants.specs.Granted.{IsGranted}
@@ -39,12 +40,14 @@ GrantsAreKept = (g : Grant) (v : PortView) (x : MemberStateOf) → AreWithin g v
 abbrev pub NamesNoPort : MatchOf → Type 0
 NamesNoPort m = m.in_port ≡ None
 
--- what is asked of a grant: the boxes of its region are normal, don't overlap and name no port, and no port is named twice
+-- what is asked of a grant: the boxes of its region are normal, don't overlap and name no port; no port is named twice, and
+-- link ports have numbers of ports
 pub record IsSoundGrant (g : Grant) : Type 0 where
   pub boxes : AllByRecursion IsNormal g.regions
   pub disjoint : EachPair (λ m n. overlaps m n ≡ false) g.regions
   pub portless : AllByRecursion NamesNoPort g.regions
   pub visible : EachPair (λ p q. (q == p) ≡ false) (g.ports.outside ++ g.ports.links)
+  pub numbers : AllByRecursion (λ p. p < MAX) g.ports.links
 
 -- the leaf table of a sound state is sound, its numbers fit and are in range, its entries differ, and its outs go to ports of
 -- the member's virtual switch alone
@@ -67,4 +70,4 @@ MembersKeepToPorts =
 -- where outputs and CONTROLLER alone are granted, entries set nothing and pass nothing on
 abbrev pub PlainGrantsGivePlainTables : Type 0
 PlainGrantsGivePlainTables =
-    (i : ℕ) (g : Grant) (v : PortView) (x : MemberStateOf) → g.actions < 4 → AreWithin g v x → HasPlainTable (Some (leaf_of i g x))
+    (i : ℕ) (g : Grant) (v : PortView) (x : MemberStateOf) → IsSoundGrant g → g.actions < 4 → AreWithin g v x → HasPlainTable (Some (leaf_of i g x))
