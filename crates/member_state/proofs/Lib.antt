@@ -2,8 +2,9 @@ pub mod Lists
 pub mod Levels
 pub mod Ranks
 pub mod Unused
-pub mod Planned
-pub mod Judging
+pub mod Plans
+pub mod Rows
 pub mod Within
+pub mod Due
 pub mod LeafEffects
 pub mod LeafFacts

@@ -1,12 +1,12 @@
 //! What is planned is made.
-ghost use Rattle.std.specs.Prelude.{◌≡◌, ◌∷◌, []};
+ghost use Rattle.std.specs.Prelude.{◌≡◌, ◌∷◌, [], IfOk, map};
 ghost use Rattle.level_map.specs.InsidePlaces.{RanksRise};
 ghost use Rattle.member_state.specs.InsideRanks.{without_unused};
 ghost use Rattle.member_state.specs.Plans.{touched_among, without_all};
-ghost use Rattle.std.specs.Prelude.{map};
 
 use crate::planned::Planned;
 use crate::state::MemberState;
+use cv_io::{Duplicate, Memory};
 use level_map::LevelMap;
 use member_table::Table;
 
@@ -68,5 +68,15 @@ impl MemberState {
         touch_each(&mut self.table, touched.as_slice(), now);
         self.levels = levels;
         drop_all_unused(&self.table, &mut self.levels, ranks.as_slice());
+    }
+
+    /// The state after what is planned at a moment, as a copy: what is drafted is read there.
+    pub fn drafted(&self, planned: &Planned, now: u64) -> Result<MemberState, Memory>
+        requires { IsReady self.now planned.now }
+        ensures { IfOk result (λ x. x.state ≡ after_planned self.now.state planned.now now) }
+    {
+        let mut copied = self.copy()?;
+        copied.commit(planned.copied(self.alloc)?, now);
+        Ok(copied)
     }
 }

@@ -27,14 +27,14 @@ fn level_of(levels: &LevelMap, rank: u32) -> u64
 
 /// Whose leaf a table is, with the levels of its ranks and the ports that the member sees.
 #[derive(Clone, Copy)]
-struct Seen<'a> {
-    member: u32,
-    levels: &'a LevelMap,
-    ports: &'a PortView,
+pub struct Seen<'a> {
+    pub member: u32,
+    pub levels: &'a LevelMap,
+    pub ports: &'a PortView,
 }
 
 /// An entry with its level, and what its actions do for the member.
-fn leaf_entry(alloc: Global, seen: Seen, entry: &Entry) -> Result<LeafEntry, Memory>
+pub fn leaf_entry(alloc: Global, seen: Seen, entry: &Entry) -> Result<LeafEntry, Memory>
     requires in_range { AreInRange entry.now.actions }
     requires rising { AreRising seen.ports.now }
     ensures { IfOk result (λ e. e ≡ leaf_entry_of (levels_of seen.levels.now) seen.member seen.ports.now entry.now) }
@@ -83,7 +83,7 @@ impl MemberState {
     {
         let seen = Seen {
             member,
-            levels: &self.levels,
+            levels: self.levels(),
             ports: &g.ports,
         };
         let mut visible = g.ports.outside.copy()?;

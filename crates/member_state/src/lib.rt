@@ -6,7 +6,7 @@ mod commit;
 pub mod fault;
 mod judging;
 pub mod laws;
-mod leaf;
+pub mod leaf;
 pub mod planned;
 mod planning;
 pub mod state;
@@ -15,5 +15,6 @@ mod tests;
 pub mod worked;
 
 pub use fault::FlowFault;
+pub use leaf::{Seen, leaf_entry};
 pub use planned::Planned;
 pub use state::MemberState;

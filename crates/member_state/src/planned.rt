@@ -1,13 +1,13 @@
 //! What an event changes in a member's state, before it is changed.
-ghost use Rattle.std.specs.Prelude.{◌≡◌, ℕ, [], OnOk, OnErr};
+ghost use Rattle.std.specs.Prelude.{◌≡◌, ℕ, [], IfOk, OnOk, OnErr};
 ghost use Rattle.member_state.specs.Changes.{touched as touched_of};
 ghost use Rattle.member_state.specs.InsideRanks.{rank_if_added};
 ghost use Rattle.member_state.specs.Plans.{IsReady, after_planned};
 ghost use Rattle.member_state.specs.States.{HeldState, MemberStateOf};
 
-use cv_io::{List, Memory};
+use cv_io::{Duplicate, List, Memory};
 use level_map::LevelMap;
-use member_table::Change;
+use member_table::{Change, Entry, Modified};
 use std::alloc::Global;
 
 /// What an event changes in a member's state. It is made by `MemberState::commit`, without memory.
@@ -56,5 +56,48 @@ impl Planned {
         ensures memory { OnErr result (self.new ≡ self.old) }
     {
         self.touched.push(serial)
+    }
+}
+
+/// A copy of an entry, if there is one.
+fn copy_added(added: &Option<Entry>) -> Result<Option<Entry>, Memory>
+    ensures { IfOk result (λ copied. copied ≡ added.now) }
+{
+    match added {
+        Some(entry) => Ok(Some(entry.copy()?)),
+        None => Ok(None),
+    }
+}
+
+/// A copy of other actions for entries.
+fn copy_modified(alloc: Global, modified: &[Modified]) -> Result<List<Modified>, Memory>
+    ensures { IfOk result (λ copied. copied ≡ modified.now) }
+{
+    let mut copied = List::with_capacity(alloc, modified.len())?;
+    for one in modified {
+        copied.push(Modified {
+            serial: one.serial,
+            actions: one.actions.copy()?,
+        })?;
+    }
+    Ok(copied)
+}
+
+impl Planned {
+    /// A copy.
+    pub(crate) fn copied(&self, alloc: Global) -> Result<Planned, Memory>
+        ensures { IfOk result (λ copied. copied ≡ self.now) }
+    {
+        Ok(Planned {
+            change: Change {
+                added: copy_added(&self.change.added)?,
+                removed: self.change.removed.copied()?,
+                modified: copy_modified(alloc, self.change.modified.as_slice())?,
+            },
+            ranks: self.ranks.copied()?,
+            dropped: self.dropped.copied()?,
+            touched: self.touched.copied()?,
+            levels: self.levels.copy()?,
+        })
     }
 }

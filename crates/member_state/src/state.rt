@@ -53,6 +53,13 @@ impl MemberState {
         &self.table
     }
 
+    /// The levels of the ranks of its entries.
+    pub fn levels(&self) -> &LevelMap
+        ensures { result.now ≡ self.now.state.levels }
+    {
+        &self.levels
+    }
+
     /// The entry of a number, copied, if it asks to be told when it is removed.
     fn told(&self, serial: u64) -> Result<Option<Entry>, Memory>
         ensures { IfOk result (λ entry. option_to_list entry ≡ filter is_told (option_to_list (find (has_serial serial) self.now.state.table.entries))) }

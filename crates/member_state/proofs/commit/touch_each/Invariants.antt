@@ -1,6 +1,6 @@
 use Rattle.std.proofs.Common.{◌≡◌, drop, map}
 use Rattle.member_table.specs.Tables.{TableOf}
-use Rattle.member_state.proofs.Planned.{table_touched}
+use Rattle.member_state.proofs.Plans.{table_touched}
 use Rattle.member_state.proofs.commit.touch_each.Given as goal
 
 -- those that are left, touched, give what all give

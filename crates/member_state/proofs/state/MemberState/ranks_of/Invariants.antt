@@ -1,6 +1,6 @@
 use Rattle.std.proofs.Common.{◌≡◌, ◌++◌, drop}
 use Rattle.member_state.specs.Plans.{ranks_of}
-use Rattle.member_state.proofs.judging.MemberState.ranks_of.Given as goal
+use Rattle.member_state.proofs.state.MemberState.ranks_of.Given as goal
 
 -- what is there, and what is left gives the rest
 abbrev pub invariant-loop-serial : goal.invariant-loop-serial
