@@ -1,6 +1,6 @@
 -- Packets of a virtual switch leave at ports of it, and of virtual switches to which links lead.
-use Rattle.std.proofs.Common.{◌≡◌, ℕ, zero, suc, Bool, true, false, ◌&&◌, List, [], ◌∷◌, Option, Some, None, refl, subst}
-use Rattle.std.specs.Prelude.{IfSome, if◌then◌else◌, map, nat_lt, slice_get, ◌==◌}
+use Rattle.std.proofs.Common.{◌≡◌, ℕ, zero, suc, Bool, true, false, ◌&&◌, List, Option, Some, None, refl, subst}
+use Rattle.std.specs.Prelude.{IfSome, if◌then◌else◌, map, slice_get, ◌==◌}
 use Rattle.std.specs.List.{AllByRecursion}
 use Rattle.of10_match.specs.Fields.{HeaderOf}
 use Rattle.of10_match.specs.Matching.{holds}
@@ -14,7 +14,7 @@ use Rattle.of10_actions.specs.declared.effects.Tail.TheVariants.{Nothing, Pass, 
 use Rattle.policy_expr.specs.Policy.{Policy, member, parallel, sequential, override}
 use Rattle.policy_meaning.specs.CentralFact.{EachMember}
 use Rattle.policy_meaning.specs.Hops.{leads}
-use Rattle.policy_meaning.specs.Leaf.{best_entry, by_entry, higher, is_inside, miss_outs, outside}
+use Rattle.policy_meaning.specs.Leaf.{best_entry, by_entry, is_inside, miss_outs, outside}
 use Rattle.policy_meaning.specs.Meaning.{evaluate, out_after, passed_on}
 use Rattle.policy_meaning.specs.Networks.{ground_of, switch_links, switch_meaning, switch_spread, table_meaning}
 use Rattle.policy_meaning.specs.Walk.{arriving, here, nowhere, port_out, takes, walk, what_follows}
@@ -28,6 +28,7 @@ use Rattle.policy_meaning.specs.declared.network.VirtualSwitch.{VirtualSwitch}
 use Rattle.policy_meaning.specs.declared.walking.PortOut.{PortOut}
 use Rattle.policy_meaning.specs.declared.walking.Walked.{Walked}
 use Rattle.policy_meaning.proofs.Booleans.{some_injective}
+use Rattle.policy_meaning.proofs.Highest.{highest-each}
 use Rattle.policy_meaning.proofs.Lists.{all-append, all-filter_map, all-mapped}
 use Rattle.policy_meaning.proofs.Peers.{leading}
 use Rattle.agreement.specs.Premises.{GoesWithin, TableGoesWithin}
@@ -37,22 +38,9 @@ use Rattle.agreement.specs.Reach.{LeadsTo, at_once, over}
 abbrev pub OutsWithin : ℕ → List Out → Type 0
 OutsWithin v outs = AllByRecursion (λ (o : Out). GoesWithin v o.dest) outs
 
-picked : (P : LeafEntry → Type 0) (d e : LeafEntry) (b : Bool) → P d → P e → P (if b then e else d)
-picked P d e true p q = q
-picked P d e false p q = p
-
-higher-of : (P : LeafEntry → Type 0) (e : LeafEntry) (o : Option LeafEntry) → P e → IfSome o P → IfSome (higher e o) P
-higher-of P e None p q = p
-higher-of P e (Some d) p q = picked P e d (nat_lt e.rank d.rank) p q
-
-kept_or : (P : LeafEntry → Type 0) (b : Bool) (e : LeafEntry) (o : Option LeafEntry) → P e → IfSome o P → IfSome (if b then higher e o else o) P
-kept_or P true e o p q = higher-of P e o p q
-kept_or P false e o p q = q
-
 -- what holds of each entry holds of the best
 best-of : (P : LeafEntry → Type 0) (es : List LeafEntry) (h : HeaderOf) → AllByRecursion P es → IfSome (best_entry es h) P
-best-of P [] h a = tt
-best-of P (e ∷ es) h a = kept_or P (holds e.m h) e (best_entry es h) a.0 (best-of P es h a.1)
+best-of P es h = highest-each P (λ (e : LeafEntry). holds e.m h) (λ (e : LeafEntry). e.rank) es
 
 module _ (v : ℕ) where
   miss-within : (t : LeafTable) (b : Bool) → t.misses ≡ b → OutsWithin v (miss_outs t)

@@ -2,9 +2,10 @@
 use Rattle.std.proofs.Common.{◌≡◌, ℕ, ◌<◌, ◌≤◌, Bool, true, false, ◌||◌, ◌&&◌, ◌==◌, List, [], ◌∷◌, map, refl, sym, ap, ap₂, subst, ◌∙◌, arith, if◌then◌else◌, true≢false, Option, Some, None, IfSome, nat_lt, eqb-true, eq-eqb, ltb-false, lt-ltb, le-ltb}
 use Rattle.std.specs.List.{list_any, AllByRecursion}
 use Rattle.of10_match.specs.Fields.{HeaderOf}
+use Rattle.of10_match.specs.Highest.{higher}
 use Rattle.of10_match.specs.Matching.{holds, overlaps, both}
 use Rattle.of10_match.proofs.Holding.{holds-both}
-use Rattle.member_table.specs.Best.{best_entry, higher}
+use Rattle.member_table.specs.Best.{best_entry}
 use Rattle.member_table.specs.Entries.{identity_of, is_near}
 use Rattle.member_table.specs.Sound.{AreApart, EachPair}
 use Rattle.member_table.specs.declared.entry.Entry.{Entry}
@@ -15,6 +16,9 @@ use Rattle.match_index.proofs.Counts.{item_decides}
 use Rattle.member_table.specs.InsideRanking.{ranked_of}
 use Rattle.member_table.proofs.Lists.{list_any-map, or_false}
 use Rattle.member_table.proofs.Least.{and_true, any_stronger, any_weaker}
+
+abbrev rank_of : Entry → ℕ
+rank_of e = e.rank
 
 -- two matches that hold one header overlap
 meet_there : (d e : Entry) (h : HeaderOf) → holds d.normal h ≡ true → holds e.normal h ≡ true → overlaps e.normal d.normal ≡ true
@@ -30,15 +34,15 @@ best_each : (P : Entry → Type 0) (h : HeaderOf) (es : List Entry) → AllByRec
 best_each P h [] a = tt
 best_each P h (e ∷ es) a = by (holds e.normal h) refl (best_entry es h) (best_each P h es a.1)
   where
-    pick : holds e.normal h ≡ true → (o : Option Entry) → IfSome o (λ x. P x × (holds x.normal h ≡ true)) → IfSome (higher e o) (λ x. P x × (holds x.normal h ≡ true))
+    pick : holds e.normal h ≡ true → (o : Option Entry) → IfSome o (λ x. P x × (holds x.normal h ≡ true)) → IfSome (higher rank_of e o) (λ x. P x × (holds x.normal h ≡ true))
     pick t None m = (a.0, t)
     pick t (Some d) m = choose (nat_lt e.rank d.rank)
       where
-        choose : (b : Bool) → IfSome (if b then Some d else Some e) (λ x. P x × (holds x.normal h ≡ true))
+        choose : (b : Bool) → IfSome (Some (if b then d else e)) (λ x. P x × (holds x.normal h ≡ true))
         choose true = m
         choose false = (a.0, t)
 
-    by : (b : Bool) → holds e.normal h ≡ b → (o : Option Entry) → IfSome o (λ x. P x × (holds x.normal h ≡ true)) → IfSome (if b then higher e o else o) (λ x. P x × (holds x.normal h ≡ true))
+    by : (b : Bool) → holds e.normal h ≡ b → (o : Option Entry) → IfSome o (λ x. P x × (holds x.normal h ≡ true)) → IfSome (if b then higher rank_of e o else o) (λ x. P x × (holds x.normal h ≡ true))
     by true t o m = pick t o m
     by false t o m = m
 
@@ -64,17 +68,17 @@ not_higher : (h : HeaderOf) (rank : ℕ) (e : Entry) → holds e.normal h ≡ tr
 not_higher h rank e t n = ltb-false rank e.rank (sym (ap (λ b. b && nat_lt rank e.rank) t) ∙ n)
 
 -- no later entry is higher: this one is best
-stays_best : (h : HeaderOf) (e : Entry) (o : Option Entry) → IfSome o (λ d. (is_above h e.rank d ≡ false) × (holds d.normal h ≡ true)) → higher e o ≡ Some e
+stays_best : (h : HeaderOf) (e : Entry) (o : Option Entry) → IfSome o (λ d. (is_above h e.rank d ≡ false) × (holds d.normal h ≡ true)) → higher rank_of e o ≡ Some e
 stays_best h e None m = refl
 stays_best h e (Some d) m = rw (le-ltb e.rank d.rank (not_higher h e.rank d m.1 m.0)) refl
 
 best_more : (h : HeaderOf) (serial rank : ℕ) (e : Entry) (es : List Entry) → AllByRecursion (AreApart e) es → list_any (is_above h rank) es ≡ false
     → is_above h rank e ≡ false → (list_any (is_it h serial rank) es ≡ true → IsBest (best_entry es h) serial rank) → list_any (is_it h serial rank) (e ∷ es) ≡ true
-    → (b : Bool) → holds e.normal h ≡ b → IsBest (if b then higher e (best_entry es h) else best_entry es h) serial rank
+    → (b : Bool) → holds e.normal h ≡ b → IsBest (if b then higher rank_of e (best_entry es h) else best_entry es h) serial rank
 best_more h serial rank e es apart none here more any false t = more (sym (ap (λ b. (b && ((e.serial == serial) && (e.rank == rank))) || list_any (is_it h serial rank) es) t) ∙ any)
 best_more h serial rank e es apart none here more any true t = by ((e.serial == serial) && (e.rank == rank)) refl
   where
-    itself : ((e.serial == serial) && (e.rank == rank)) ≡ true → IsBest (higher e (best_entry es h)) serial rank
+    itself : ((e.serial == serial) && (e.rank == rank)) ≡ true → IsBest (higher rank_of e (best_entry es h)) serial rank
     itself s =
         let a = and_true (e.serial == serial) (e.rank == rank) s in
         let r = eqb-true e.rank rank a.1 in
@@ -90,12 +94,12 @@ best_more h serial rank e es apart none here more any true t = by ((e.serial == 
     below : IsBest (best_entry es h) serial rank → e.rank < rank
     below m = let l = not_higher h rank e t here in let d : e.rank ≡ rank → ⊥ = lower m in omega (arith, l, d)
 
-    another : IsBest (best_entry es h) serial rank → IsBest (higher e (best_entry es h)) serial rank
+    another : IsBest (best_entry es h) serial rank → IsBest (higher rank_of e (best_entry es h)) serial rank
     another m =
         let Q : ℕ → Type 0 = λ k. e.rank < k in
-        record { entry = m.entry; is = ap (higher e) m.is ∙ rw (lt-ltb e.rank m.entry.rank (subst Q (sym m.of_rank) (below m))) refl; of_serial = m.of_serial; of_rank = m.of_rank }
+        record { entry = m.entry; is = ap (higher rank_of e) m.is ∙ rw (lt-ltb e.rank m.entry.rank (subst Q (sym m.of_rank) (below m))) refl; of_serial = m.of_serial; of_rank = m.of_rank }
 
-    by : (b : Bool) → ((e.serial == serial) && (e.rank == rank)) ≡ b → IsBest (higher e (best_entry es h)) serial rank
+    by : (b : Bool) → ((e.serial == serial) && (e.rank == rank)) ≡ b → IsBest (higher rank_of e (best_entry es h)) serial rank
     by true s = itself s
     by false s = another (more (sym (ap₂ (λ x y. (x && y) || list_any (is_it h serial rank) es) t s) ∙ any))
 

@@ -12,9 +12,8 @@ use Rattle.member_table.specs.InsideOrders.{IsIndexed, IsInStep, listed, numbere
 use Rattle.member_table.specs.Timeouts.{serials_of}
 use Rattle.member_table.specs.declared.entry.Entry.{Entry}
 use Rattle.member_table.specs.declared.entry.Identity.{Identity}
-use Rattle.member_table.proofs.Falling.{each_weaker}
 use Rattle.member_table.proofs.Keyed.{each_found, find_put, find_without, flipped, keys_map, once_filter, once_key, once_put}
-use Rattle.member_table.proofs.Lists.{IsFirst, IsFirst-map, IsFirst-position, IsOnce, any_find, each_false, filter-first, filter-none, find_kept, find_map, found_has, found_passes, list_any-map, map-remove, only_one, position-any, same_first, slice_past}
+use Rattle.member_table.proofs.Lists.{IsFirst, IsFirst-map, IsFirst-position, IsOnce, any_find, each_false, filter-first, filter-none, find_kept, find_map, found_has, found_passes, list_any-map, map-remove, only_one, position-any, same_first, slice_past, each_weaker}
 use Rattle.member_table.proofs.Sounds.{either_way}
 use Rattle.member_table.proofs.Steps.{identity_decides, put-first, put-none}
 

@@ -2,7 +2,6 @@ pub mod Lists
 pub mod Keyed
 pub mod Steps
 pub mod Indexed
-pub mod Falling
 pub mod Least
 pub mod Sounds
 pub mod Counts

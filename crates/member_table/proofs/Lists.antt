@@ -226,3 +226,13 @@ none_mapped {X = X} {Y = Y} f p xs e = any_find p xs ∙ by (find p xs) e
     by : (o : Option X) → None ≡ option_map f o → is_some o ≡ false
     by None e = refl
     by (Some x) e = absurd (cc)
+
+-- what holds of each item and says less
+pub each_weaker : {X : Type 0} (P Q : X → Type 0) → ((x : X) → P x → Q x) → (xs : List X) → AllByRecursion P xs → AllByRecursion Q xs
+each_weaker P Q w [] a = tt
+each_weaker P Q w (x ∷ xs) a = (w x a.0, each_weaker P Q w xs a.1)
+
+-- a test that fails at each item
+pub none_each : {X : Type 0} (q : X → Bool) (xs : List X) → AllByRecursion (λ x. q x ≡ false) xs → list_any q xs ≡ false
+none_each q [] a = refl
+none_each q (x ∷ xs) a = rw a.0 (none_each q xs a.1)

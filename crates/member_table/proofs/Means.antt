@@ -14,9 +14,8 @@ use Rattle.member_table.specs.declared.entry.Entry.{Entry}
 use Rattle.member_table.specs.declared.entry.Identity.{Identity}
 use Rattle.std.proofs.lemmas.Bool.Decides.{Decides-eqb}
 use Rattle.member_table.proofs.Keyed.{flipped}
-use Rattle.member_table.proofs.Lists.{IsOnce, or_false}
+use Rattle.member_table.proofs.Lists.{IsOnce, or_false, none_each, each_weaker}
 use Rattle.member_table.proofs.Steps.{identity_decides}
-use Rattle.member_table.proofs.Falling.{none_each, each_weaker}
 
 -- a match overlaps itself
 overlaps_self : (m : MatchOf) → overlaps m m ≡ true

@@ -30,9 +30,8 @@ use Rattle.member_table.specs.declared.entry.Identity.{Identity}
 use Rattle.std.proofs.lemmas.List.Sorted.{sum_by-IsPermutation}
 use Rattle.member_table.proofs.Changing.{all_stay, unaltered}
 use Rattle.match_index.proofs.Counts.{same_any}
-use Rattle.member_table.proofs.Falling.{each_weaker}
 use Rattle.member_table.proofs.Least.{any_alike, any_stronger, and_true}
-use Rattle.member_table.proofs.Lists.{list_any-map, or_false}
+use Rattle.member_table.proofs.Lists.{list_any-map, or_false, each_weaker}
 use Rattle.member_table.proofs.Means.{among_passing, filter_alike, map_alike, changed_alike}
 
 -- an entry that is planned

@@ -1,63 +1,103 @@
 -- The ranks of the matches that come and go.
-use Rattle.std.proofs.Common.{◌≡◌, ℕ, ◌+◌, Bool, true, false, not, cond, ◌||◌, ◌&&◌, ◌==◌, ◌++◌, List, [], ◌∷◌, map, filter, find, refl, sym, ap, subst, ◌∙◌, arith, Option, Some, None, count_by, option_map, option_to_list, eq-eqb, eqb-true, nat_lt, true≢false, zero, suc, length, take, get_or, ◌<◌}
+use Rattle.std.proofs.Common.{◌≡◌, ℕ, ◌+◌, Bool, true, false, not, cond, ◌||◌, ◌&&◌, ◌==◌, ◌++◌, List, [], ◌∷◌, map, filter, find, refl, sym, ap, subst, ◌∙◌, arith, Option, Some, None, count_by, option_map, option_to_list, eq-eqb, eqb-true, nat_lt, true≢false, ne_eqb, ◌-◌, unwrap_or, if◌then◌else◌, zero, suc, length, take, get_or, ◌<◌}
 use Rattle.std.specs.Prelude.{IsPermutation}
-use Rattle.std.specs.List.{list_any, AllByRecursion, IsDistinct}
+use Rattle.std.specs.List.{list_any, AllByRecursion, AllZip, IsDistinct}
 use Rattle.std.specs.Option.{option_eq}
 use Rattle.match_index.specs.InsideGroups.{SameItems}
 use Rattle.match_index.specs.Items.{has_id}
 use Rattle.match_index.specs.declared.item.Item.{Item}
 use Rattle.match_index.proofs.Counts.{one, any_count, count-append, count-cons, count-permuted}
 use Rattle.member_table.specs.Changes.{is_among, is_number}
-use Rattle.member_table.specs.InsideRanking.{AddsTo, AreRanked, RanksFall, remains}
+use Rattle.member_table.specs.InsideRanking.{AreCounted, count_at, remains}
 use Rattle.member_table.proofs.Changing.{not_number}
 use Rattle.member_table.proofs.Counts.{count-filter, some_is}
 use Rattle.member_table.proofs.Least.{push_any}
 use Rattle.member_table.proofs.Lists.{IsOnce, take_pushed}
 
--- a test of ranks passes where it does on the items
-pub any_ranked : (p : ℕ → Bool) (ranks : List ℕ) (items : List Item) → AreRanked ranks items → list_any p ranks ≡ list_any (λ (r : Item). p r.rank) items
-any_ranked p ranks items a = any_count p ranks ∙ (ap (nat_lt 0) (a.same p) ∙ sym (any_count (λ (r : Item). p r.rank) items))
+-- counts that are cloned
+pub cloned : (xs ys : List (ℕ × ℕ)) → AllZip (λ p q. (q.0 ≡ p.0) × (q.1 ≡ p.1)) xs ys → ys ≡ xs
+cloned [] [] z = refl
+cloned [] (y ∷ ys) z = absurd z
+cloned (x ∷ xs) [] z = absurd z
+cloned (x ∷ xs) (y ∷ ys) z = λ i. (z.0.0 i, z.0.1 i) ∷ cloned xs ys z.1 i
+
+-- two numbers differ from either side
+other : (a b : ℕ) → (a == b) ≡ false → (b == a) ≡ false
+other a b e = ne_eqb b a (λ s. true≢false (sym (eq-eqb a b (sym s)) ∙ e))
+
+-- what is counted where one rank has another count
+pub counted_set : (counts : ℕ → Option ℕ) (rank n m q : ℕ) → n ≡ m → unwrap_or (cond (rank == q) (Some n) (counts q)) 0 ≡ (if rank == q then m else count_at counts q)
+counted_set counts rank n m q e = by (rank == q)
+  where
+    by : (b : Bool) → unwrap_or (cond b (Some n) (counts q)) 0 ≡ (if b then m else count_at counts q)
+    by true = e
+    by false = refl
+
+-- what is counted without one rank
+pub counted_out : (counts : ℕ → Option ℕ) (rank m q : ℕ) → 0 ≡ m → unwrap_or (cond (rank == q) None (counts q)) 0 ≡ (if rank == q then m else count_at counts q)
+counted_out counts rank m q e = by (rank == q)
+  where
+    by : (b : Bool) → unwrap_or (cond b None (counts q)) 0 ≡ (if b then m else count_at counts q)
+    by true = e
+    by false = refl
 
 -- one item more
-pub ranked_more : (ranks ranks' : List ℕ) (items : List Item) (x : Item) → AreRanked ranks items → RanksFall ranks' → AddsTo x.rank ranks ranks' → AreRanked ranks' (items ++ x ∷ [])
-ranked_more ranks ranks' items x a f more = record {
-  fall = f;
-  same = λ p.
-      (let grown = more p in
-      let before = a.same p in
-      let split = count-append (λ (r : Item). p r.rank) items (x ∷ []) in
-      let alone = count-cons (λ (r : Item). p r.rank) x [] in omega (arith, grown, before, split, alone));
-}
+pub counted_more : (counts counts' : ℕ → Option ℕ) (items : List Item) (x : Item) → AreCounted counts items
+    → ((q : ℕ) → count_at counts' q ≡ (if x.rank == q then count_at counts x.rank + 1 else count_at counts q)) → AreCounted counts' (items ++ x ∷ [])
+counted_more counts counts' items x a more q = by (x.rank == q) refl
+  where
+    split : count_by (λ (r : Item). q == r.rank) (items ++ x ∷ []) ≡ count_by (λ (r : Item). q == r.rank) items + one (q == x.rank)
+    split =
+        let both = count-append (λ (r : Item). q == r.rank) items (x ∷ []) in
+        let alone = count-cons (λ (r : Item). q == r.rank) x [] in omega (arith, both, alone)
+
+    by : (b : Bool) → (x.rank == q) ≡ b → count_at counts' q ≡ count_by (λ (r : Item). q == r.rank) (items ++ x ∷ [])
+    by true t =
+        let same = eqb-true x.rank q t in
+        let grown = more q ∙ ap (λ b. if b then count_at counts x.rank + 1 else count_at counts q) t in
+        let before = a q in
+        let moved = ap (count_at counts) same in
+        let met = ap one (eq-eqb q x.rank (sym same)) in
+        let parts = split in
+        omega (arith, grown, before, moved, met, parts)
+    by false t =
+        let kept = more q ∙ ap (λ b. if b then count_at counts x.rank + 1 else count_at counts q) t in
+        let before = a q in
+        let missed = ap one (other x.rank q t) in
+        let parts = split in
+        omega (arith, kept, before, missed, parts)
 
 -- one item less
-pub ranked_less : (q : Item → Bool) (rank : ℕ) (ranks ranks' : List ℕ) (items items' : List Item) → AreRanked ranks items → RanksFall ranks' → AddsTo rank ranks' ranks
-    → Some rank ≡ option_map (λ (e : Item). e.rank) (find q items) → IsPermutation items (option_to_list (find q items) ++ items') → AreRanked ranks' items'
-ranked_less q rank ranks ranks' items items' a f less found h = record { fall = f; same = λ p. by p (find q items) found h }
+pub counted_less : (p : Item → Bool) (rank : ℕ) (counts counts' : ℕ → Option ℕ) (items items' : List Item) → AreCounted counts items
+    → ((q : ℕ) → count_at counts' q ≡ (if rank == q then count_at counts rank - 1 else count_at counts q))
+    → Some rank ≡ option_map (λ (e : Item). e.rank) (find p items) → IsPermutation items (option_to_list (find p items) ++ items') → AreCounted counts' items'
+counted_less p rank counts counts' items items' a less found h q = each (find p items) found h
   where
-    by : (p : ℕ → Bool) (o : Option Item) → Some rank ≡ option_map (λ (e : Item). e.rank) o → IsPermutation items (option_to_list o ++ items') → count_by p ranks' ≡ count_by (λ (r : Item). p r.rank) items'
-    by p None e h = absurd (cc)
-    by p (Some x) e h =
-        let fewer = less p in
-        let before = a.same p in
-        let permuted = count-permuted (λ (r : Item). p r.rank) items (x ∷ items') h in
-        let split = count-cons (λ (r : Item). p r.rank) x items' in
-        let same_rank = ap (λ n. one (p n)) (some_is rank x.rank e) in
-        omega (arith, fewer, before, permuted, split, same_rank)
+    each : (o : Option Item) → Some rank ≡ option_map (λ (e : Item). e.rank) o → IsPermutation items (option_to_list o ++ items') → count_at counts' q ≡ count_by (λ (r : Item). q == r.rank) items'
+    each None e g = absurd (cc)
+    each (Some x) e g = by (rank == q) refl
+      where
+        is : rank ≡ x.rank
+        is = some_is rank x.rank e
 
--- the rank of an item that is found is there
-pub rank_there : (q : Item → Bool) (rank : ℕ) (items : List Item) → Some rank ≡ option_map (λ (e : Item). e.rank) (find q items) → list_any (λ (r : Item). rank == r.rank) items ≡ true
-rank_there q rank [] e = absurd (cc)
-rank_there q rank (x ∷ xs) e = by (q x) refl (rank_there q rank xs)
-  where
-    or_right : (a b : Bool) → b ≡ true → (a || b) ≡ true
-    or_right true b h = refl
-    or_right false b h = h
+        split : count_by (λ (r : Item). q == r.rank) items ≡ one (q == x.rank) + count_by (λ (r : Item). q == r.rank) items'
+        split = sym (count-permuted (λ (r : Item). q == r.rank) items (x ∷ items') g) ∙ count-cons (λ (r : Item). q == r.rank) x items'
 
-    by : (b : Bool) → q x ≡ b → (Some rank ≡ option_map (λ (r : Item). r.rank) (find q xs) → list_any (λ (r : Item). rank == r.rank) xs ≡ true) → list_any (λ (r : Item). rank == r.rank) (x ∷ xs) ≡ true
-    by true t more =
-        let s = some_is rank x.rank (e ∙ ap (λ b. option_map (λ (r : Item). r.rank) (cond b (Some x) (find q xs))) t) in
-        ap (λ b. b || list_any (λ (r : Item). rank == r.rank) xs) (eq-eqb rank x.rank s)
-    by false t more = or_right (rank == x.rank) (list_any (λ (r : Item). rank == r.rank) xs) (more (e ∙ ap (λ b. option_map (λ (r : Item). r.rank) (cond b (Some x) (find q xs))) t))
+        by : (b : Bool) → (rank == q) ≡ b → count_at counts' q ≡ count_by (λ (r : Item). q == r.rank) items'
+        by true t =
+            let same = eqb-true rank q t in
+            let fewer = less q ∙ ap (λ b. if b then count_at counts rank - 1 else count_at counts q) t in
+            let before = a q in
+            let moved = ap (count_at counts) same in
+            let met = ap one (eq-eqb q x.rank (sym same ∙ is)) in
+            let parts = split in
+            omega (arith, fewer, before, moved, met, parts)
+        by false t =
+            let kept = less q ∙ ap (λ b. if b then count_at counts rank - 1 else count_at counts q) t in
+            let before = a q in
+            let missed = ap (λ n. one (q == n)) (sym is) ∙ ap one (other rank q t) in
+            let parts = split in
+            omega (arith, kept, before, missed, parts)
 
 -- where each id stands once, one item has it
 pub once_id : (s : ℕ) (items : List Item) → IsDistinct ◌==◌ (map (λ (e : Item). e.id) items) → IsOnce (has_id s) items

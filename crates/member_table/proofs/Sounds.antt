@@ -6,9 +6,8 @@ use Rattle.member_table.specs.Entries.{identity_of, has_serial, is_at, is_near, 
 use Rattle.member_table.specs.Sound.{AreApart, EachPair, IsAsWritten, IsSound}
 use Rattle.member_table.specs.Tables.{TableOf}
 use Rattle.member_table.specs.declared.entry.Entry.{Entry}
-use Rattle.member_table.proofs.Lists.{or_false}
+use Rattle.member_table.proofs.Lists.{or_false, each_weaker}
 use Rattle.member_table.proofs.Steps.{identity_decides}
-use Rattle.member_table.proofs.Falling.{each_weaker}
 use Rattle.member_table.proofs.Keyed.{keys_map, once_filter, once_put}
 use Rattle.member_table.proofs.Means.{once_identity}
 

@@ -10,10 +10,9 @@ use Rattle.member_table.specs.Timeouts.{serials_of}
 use Rattle.member_table.specs.declared.entry.Entry.{Entry}
 use Rattle.member_table.specs.declared.entry.Identity.{Identity}
 use Rattle.member_table.proofs.Changing.{all_stay, stays_dropped, stays_kept}
-use Rattle.member_table.proofs.Falling.{each_weaker}
 use Rattle.member_table.proofs.Indexed.{in_step, listed_is}
 use Rattle.member_table.proofs.Keyed.{flipped}
-use Rattle.member_table.proofs.Lists.{any_find, filter-none}
+use Rattle.member_table.proofs.Lists.{any_find, filter-none, each_weaker}
 use Rattle.member_table.proofs.Means.{among_passing}
 
 -- an entry stands among those that pass where it passes

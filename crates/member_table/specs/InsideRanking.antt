@@ -1,6 +1,5 @@
 -- What a table's ranking keeps of its entries.
-use Rattle.std.specs.Prelude.{◌≡◌, ℕ, ◌+◌, ◌≤◌, ◌||◌, not, Bool, List, [], ◌∷◌, Option, Some, None, count_by, filter, if◌then◌else◌}
-use Rattle.std.specs.List.{AllByRecursion}
+use Rattle.std.specs.Prelude.{◌≡◌, ℕ, ◌+◌, ◌==◌, ◌||◌, not, Bool, List, [], ◌∷◌, Option, Some, None, count_by, filter, if◌then◌else◌, unwrap_or}
 use Rattle.match_index.specs.Items.{has_id}
 use Rattle.match_index.specs.declared.item.Item.{Item}
 use Rattle.member_table.specs.Changes.{is_among, is_number}
@@ -15,15 +14,13 @@ pub record RanksOf : Type 0 where
 abbrev pub ranked_of : Entry → Item
 ranked_of e = record { id = e.serial; rank = e.rank; normal = e.normal }
 
--- no rank is higher than one before it
-abbrev pub RanksFall : List ℕ → Type 0
-RanksFall [] = Unit {0}
-RanksFall (x ∷ xs) = AllByRecursion (λ y. y ≤ x) xs × RanksFall xs
+-- how often a rank is there, by the counts of the ranks that are there
+abbrev pub count_at : (ℕ → Option ℕ) → ℕ → ℕ
+count_at counts rank = unwrap_or (counts rank) 0
 
--- the ranks are those of the matches, each as often, the highest first
-pub record AreRanked (ranks : List ℕ) (items : List Item) : Type 0 where
-  pub fall : RanksFall ranks
-  pub same : (p : ℕ → Bool) → count_by p ranks ≡ count_by (λ (r : Item). p r.rank) items
+-- each rank is counted as often as there are matches of it
+abbrev pub AreCounted : (ℕ → Option ℕ) → List Item → Type 0
+AreCounted counts items = (rank : ℕ) → count_at counts rank ≡ count_by (λ (r : Item). rank == r.rank) items
 
 -- the second list has what the first has and one more, in any order
 abbrev pub AddsTo : {X : Type 0} → X → List X → List X → Type 0

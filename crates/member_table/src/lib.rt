@@ -6,7 +6,6 @@
 pub mod change;
 mod commit;
 mod copy;
-mod descending;
 mod due;
 pub mod entry;
 pub mod fault;
@@ -15,6 +14,7 @@ mod order;
 mod places;
 mod plan;
 pub mod rank;
+mod rank_counts;
 mod ranks;
 pub mod table;
 #[cfg(test)]

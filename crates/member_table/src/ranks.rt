@@ -6,9 +6,10 @@ ghost use Rattle.match_index.specs.Items.{IsLeast, IsTop, has_id};
 ghost use Rattle.match_index.specs.Questions.{is_holding, is_in_way};
 ghost use Rattle.member_table.specs.InsideRanking.{Exchanges, ranked_of, remains};
 
-use crate::descending::{add, forget, has};
 use crate::entry::{Entry, Identity};
+use crate::rank_counts::{add, forget, has};
 use cv_io::{Duplicate, Memory};
+use indexmap::IndexMap;
 use match_index::{Index, Item};
 use of10_match::Header;
 use std::alloc::Global;
@@ -26,23 +27,24 @@ pub fn item_of(entry: &Entry) -> Item
 }
 
 /// The matches of a table's entries under their serial numbers. An index finds those that hold a
-/// header or overlap a match; a list of the ranks alone tells which ranks there are.
+/// header or overlap a match; the counts of the ranks tell which ranks there are.
 #[derive(Drop)]
 pub struct Ranks {
     index: Index,
-    /// The ranks of the matches, each as often, the highest first.
-    ranks: Vec<u32>,
+    /// How many matches each rank has.
+    counts: IndexMap<u32, u64>,
 }
 
 impl Model for Ranks {
-    ghost use Rattle.std.specs.Prelude.{◌-◌, min, vec_len, vec_capacity};
-    ghost use Rattle.member_table.specs.InsideRanking.{AreRanked, RanksOf};
+    ghost use Rattle.std.specs.Prelude.{min, nat_eq};
+    ghost use Rattle.indexmap.specs.IndexMap.{get, spare};
+    ghost use Rattle.member_table.specs.InsideRanking.{AreCounted, RanksOf};
 
     ghost Value = { RanksOf };
 
-    ghost view = { λ a. record { items = a.index.items; room = min a.index.room (vec_capacity a.ranks - vec_len a.ranks) } };
+    ghost view = { λ a. record { items = a.index.items; room = min a.index.room (spare a.counts) } };
 
-    ghost invariant = { λ a. AreRanked a.ranks.items a.index.items };
+    ghost invariant = { λ a. AreCounted (get nat_eq a.counts) a.index.items };
 }
 
 impl Ranks {
@@ -51,7 +53,7 @@ impl Ranks {
     {
         Ranks {
             index: Index::new(alloc),
-            ranks: Vec::new(alloc),
+            counts: IndexMap::new(alloc),
         }
     }
 
@@ -61,7 +63,7 @@ impl Ranks {
     {
         Ok(Ranks {
             index: self.index.copy()?,
-            ranks: Vec::from_slice(alloc, &self.ranks)?,
+            counts: self.counts.clone()?,
         })
     }
 
@@ -72,7 +74,7 @@ impl Ranks {
         ensures kept { self.old.room ≤ self.new.room }
     {
         self.index.reserve(more)?;
-        self.ranks.reserve(more)?;
+        self.counts.reserve(more)?;
         Ok(())
     }
 
@@ -84,7 +86,9 @@ impl Ranks {
         ensures room { self.old.room ≤ self.new.room + 1 }
     {
         self.index.put(item.id, item.rank, &item.normal);
-        add(&mut self.ranks, item.rank);
+        // The proof learns that the count has room.
+        let _ = self.index.len();
+        add(&mut self.counts, item.rank);
     }
 
     /// The rank of the match of a serial number.
@@ -106,7 +110,7 @@ impl Ranks {
         let _ = self.index.len();
         if let Some(rank) = self.rank(serial) {
             self.index.remove(serial);
-            forget(&mut self.ranks, rank);
+            forget(&mut self.counts, rank);
         }
     }
 
@@ -139,7 +143,7 @@ impl Ranks {
     pub fn has(&self, rank: u32) -> bool
         ensures { result ≡ list_any (λ r. rank == r.rank) self.now.items }
     {
-        has(&self.ranks, rank)
+        has(&self.counts, rank)
     }
 
     /// The least serial number of a match that overlaps a new one of its rank and isn't the same.

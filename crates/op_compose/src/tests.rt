@@ -116,25 +116,33 @@ fn paired<G: Ledger>(
     })
 }
 
+/// The same, with a counter of its own.
+fn pair(op: Op, a: Rule, b: Rule, size: u64) -> Result<Option<(Match, u64, usize)>, Memory>
+    requires joins { Joins op a.tail }
+    requires level { joined_level op a.level b.level size < 2 ^ 64 }
+{
+    paired::<Brand>(op, a, b, size, Blank::new(1))
+}
+
 /// A monitor and a router, side by side.
 fn monitored_or_routed(alloc: Global) -> Result<Option<(Match, u64, usize)>, Memory> {
     let monitor = entry(alloc, monitored(), 4, Tail::Nothing)?;
     let router = entry(alloc, routed(), 4, Tail::Nothing)?;
-    paired::<Brand>(Op::Par, monitor, router, 8, Blank::new(1))
+    pair(Op::Par, monitor, router, 8)
 }
 
 /// A load balancer before an entry of a router.
 fn balanced_first(alloc: Global, right: Match) -> Result<Option<(Match, u64, usize)>, Memory> {
     let balancer = entry(alloc, balanced(), 4, Tail::Pass(to_server()))?;
     let router = entry(alloc, right, 4, Tail::Nothing)?;
-    paired::<Brand>(Op::Seq, balancer, router, 8, Blank::new(1))
+    pair(Op::Seq, balancer, router, 8)
 }
 
 /// An entry that sends to link 9, and one of the peer for what comes by its port 9.
 fn over_a_link(alloc: Global) -> Result<Option<(Match, u64, usize)>, Memory> {
     let first = entry(alloc, by_port(1), 4, Tail::Link(Rewrite::new(), 9))?;
     let second = entry(alloc, by_port(9), 288, Tail::Nothing)?;
-    paired::<Brand>(Op::Hop, first, second, 512, Blank::new(1))
+    pair(Op::Hop, first, second, 512)
 }
 
 #[test]
@@ -169,16 +177,24 @@ fn lone<G: Ledger>(
     Ok((rule.m, rule.level))
 }
 
+/// The same, with a counter of its own.
+fn alone(op: Op, side: Side, a: Rule, size: u64) -> Result<(Match, u64), Memory>
+    requires alone { StandsAlone op side a }
+    requires level { alone_level op side a.level size < 2 ^ 64 }
+{
+    lone::<Brand>(op, side, a, size, Blank::new(1))
+}
+
 /// A firewall's rule, over or under another's.
 fn overriding(alloc: Global, side: Side) -> Result<(Match, u64), Memory> {
     let rule = entry(alloc, monitored(), 4, Tail::Nothing)?;
-    lone::<Brand>(Op::Over, side, rule, 8, Blank::new(1))
+    alone(Op::Over, side, rule, 8)
 }
 
 /// A rule that stays at its node.
 fn ended(alloc: Global) -> Result<(Match, u64), Memory> {
     let rule = entry(alloc, by_port(1), 1, Tail::Nothing)?;
-    lone::<Brand>(Op::Hop, Side::Left, rule, 512, Blank::new(1))
+    alone(Op::Hop, Side::Left, rule, 512)
 }
 
 #[test]

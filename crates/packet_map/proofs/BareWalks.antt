@@ -1,13 +1,13 @@
 -- What walks don't look at, and the entry that a table finds.
-use Rattle.std.proofs.Common.{◌≡◌, ℕ, Bool, true, false, List, [], ◌∷◌, Option, Some, None, refl, ap, ◌∙◌, sym}
-use Rattle.std.specs.Prelude.{map, slice_get, option_map, if◌then◌else◌, nat_lt}
+use Rattle.std.proofs.Common.{◌≡◌, ℕ, Bool, true, false, List, Option, Some, None, refl, ap, ◌∙◌, sym}
+use Rattle.std.specs.Prelude.{map, slice_get, option_map, if◌then◌else◌}
 use Rattle.std.proofs.lemmas.Option.{slice_get-map}
 use Rattle.of10_match.specs.Fields.{HeaderOf}
 use Rattle.of10_match.specs.Matching.{holds}
 use Rattle.of10_actions.specs.declared.effects.PortView.{PortView}
-use Rattle.member_table.specs.Best.{best_entry as best_of_table, higher as higher_of_table}
+use Rattle.member_table.specs.Best.{best_entry as best_of_table}
 use Rattle.member_table.specs.declared.entry.Entry.{Entry}
-use Rattle.policy_meaning.specs.Leaf.{best_entry, by_entry, higher, is_inside, leaf_meaning, outside}
+use Rattle.policy_meaning.specs.Leaf.{best_entry, by_entry, is_inside, leaf_meaning, outside}
 use Rattle.policy_meaning.specs.Meaning.{evaluate}
 use Rattle.policy_meaning.specs.Networks.{ground_of, switch_links, switch_meaning, switch_spread, table_meaning}
 use Rattle.policy_meaning.specs.Switches.{SwitchOf}
@@ -16,6 +16,7 @@ use Rattle.policy_meaning.specs.declared.leaf.LeafEntry.{LeafEntry}
 use Rattle.policy_meaning.specs.declared.leaf.LeafTable.{LeafTable}
 use Rattle.policy_meaning.specs.declared.meaning.Meaning.{Meaning}
 use Rattle.policy_meaning.specs.declared.network.Network.{Network}
+use Rattle.policy_meaning.proofs.Highest.{highest-map}
 use Rattle.packet_map.specs.Bare.{BestIsTheLeafs, WalksAreBare, bare, bare_entry, bare_switch, bare_table}
 use Rattle.packet_map.specs.Networks.{LevelsOf, leaf_entry}
 
@@ -24,42 +25,16 @@ module _ (levels : LevelsOf) (i : ℕ) (view : PortView) (h : HeaderOf) where
   abbrev of : Entry → LeafEntry
   of e = leaf_entry levels i view e
 
-  picked : (b : Bool) (e d : Entry) → Some (if b then of d else of e) ≡ option_map of (if b then Some d else Some e)
-  picked true e d = refl
-  picked false e d = refl
-
-  raised : (e : Entry) (o : Option Entry) → higher (of e) (option_map of o) ≡ option_map of (higher_of_table e o)
-  raised e None = refl
-  raised e (Some d) = picked (nat_lt e.rank d.rank) e d
-
-  taken : (b : Bool) (e : Entry) (o : Option Entry) → (if b then higher (of e) (option_map of o) else option_map of o) ≡ option_map of (if b then higher_of_table e o else o)
-  taken true e o = raised e o
-  taken false e o = refl
-
   pub best-of : (es : List Entry) → best_entry (map of es) h ≡ option_map of (best_of_table es h)
-  best-of [] = refl
-  best-of (e ∷ es) = rw (best-of es) (taken (holds e.normal h) e (best_of_table es h))
+  best-of = highest-map of (λ (e : LeafEntry). holds e.m h) (λ (e : LeafEntry). e.rank)
 
 pub best_is_the_leafs : BestIsTheLeafs
 best_is_the_leafs levels i view es h = best-of levels i view h es
 
 -- of entries without levels
 module _ (h : HeaderOf) where
-  chosen : (b : Bool) (e d : LeafEntry) → Some (if b then bare_entry d else bare_entry e) ≡ option_map bare_entry (Some (if b then d else e))
-  chosen true e d = refl
-  chosen false e d = refl
-
-  above : (e : LeafEntry) (o : Option LeafEntry) → higher (bare_entry e) (option_map bare_entry o) ≡ option_map bare_entry (higher e o)
-  above e None = refl
-  above e (Some d) = chosen (nat_lt e.rank d.rank) e d
-
-  found : (b : Bool) (e : LeafEntry) (o : Option LeafEntry) → (if b then higher (bare_entry e) (option_map bare_entry o) else option_map bare_entry o) ≡ option_map bare_entry (if b then higher e o else o)
-  found true e o = above e o
-  found false e o = refl
-
   pub best-bare : (es : List LeafEntry) → best_entry (map bare_entry es) h ≡ option_map bare_entry (best_entry es h)
-  best-bare [] = refl
-  best-bare (e ∷ es) = rw (best-bare es) (found (holds e.m h) e (best_entry es h))
+  best-bare = highest-map bare_entry (λ (e : LeafEntry). holds e.m h) (λ (e : LeafEntry). e.rank)
 
   by-bare : (t : LeafTable) (o : Option LeafEntry) → by_entry (bare_table t) (option_map bare_entry o) ≡ by_entry t o
   by-bare t None = refl

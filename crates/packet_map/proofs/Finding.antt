@@ -1,6 +1,6 @@
 -- What is found by number: members, virtual switches and links.
 use Rattle.std.proofs.Common.{Bor, ◌≡◌, ℕ, ◌+◌, ◌<◌, ◌^◌, arith, Bool, true, false, ◌&&◌, List, [], ◌∷◌, ◌++◌, Option, Some, None, refl, ap, ap₂, ◌∙◌, sym, subst}
-use Rattle.std.specs.Prelude.{filter_map, find, slice_get, option_map, if◌then◌else◌, ◌==◌, zip, IfSome, cond, nat_lt, All}
+use Rattle.std.specs.Prelude.{filter_map, find, slice_get, option_map, if◌then◌else◌, ◌==◌, zip, IfSome, cond, All}
 use Rattle.std.specs.Map.{lookup}
 use Rattle.std.specs.Option.{option_copied}
 use Rattle.std.specs.List.{AllByRecursion, cons_option, enumerate_from}
@@ -14,13 +14,14 @@ use Rattle.of10_actions.specs.Actions.{AreInRange}
 use Rattle.of10_actions.specs.Ports.{AreRising}
 use Rattle.grants.specs.declared.grant.Grant.{Grant}
 use Rattle.grants.specs.Ports.{sees}
-use Rattle.member_table.specs.Best.{best_entry, higher}
+use Rattle.member_table.specs.Best.{best_entry}
 use Rattle.member_table.specs.Entries.{has_serial}
 use Rattle.member_table.specs.Sound.{IsAsWritten, IsSound}
 use Rattle.member_table.specs.Tables.{Held, TableOf}
 use Rattle.member_table.specs.declared.entry.Entry.{Entry}
 use Rattle.member_table.proofs.Keyed.{each_found}
 use Rattle.policy_expr.specs.declared.expr.Expr.{Expr}
+use Rattle.policy_meaning.proofs.Highest.{highest-each}
 use Rattle.policy_meaning.proofs.Lists.{all-map}
 use Rattle.policy_meaning.specs.Hops.{peer_of}
 use Rattle.policy_meaning.specs.Leaf.{has_port}
@@ -88,20 +89,7 @@ sees-port g p = list_any-append (λ q. q == p) g.ports.outside g.ports.links
 
 -- what is true of each entry is true of the best one
 each-best : (P : Entry → Type 0) (h : HeaderOf) (es : List Entry) → AllByRecursion P es → IfSome (best_entry es h) P
-each-best P h [] a = tt
-each-best P h (e ∷ es) a = by (holds e.normal h) (best_entry es h) (each-best P h es a.1)
-  where
-    choose : (b : Bool) (d : Entry) → P d → IfSome (if b then Some d else Some e) P
-    choose true d p = p
-    choose false d p = a.0
-
-    pick : (o : Option Entry) → IfSome o P → IfSome (higher e o) P
-    pick None p = a.0
-    pick (Some d) p = choose (nat_lt e.rank d.rank) d p
-
-    by : (b : Bool) (o : Option Entry) → IfSome o P → IfSome (if b then higher e o else o) P
-    by true o p = pick o p
-    by false o p = p
+each-best P h = highest-each P (λ (e : Entry). holds e.normal h) (λ (e : Entry). e.rank)
 
 -- the entry of the best one's number is the best one
 pub best-found : (t : TableOf) (h : HeaderOf) (s : ℕ) → IsSound t → Some s ≡ option_map (λ (e : Entry). e.serial) (best_entry t.entries h) → find (has_serial s) t.entries ≡ best_entry t.entries h

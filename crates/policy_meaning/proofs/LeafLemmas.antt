@@ -3,10 +3,11 @@ use Rattle.std.proofs.Common.{◌≡◌, ℕ, ◌<◌, ◌≤◌, Bool, true, fa
 use Rattle.std.specs.Prelude.{flat_map, if◌then◌else◌, map, nat_lt}
 use Rattle.std.specs.List.{AllByRecursion}
 use Rattle.of10_match.specs.Fields.{HeaderOf, MatchOf}
+use Rattle.of10_match.specs.Highest.{higher}
 use Rattle.of10_match.specs.Matching.{holds, both}
 use Rattle.of10_match.specs.Normal.{IsNormal}
 use Rattle.of10_actions.specs.Rewriting.{no_rewrite}
-use Rattle.policy_meaning.specs.Leaf.{has_port, is_inside, best_entry, higher, by_entry, leaf_meaning, outside}
+use Rattle.policy_meaning.specs.Leaf.{has_port, is_inside, best_entry, by_entry, leaf_meaning, outside}
 use Rattle.policy_meaning.specs.LeafRules.{entry_rule, miss_rule, outside_rule, cells, in_cells, has_outside, leaf_rules, rule_met}
 use Rattle.policy_meaning.specs.Best.{EachAt, Below, IsBest, first, later, IsUntouched, IsSound, Says}
 use Rattle.policy_meaning.specs.LeafFact.{AreApart, IsSoundEntry, EachPair, IsSoundTable, LeafFact, LeafRulesAreSound}
@@ -41,7 +42,7 @@ module _ (h : HeaderOf) (t : LeafTable) where
       let lt : d.rank < e.rank = omega arith in
       (first u (best_most h s.0 e.level ((s.1 e a).down lt)), λ x ax. ax.0, λ n l. l.0)
 
-  entry-next : (e : LeafEntry) (es : List LeafEntry) (o : Option LeafEntry) → EntrySays es o → AllByRecursion (AreApart e) es → (b : Bool) → holds e.m h ≡ b → EntrySays (e ∷ es) (if b then higher e o else o)
+  entry-next : (e : LeafEntry) (es : List LeafEntry) (o : Option LeafEntry) → EntrySays es o → AllByRecursion (AreApart e) es → (b : Bool) → holds e.m h ≡ b → EntrySays (e ∷ es) (if b then higher (λ (d : LeafEntry). d.rank) e o else o)
   entry-next e es None s a true u = (first u (at-never h (Below e.level) (map (entry_rule t) es) s), λ x ax. ax.0, λ n l. l.0)
   entry-next e es (Some d) s a true u = entry-over e d es s a u (nat_lt e.rank d.rank) refl
   entry-next e es None s a false u = (λ v. true_not_false (sym v ∙ u), s)
@@ -63,7 +64,8 @@ module _ (ports : List ℕ) (t : LeafTable) (good : IsSoundTable t) where
   outer b = if b then outside_rule t ∷ [] else []
 
   module _ (h : HeaderOf) (at : has_port ports h.in_port ≡ true) where
-    none-placed : is_inside t h ≡ false → EachAt h Never placed
+    -- outside, no rule for any header holds the header
+    pub none-placed : is_inside t h ≡ false → EachAt h Never placed
     none-placed e = at-flat_map h Any Never (in_cells (cells ports t)) inside (λ x _. none-in_cells h x (cells ports t) (outside-misses ports t h at e)) (at-any h inside)
 
     outside-says : is_inside t h ≡ false → (b : Bool) → has_outside ports t ≡ b → Says h (outer b ++ placed) t.size outside

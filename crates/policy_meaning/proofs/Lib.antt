@@ -17,6 +17,7 @@ pub mod Nodes
 pub mod Plain
 pub mod Everywhere
 pub mod Entries
+pub mod Highest
 pub mod Evaluating
 pub mod Steps
 pub mod Stepping

@@ -70,7 +70,7 @@ link-there h k r to a b g p q =
     (is_pulled (hopped k r a b) a.m n r s.1 m.1, m.0)
 
 -- the rules with the port written
-at_port-holds : (h : HeaderOf) → holds (at_port h.in_port) h ≡ true
+pub at_port-holds : (h : HeaderOf) → holds (at_port h.in_port) h ≡ true
 at_port-holds h = rw (eq-eqb h.in_port h.in_port refl)
 
 met-lower : (h : HeaderOf) (n : MatchOf) (k : ℕ) (x y : Rule) → rule_met x n ≡ Some y → holds y.m h ≡ true → (holds x.m h ≡ true → x.level < k) → y.level < k
@@ -82,7 +82,7 @@ met-lower h n k x y u t low =
     omega arith
 
 -- the rules that a node starts from
-abbrev met_at : ℕ → Rule → Option Rule
+abbrev pub met_at : ℕ → Rule → Option Rule
 met_at port a = rule_met a (at_port port)
 
 pub best-met : (h : HeaderOf) (n : MatchOf) {xs : List Rule} {a : Rule} → AllByRecursion IsSound xs → holds n h ≡ true → IsBest h xs a → IsBest h (filter_map (λ x. rule_met x n) xs) (narrowed a (both a.m n))

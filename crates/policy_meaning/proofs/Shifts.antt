@@ -30,7 +30,8 @@ module _ (h : HeaderOf) (xs bs : List Rule) where
       (λ x low. shift-part k x (Below (shift_level a.level k)) h (λ e _. let l : x.level < a.level = low e in omega arith)) p)
       bs (at-below h k (shift_level a.level k) bs (omega arith) (best_most h q k lt))
 
-  none-touched : (k : ℕ) (P : Rule → Type 0) → EachAt h IsUntouched xs → EachAt h P (flat_map (shifts_with k) xs)
+  -- where no rule of the left operand acts, it makes none that holds the header
+  pub none-touched : (k : ℕ) (P : Rule → Type 0) → EachAt h IsUntouched xs → EachAt h P (flat_map (shifts_with k) xs)
   none-touched k P u = at-flat_map h IsUntouched P (shifts_with k) xs (λ x ux. shift-part k x P h (λ e t. absurd (true_not_false (sym t ∙ ux e)))) u
 
   shift-says-by : (n k : ℕ) (x y : Meaning) (p : Says h xs n x) → Says h bs k y → (t : Bool) → p.rule.touched ≡ t → Says h (flat_map (shifts_with k) xs ++ bs) (shift_size n k) (first_touched x y)

@@ -1,7 +1,8 @@
 -- What a member's table means for a header: outside, an entry's effects, or a miss.
-use Rattle.std.specs.Prelude.{ℕ, Bool, true, false, ◌==◌, ◌&&◌, nat_lt, Option, Some, None, List, [], ◌∷◌, if◌then◌else◌}
+use Rattle.std.specs.Prelude.{ℕ, Bool, true, false, ◌==◌, ◌&&◌, Option, Some, None, List, [], ◌∷◌, if◌then◌else◌}
 use Rattle.std.specs.List.{list_any}
 use Rattle.of10_match.specs.Fields.{HeaderOf}
+use Rattle.of10_match.specs.Highest.{highest}
 use Rattle.of10_match.specs.Matching.{holds}
 use Rattle.of10_actions.specs.Rewriting.{no_rewrite}
 use Rattle.of10_actions.specs.declared.effects.Out.{Out}
@@ -19,19 +20,9 @@ has_port ports p = list_any (λ q. q == p) ports
 abbrev pub is_inside : LeafTable → HeaderOf → Bool
 is_inside t h = list_any (λ box. holds box h) t.region && has_port t.visible h.in_port
 
--- of two entries the one of the higher rank, and of one rank the first
-abbrev pub pick : LeafEntry → LeafEntry → LeafEntry
-pick d e = if nat_lt d.rank e.rank then e else d
-
--- the entry, or a later one of a higher rank
-abbrev pub higher : LeafEntry → Option LeafEntry → Option LeafEntry
-higher e None = Some e
-higher e (Some d) = Some (pick e d)
-
 -- the entry of the highest rank that holds the header
 abbrev pub best_entry : List LeafEntry → HeaderOf → Option LeafEntry
-best_entry [] h = None
-best_entry (e ∷ es) h = if holds e.m h then higher e (best_entry es h) else best_entry es h
+best_entry es h = highest (λ (e : LeafEntry). holds e.m h) (λ (e : LeafEntry). e.rank) es
 
 -- nothing is done
 abbrev pub outside : Meaning

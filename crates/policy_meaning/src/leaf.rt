@@ -4,7 +4,8 @@ ghost use Rattle.std.specs.Option.{option_copied};
 ghost use Rattle.std.specs.List.{list_any};
 ghost use Rattle.of10_match.specs.Matching.{holds as holds_of};
 ghost use Rattle.policy_meaning.specs.Fitting.{IsFittingTable};
-ghost use Rattle.policy_meaning.specs.Leaf.{best_entry as best_entry_of, has_port as has_port_of, is_inside as is_inside_of, leaf_meaning as leaf_meaning_of, miss_outs as miss_outs_of, pick as pick_of};
+ghost use Rattle.of10_match.specs.Highest.{pick as pick_of};
+ghost use Rattle.policy_meaning.specs.Leaf.{best_entry as best_entry_of, has_port as has_port_of, is_inside as is_inside_of, leaf_meaning as leaf_meaning_of, miss_outs as miss_outs_of};
 
 use crate::meaning::{Meaning, outside};
 use cv_io::{Duplicate, List, Memory};
@@ -73,7 +74,7 @@ pub(crate) fn has_port(ports: &List<u16>, port: u16) -> bool
 
 /// Of two entries the one of the higher rank, and of one rank the first.
 fn pick<'a>(first: &'a LeafEntry, second: &'a LeafEntry) -> &'a LeafEntry
-    ensures { result.now ≡ pick_of first.now second.now }
+    ensures { result.now ≡ pick_of (λ e. e.rank) first.now second.now }
 {
     if first.rank < second.rank {
         second

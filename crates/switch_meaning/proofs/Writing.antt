@@ -1,7 +1,7 @@
 -- Steps of writing a list of actions.
 use Rattle.std.proofs.Common.{◌≡◌, ℕ, ◌+◌, ◌<◌, List, [], ◌∷◌, ◌++◌, Option, Some, None, length, get_or, drop, refl, ap, sym, ◌∙◌, append_assoc}
-use Rattle.std.specs.Prelude.{option_map, MatchOption, IsSomeAnd, filter, map, if◌then◌else◌, Bool, true, false}
-use Rattle.std.proofs.lemmas.List.{at_drop_more, get_or_default}
+use Rattle.std.specs.Prelude.{option_map, MatchOption, IsSomeAnd, filter, map, not, if◌then◌else◌, Bool, true, false}
+use Rattle.std.proofs.lemmas.List.{append-nil, at_drop_more, get_or_default}
 use Rattle.of10_actions.specs.declared.action.Action.{Action}
 use Rattle.of10_actions.specs.Fields.{RewriteOf}
 use Rattle.of10_actions.specs.declared.effects.Out.{Out}
@@ -59,6 +59,18 @@ same_kept false x xs = refl
 pub kept_more : {A : Type 0} (p : A → Bool) (xs : List A) (i : ℕ) (x : A) (old new all : List A) → i < length xs → x ≡ get_or xs i x →
     new ≡ old ++ (if p x then x ∷ [] else []) → old ++ filter p (drop i xs) ≡ all → new ++ filter p (drop (i + 1) xs) ≡ all
 kept_more p = gathered_more (filter p) (λ x xs. same_kept (p x) x (filter p xs))
+
+-- one item more is kept, since it is not found
+pub more_kept : {A : Type 0} (found : A → Bool) (xs : List A) (i : ℕ) (x : A) (old new all : List A) (b : Bool) → i < length xs → x ≡ get_or xs i x → b ≡ found x → b ≡ false →
+    new ≡ old ++ x ∷ [] → old ++ filter (λ y. not (found y)) (drop i xs) ≡ all → new ++ filter (λ y. not (found y)) (drop (i + 1) xs) ≡ all
+more_kept found xs i x old new all b lt is says absent added =
+    kept_more (λ y. not (found y)) xs i x old new all lt is (added ∙ sym (ap (λ c. old ++ (if c then x ∷ [] else [])) (ap not (sym says ∙ absent))))
+
+-- it is found, and left out
+pub none_kept : {A : Type 0} (found : A → Bool) (xs : List A) (i : ℕ) (x : A) (old new all : List A) (b : Bool) → i < length xs → x ≡ get_or xs i x → b ≡ found x → b ≡ true →
+    new ≡ old → old ++ filter (λ y. not (found y)) (drop i xs) ≡ all → new ++ filter (λ y. not (found y)) (drop (i + 1) xs) ≡ all
+none_kept found xs i x old new all b lt is says present same =
+    kept_more (λ y. not (found y)) xs i x old new all lt is (same ∙ (sym (append-nil old) ∙ sym (ap (λ c. old ++ (if c then x ∷ [] else [])) (ap not (sym says ∙ present)))))
 
 -- what is made of one item more, if it passes
 made_more : {A B : Type 0} (f : A → B) (p : A → Bool) (xs : List A) (i : ℕ) (x : A) (old new all : List B) → i < length xs → x ≡ get_or xs i x →

@@ -5,6 +5,7 @@ pub mod Firing
 pub mod Wirings
 pub mod Following
 pub mod Choosing
+pub mod InsideChoosing
 pub mod Placing
 pub mod Fixed
 pub mod Keys

@@ -1,7 +1,10 @@
 //! The entry that a switch uses for a packet.
-ghost use Rattle.std.specs.Prelude.{◌≡◌};
+ghost use Rattle.std.specs.Prelude.{◌≡◌, ◌∷◌, []};
 ghost use Rattle.std.specs.Option.{option_copied};
-ghost use Rattle.switch_meaning.specs.Choosing.{better as better_of, height_of, highest};
+ghost use Rattle.of10_match.specs.Highest.{highest};
+ghost use Rattle.of10_match.specs.Matching.{holds};
+ghost use Rattle.switch_meaning.specs.Choosing.{chosen_entry, height_of};
+ghost use Rattle.switch_meaning.specs.InsideChoosing.{after};
 ghost use Rattle.switch_meaning.specs.MayUse.{MayUse};
 
 use crate::entry::FlowEntry;
@@ -23,7 +26,7 @@ pub fn usable<'a>(
     header: &Header,
     reading: Reading,
 ) -> Option<&'a FlowEntry>
-    ensures value { option_copied result ≡ highest reading table.now header.now }
+    ensures value { option_copied result ≡ chosen_entry reading table.now header.now }
     ensures may_use { MayUse table.now header.now (option_copied result) }
 {
     let mut best = None;
@@ -40,7 +43,8 @@ fn better<'a>(
     header: &Header,
     reading: Reading,
 ) -> Option<&'a FlowEntry>
-    ensures { option_copied result ≡ better_of reading header.now (option_copied best.entry) entry.now }
+    ensures { option_copied result ≡ after (height_of reading) (option_copied best.entry)
+        (highest (λ e. holds e.m header.now) (height_of reading) (entry.now ∷ [])) }
 {
     if !entry.m.holds(header) {
         return best;

@@ -1,6 +1,6 @@
 //! Where a packet gets to over cables.
 ghost use Rattle.std.specs.Prelude.{◌≡◌, ℕ, List, [], IfOk, OnOk};
-ghost use Rattle.switch_meaning.specs.Choosing.{chosen, highest};
+ghost use Rattle.switch_meaning.specs.Choosing.{chosen, chosen_entry};
 ghost use Rattle.switch_meaning.specs.Firing.{copied, fire_entry};
 ghost use Rattle.switch_meaning.specs.Following.{both_seen, copies_at, follow as follow_of, goes_out};
 ghost use Rattle.switch_meaning.specs.Tables.{AreTablesInRange, IsTableInRange};
@@ -121,7 +121,7 @@ fn fire_by(
     reading: Reading,
 ) -> Result<Fired, Memory>
     requires { IsTableInRange table.now }
-    ensures { IfOk result (λ fired. fired ≡ fire_entry (highest reading table.now header.now) header.now) }
+    ensures { IfOk result (λ fired. fired ≡ fire_entry (chosen_entry reading table.now header.now) header.now) }
 {
     match usable(table, header, reading) {
         Some(entry) => fire(alloc, &entry.actions, header),

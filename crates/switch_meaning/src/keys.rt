@@ -5,8 +5,7 @@ ghost use Rattle.switch_meaning.specs.Keys.{displaces as displaces_of, installed
 ghost use Rattle.switch_meaning.specs.declared.entry.PhysEntry.{PhysEntry};
 
 use crate::entry::PhysEntry;
-use crate::push::push_if;
-use cv_io::{List, Memory};
+use cv_io::{Duplicate, List, Memory};
 use std::alloc::Global;
 
 /// Of several entries with one key the one with the smallest ancestry.
@@ -15,7 +14,9 @@ pub fn one_per_key(alloc: Global, entries: &List<PhysEntry>) -> Result<List<Phys
 {
     let mut kept = List::new(alloc);
     for entry in entries.as_slice() {
-        push_if(&mut kept, !is_displaced(entries, entry), entry)?;
+        if !is_displaced(entries, entry) {
+            kept.push(entry.copy()?)?;
+        }
     }
     Ok(kept)
 }
@@ -34,7 +35,9 @@ fn passing(alloc: Global, entries: &List<PhysEntry>) -> Result<List<PhysEntry>, 
 {
     let mut kept = List::new(alloc);
     for entry in entries.as_slice() {
-        push_if(&mut kept, !is_passed(entries, entry), entry)?;
+        if !is_passed(entries, entry) {
+            kept.push(entry.copy()?)?;
+        }
     }
     Ok(kept)
 }

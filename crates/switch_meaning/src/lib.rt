@@ -14,7 +14,6 @@ pub mod following;
 pub mod keys;
 pub mod laws;
 pub mod placing;
-mod push;
 pub mod ranges;
 pub mod table;
 pub mod wiring;

@@ -7,7 +7,6 @@ ghost use Rattle.of10_actions.specs.declared.effects.Out.{Out};
 ghost use Rattle.switch_meaning.specs.Placing.{actions_from, actions_of as actions_of_of, entry_of, field_sets as field_sets_of, ingress_of as ingress_of_of, is_silent as is_silent_of, is_telling as is_telling_of, going, match_written as match_written_of, outs_written as outs_written_of, retag as retag_of, set_unless, sets, tells as tells_of, untagged as untagged_of, way_across as way_across_of, way_of as way_of_of, way_to as way_to_of, written_port as written_port_of};
 
 use crate::entry::{FlatRule, PhysEntry, Site};
-use crate::push::push_if;
 use crate::wiring::{Outside, Wiring};
 use cv_io::{Duplicate, List, Memory};
 use of10_actions::port::{CONTROLLER, IN_PORT};
@@ -282,7 +281,9 @@ fn spoken(
 {
     let mut kept = List::new(alloc);
     for out in outs.as_slice() {
-        push_if(&mut kept, !is_silent(v, in_port, out.dest), out)?;
+        if !is_silent(v, in_port, out.dest) {
+            kept.push(*out)?;
+        }
     }
     Ok(kept)
 }

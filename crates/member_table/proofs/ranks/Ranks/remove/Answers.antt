@@ -1,26 +1,20 @@
-use Rattle.std.proofs.Common.{◌∙◌, ◌==◌, sym, ap, subst, filter, find, not, option_map, count_by}
+use Rattle.std.proofs.Common.{◌∙◌, sym, ap, subst, filter, find, not, nat_eq, option_map, count_by}
+use Rattle.indexmap.specs.IndexMap.{get}
 use Rattle.match_index.specs.InsideGroups.{SameItems}
 use Rattle.match_index.specs.Items.{has_id}
 use Rattle.match_index.specs.declared.item.Item.{Item}
 use Rattle.member_table.specs.InsideRanking.{RanksOf}
 use Rattle.member_table.proofs.Counts.{left_by_id}
 use Rattle.member_table.proofs.Lists.{filter-none, none_mapped}
-use Rattle.member_table.proofs.Ranking.{any_ranked, once_id, rank_there, ranked_less}
+use Rattle.member_table.proofs.Ranking.{counted_less, once_id}
 use Rattle.member_table.proofs.ranks.Ranks.remove.Goals as goal
-
-pub forget-requires-clause-there : goal.forget-requires-clause-there
-forget-requires-clause-there c =
-    let items = c.self.inside.index.items in
-    let q = has_id c.args.serial in
-    let found = c.in-Some.ensures ∙ ap (λ (o : RanksOf). option_map (λ (e : Item). e.rank) (find q o.items)) (sym c.self.view_is) in
-    any_ranked (λ r. c.in-Some.rank == r) c.self.inside.ranks.items items c.self.invariant ∙ rank_there q c.in-Some.rank items found
 
 pub invariant_of-self : goal.invariant_of-self
 invariant_of-self c =
     let items = c.self.inside.index.items in
     let q = has_id c.args.serial in
     let found = c.in-Some.ensures ∙ ap (λ (o : RanksOf). option_map (λ (e : Item). e.rank) (find q o.items)) (sym c.self.view_is) in
-    ranked_less q c.in-Some.rank c.self.inside.ranks.items c.forget.new.ranks.items items c.remove.new.self.items c.self.invariant c.forget.ensures.fall c.forget.ensures.items found c.remove.ensures.items
+    counted_less q c.in-Some.rank (get nat_eq c.self.inside.counts) (get nat_eq c.forget.new.counts) items c.remove.new.self.items c.self.invariant c.forget.ensures.counted found c.remove.ensures.items
 
 pub returns-in-Some-clause-items : goal.returns-in-Some-clause-items
 returns-in-Some-clause-items c =
