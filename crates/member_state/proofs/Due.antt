@@ -78,26 +78,26 @@ among_rising (k ∷ ks) n = among_inserted n k (rising ks) ∙ ap (λ b. (k == n
 
 above_inserted : (x k : ℕ) (ks : List ℕ) → x < k → AllByRecursion (λ y. x < y) ks → AllByRecursion (λ y. x < y) (inserted k ks)
 above_inserted x k [] less a = (less, tt)
-above_inserted x k (j ∷ js) less a = by (nat_le k j)
+above_inserted x k (j ∷ js) less a = by (above_inserted x k js less a.1) (nat_le k j)
   where
-    by : (b : Bool) → AllByRecursion (λ y. x < y) (if b then k ∷ j ∷ js else j ∷ inserted k js)
-    by true = (less, a.0, a.1)
-    by false = (a.0, above_inserted x k js less a.1)
+    by : AllByRecursion (λ y. x < y) (inserted k js) → (b : Bool) → AllByRecursion (λ y. x < y) (if b then k ∷ j ∷ js else j ∷ inserted k js)
+    by more true = (less, a.0, a.1)
+    by more false = (a.0, more)
 
 inserted_rises : (k : ℕ) (ks : List ℕ) → is_among ks k ≡ false → Rises ks → Rises (inserted k ks)
 inserted_rises k [] n r = (tt, tt)
-inserted_rises k (j ∷ js) n r = by (j == k) refl n (nat_le k j) refl
+inserted_rises k (j ∷ js) n r = by (λ m. inserted_rises k js m r.1) (j == k) refl n (nat_le k j) refl
   where
-    by : (c : Bool) → (j == k) ≡ c → (c || is_among js k) ≡ false → (b : Bool) → nat_le k j ≡ b → Rises (if b then k ∷ j ∷ js else j ∷ inserted k js)
-    by true e m b t = absurd (true≢false m)
-    by false e m true t =
+    by : (is_among js k ≡ false → Rises (inserted k js)) → (c : Bool) → (j == k) ≡ c → (c || is_among js k) ≡ false → (b : Bool) → nat_le k j ≡ b → Rises (if b then k ∷ j ∷ js else j ∷ inserted k js)
+    by more true e m b t = absurd (true≢false m)
+    by more false e m true t =
         let le : k ≤ j = leb-true k j t in
         let other : j ≡ k → ⊥ = λ s. true≢false (sym (eq-eqb j k s) ∙ e) in
         let less : k < j = omega arith in
         ((less, weaker k j js less r.0), r)
-    by false e m false t =
+    by more false e m false t =
         let less : j < k = leb_false k j t in
-        (above_inserted j k js less r.0, inserted_rises k js m r.1)
+        (above_inserted j k js less r.0, more m)
 
 none_among : (k : ℕ) (ks : List ℕ) → AllByRecursion (λ y. (k == y) ≡ false) ks → is_among ks k ≡ false
 none_among k [] a = refl
@@ -113,21 +113,20 @@ not_above : (x : ℕ) (ys : List ℕ) → AllByRecursion (λ y. x < y) ys → is
 not_above x [] a = refl
 not_above x (y ∷ ys) a = let less : x < y = a.0 in rw (ne_eqb y x (λ s. absurd (omega arith)), not_above x ys a.1) refl
 
-at_least : (y n : ℕ) (ys : List ℕ) → AllByRecursion (λ z. y < z) ys → is_among (y ∷ ys) n ≡ true → y ≤ n
-at_least y n ys a h = by (y == n) refl (is_among ys n) refl h
+above : (y n : ℕ) (zs : List ℕ) → AllByRecursion (λ z. y < z) zs → is_among zs n ≡ true → y < n
+above y n [] b t = absurd (true≢false (sym t))
+above y n (z ∷ zs) b t = found (λ k. above y n zs b.1 k) (z == n) refl t
   where
-    above : (zs : List ℕ) → AllByRecursion (λ z. y < z) zs → is_among zs n ≡ true → y < n
-    above [] b t = absurd (true≢false (sym t))
-    above (z ∷ zs) b t = found (z == n) refl t
-      where
-        found : (c : Bool) → (z == n) ≡ c → (c || is_among zs n) ≡ true → y < n
-        found true e t = let same : z ≡ n = eqb-true z n e in let less : y < z = b.0 in omega arith
-        found false e t = above zs b.1 t
+    found : (is_among zs n ≡ true → y < n) → (c : Bool) → (z == n) ≡ c → (c || is_among zs n) ≡ true → y < n
+    found more true e t = let same : z ≡ n = eqb-true z n e in let less : y < z = b.0 in omega arith
+    found more false e t = more t
 
-    by : (b : Bool) → (y == n) ≡ b → (c : Bool) → is_among ys n ≡ c → (b || c) ≡ true → y ≤ n
-    by true e c f t = let same : y ≡ n = eqb-true y n e in omega arith
-    by false e true f t = let less : y < n = above ys a f in omega arith
-    by false e false f t = absurd (true≢false (sym t))
+at_least : (y n : ℕ) (ys : List ℕ) → AllByRecursion (λ z. y < z) ys → is_among (y ∷ ys) n ≡ true → y ≤ n
+at_least y n ys a h = by (y == n) refl h
+  where
+    by : (b : Bool) → (y == n) ≡ b → (b || is_among ys n) ≡ true → y ≤ n
+    by true e t = let same : y ≡ n = eqb-true y n e in omega arith
+    by false e t = let less : y < n = above y n ys a t in omega arith
 
 self_among : (x : ℕ) (xs : List ℕ) → is_among (x ∷ xs) x ≡ true
 self_among x xs = rw (eq-eqb x x refl) refl

@@ -143,11 +143,11 @@ module _ (i : ℕ) (g : Grant) (x : MemberStateOf) (good : IsSoundGrant g) (stat
 -- ports among those that are visible
 among : (ports visible : List ℕ) → AllByRecursion (λ p. has_port ports p ≡ true) visible → (q : ℕ) → has_port visible q ≡ true → has_port ports q ≡ true
 among ports [] a q h = absurd (true≢false (sym h))
-among ports (p ∷ ps) a q h = by (p == q) refl h
+among ports (p ∷ ps) a q h = by (λ t. among ports ps a.1 q t) (p == q) refl h
   where
-    by : (b : Bool) → (p == q) ≡ b → (b || has_port ps q) ≡ true → has_port ports q ≡ true
-    by true e t = ap (has_port ports) (sym (eqb-true p q e)) ∙ a.0
-    by false e t = among ports ps a.1 q t
+    by : (has_port ps q ≡ true → has_port ports q ≡ true) → (b : Bool) → (p == q) ≡ b → (b || has_port ps q) ≡ true → has_port ports q ≡ true
+    by more true e t = ap (has_port ports) (sym (eqb-true p q e)) ∙ a.0
+    by more false e t = more t
 
 pub leaf_keeps_to : (i : ℕ) (g : Grant) (v : PortView) (x : MemberStateOf) (ports : List ℕ) → IsSoundGrant g → AreWithin g v x → AllByRecursion (λ p. has_port ports p ≡ true) (g.ports.outside ++ g.ports.links) → KeepsTo ports (leaf_of i g x)
 leaf_keeps_to i g v x ports good within visible = record {

@@ -66,7 +66,7 @@ rank_committed t c rank =
 -- the rank of an entry that goes is among the ranks of those that go
 pub among_ranks : (es : List Entry) (e : Entry) (serials : List ℕ) → find (has_serial e.serial) es ≡ Some e → is_among serials e.serial ≡ true → is_among (ranks_of es serials) e.rank ≡ true
 among_ranks es e [] f h = absurd (true≢false (sym h))
-among_ranks es e (s ∷ ss) f h = by (s == e.serial) refl h
+among_ranks es e (s ∷ ss) f h = by (λ g. among_ranks es e ss f g) (s == e.serial) refl h
   where
     more : (o : Option Entry) → is_among (ranks_of es ss) e.rank ≡ true → is_among (cons_option (option_map (λ (x : Entry). x.rank) o) (ranks_of es ss)) e.rank ≡ true
     more None r = r
@@ -76,30 +76,28 @@ among_ranks es e (s ∷ ss) f h = by (s == e.serial) refl h
     here None g = absurd (cc)
     here (Some x) g = let same : x ≡ e = cc in or_left (x.rank == e.rank) (is_among (ranks_of es ss) e.rank) (eq-eqb x.rank e.rank (ap (λ (y : Entry). y.rank) same))
 
-    by : (b : Bool) → (s == e.serial) ≡ b → (b || is_among ss e.serial) ≡ true → is_among (ranks_of es (s ∷ ss)) e.rank ≡ true
-    by true t g = here (find (has_serial s) es) (ap (λ n. find (has_serial n) es) (eqb-true s e.serial t) ∙ f)
-    by false t g = more (find (has_serial s) es) (among_ranks es e ss f g)
+    by : (is_among ss e.serial ≡ true → is_among (ranks_of es ss) e.rank ≡ true) → (b : Bool) → (s == e.serial) ≡ b → (b || is_among ss e.serial) ≡ true → is_among (ranks_of es (s ∷ ss)) e.rank ≡ true
+    by later true t g = here (find (has_serial s) es) (ap (λ n. find (has_serial n) es) (eqb-true s e.serial t) ∙ f)
+    by later false t g = more (find (has_serial s) es) (later g)
 
 -- a rank that an entry has is that of one that stays, or is among those of the ones that go
 pub stays_or_goes : (all : List Entry) (removed : List ℕ) (place : Option ℕ) (rank : ℕ) (es : List Entry) → AllByRecursion (λ (e : Entry). find (has_serial e.serial) all ≡ Some e) es
     → list_any (has_rank rank) es ≡ true → (list_any (λ e. stays removed place e && has_rank rank e) es || is_among (ranks_of all removed) rank) ≡ true
 stays_or_goes all removed place rank [] a h = absurd (true≢false (sym h))
-stays_or_goes all removed place rank (e ∷ es) a h = by (has_rank rank e) refl h
+stays_or_goes all removed place rank (e ∷ es) a h = by (λ g. stays_or_goes all removed place rank es a.1 g) (has_rank rank e) refl h
   where
-    rest = list_any (λ x. stays removed place x && has_rank rank x) es
-
-    gone : (c : Bool) (n : Bool) → is_among removed e.serial ≡ c → has_rank rank e ≡ true → (((not c || n) && true) || rest || is_among (ranks_of all removed) rank) ≡ true
+    gone : (c : Bool) (n : Bool) → is_among removed e.serial ≡ c → has_rank rank e ≡ true → (((not c || n) && true) || list_any (λ x. stays removed place x && has_rank rank x) es || is_among (ranks_of all removed) rank) ≡ true
     gone true true t r = refl
-    gone true false t r = or_right rest (is_among (ranks_of all removed) rank) (ap (is_among (ranks_of all removed)) (eqb-true rank e.rank r) ∙ among_ranks all e removed a.0 t)
+    gone true false t r = or_right (list_any (λ x. stays removed place x && has_rank rank x) es) (is_among (ranks_of all removed) rank) (ap (is_among (ranks_of all removed)) (eqb-true rank e.rank r) ∙ among_ranks all e removed a.0 t)
     gone false n t r = refl
 
-    later : (x : Bool) → (rest || is_among (ranks_of all removed) rank) ≡ true → ((x || rest) || is_among (ranks_of all removed) rank) ≡ true
+    later : (x : Bool) → (list_any (λ x. stays removed place x && has_rank rank x) es || is_among (ranks_of all removed) rank) ≡ true → ((x || list_any (λ x. stays removed place x && has_rank rank x) es) || is_among (ranks_of all removed) rank) ≡ true
     later true r = refl
     later false r = r
 
-    by : (b : Bool) → has_rank rank e ≡ b → (b || list_any (has_rank rank) es) ≡ true → (((stays removed place e && has_rank rank e) || rest) || is_among (ranks_of all removed) rank) ≡ true
-    by true t g = ap (λ b. ((stays removed place e && b) || rest) || is_among (ranks_of all removed) rank) t ∙ gone (is_among removed e.serial) (is_number place e.serial) refl t
-    by false t g = later (stays removed place e && has_rank rank e) (stays_or_goes all removed place rank es a.1 g)
+    by : (list_any (has_rank rank) es ≡ true → (list_any (λ x. stays removed place x && has_rank rank x) es || is_among (ranks_of all removed) rank) ≡ true) → (b : Bool) → has_rank rank e ≡ b → (b || list_any (has_rank rank) es) ≡ true → (((stays removed place e && has_rank rank e) || list_any (λ x. stays removed place x && has_rank rank x) es) || is_among (ranks_of all removed) rank) ≡ true
+    by more true t g = ap (λ b. ((stays removed place e && b) || list_any (λ x. stays removed place x && has_rank rank x) es) || is_among (ranks_of all removed) rank) t ∙ gone (is_among removed e.serial) (is_number place e.serial) refl t
+    by more false t g = later (stays removed place e && has_rank rank e) (more g)
 
 pub stays_had : (removed : List ℕ) (place : Option ℕ) (rank : ℕ) (es : List Entry) → list_any (λ e. stays removed place e && has_rank rank e) es ≡ true → list_any (has_rank rank) es ≡ true
 stays_had removed place rank es h =

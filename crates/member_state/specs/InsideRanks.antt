@@ -1,5 +1,5 @@
 -- Ranks of entries that go, and levels that ranks lose.
-use Rattle.std.specs.Prelude.{ℕ, ◌||◌, not, List, [], Option, Some, None, filter, if◌then◌else◌}
+use Rattle.std.specs.Prelude.{◌≡◌, ℕ, ◌||◌, not, List, [], ◌∷◌, ◌++◌, Option, Some, None, filter, option_to_list, if◌then◌else◌}
 use Rattle.std.specs.List.{list_any}
 use Rattle.level_map.specs.Levels.{Levels}
 use Rattle.level_map.specs.declared.ranked.Ranked.{Ranked}
@@ -30,3 +30,15 @@ removal_planned x serials = record {
   touched = [];
   levels = x.levels;
 }
+
+-- what is planned, where the entry of a number goes too, whose rank is this one if a table has it
+abbrev pub drop_planned : ℕ → Option ℕ → Planned → Planned
+drop_planned serial rank p = record p {
+  ranks = p.ranks ++ (option_to_list rank ++ option_to_list (rank_if_added serial p.change.added));
+  dropped = p.dropped ++ serial ∷ [];
+}
+
+-- the same is planned, with more ranks whose entries may go
+pub record HasMoreRanks (old new : Planned) : Type 0 where
+  pub more : List ℕ
+  pub is : new ≡ record old { ranks = old.ranks ++ more }

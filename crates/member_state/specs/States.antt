@@ -20,6 +20,10 @@ pub record HeldState : Type 0 where
 abbrev pub held_table : HeldState → Held
 held_table h = record { table = h.state.table; room = h.room }
 
+-- the state of a table and of levels
+abbrev pub held_by : Held → Levels → HeldState
+held_by t l = record { state = record { table = t.table; levels = l }; room = t.room }
+
 -- as it opens: no entries, 2 to the power of the bits levels, and so many entries at most
 abbrev pub opening : ℕ → ℕ → MemberStateOf
 opening bits limit = record { table = record { entries = []; next = 1; limit = limit }; levels = record { size = 2 ^ bits; ranked = [] } }

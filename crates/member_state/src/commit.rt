@@ -2,7 +2,8 @@
 ghost use Rattle.std.specs.Prelude.{◌≡◌, ◌∷◌, [], IfOk, map};
 ghost use Rattle.level_map.specs.InsidePlaces.{RanksRise};
 ghost use Rattle.member_state.specs.InsideRanks.{without_unused};
-ghost use Rattle.member_state.specs.Plans.{touched_among, without_all};
+ghost use Rattle.member_state.specs.Plans.{IsReady, after_planned, touched_among, without_all};
+ghost use Rattle.member_state.specs.States.{held_by};
 
 use crate::planned::Planned;
 use crate::state::MemberState;
@@ -48,26 +49,32 @@ fn drop_all_unused(table: &Table, levels: &mut LevelMap, ranks: &[u32])
     }
 }
 
-impl MemberState {
-    ghost use Rattle.member_state.specs.Plans.{IsReady, after_planned};
+/// Makes what is planned in a table with levels.
+fn make(table: &mut Table, levels: &mut LevelMap, planned: Planned, now: u64)
+    requires { IsReady (held_by table.old levels.old) planned }
+    ensures { (held_by table.new levels.new).state ≡ after_planned (held_by table.old levels.old).state planned now }
+{
+    let Planned {
+        change,
+        ranks,
+        dropped,
+        touched,
+        levels: placed,
+    } = planned;
+    table.commit(change);
+    drop_each(table, dropped.as_slice());
+    touch_each(table, touched.as_slice(), now);
+    *levels = placed;
+    drop_all_unused(table, levels, ranks.as_slice());
+}
 
+impl MemberState {
     /// Makes what is planned, at the moment of the event. It takes no memory.
     pub fn commit(&mut self, planned: Planned, now: u64)
         requires { IsReady self.old planned }
         ensures { self.new.state ≡ after_planned self.old.state planned now }
     {
-        let Planned {
-            change,
-            ranks,
-            dropped,
-            touched,
-            levels,
-        } = planned;
-        self.table.commit(change);
-        drop_each(&mut self.table, dropped.as_slice());
-        touch_each(&mut self.table, touched.as_slice(), now);
-        self.levels = levels;
-        drop_all_unused(&self.table, &mut self.levels, ranks.as_slice());
+        make(&mut self.table, &mut self.levels, planned, now);
     }
 
     /// The state after what is planned at a moment, as a copy: what is drafted is read there.

@@ -1,25 +1,28 @@
 //! A FLOW_MOD is refused or planned.
-ghost use Rattle.std.specs.Prelude.{◌≡◌, Some, None, IfOk, IfErr, OnOk, find, option_map};
+ghost use Rattle.std.specs.Prelude.{◌≡◌, Some, None, IfOk, IfErr, OnOk, option_map};
 ghost use Rattle.of10_actions.specs.Actions.{AreInRange};
 ghost use Rattle.level_map.specs.Placing.{placing};
 ghost use Rattle.member_table.specs.Changes.{CanCommit, committed};
-ghost use Rattle.member_table.specs.Entries.{has_serial};
 ghost use Rattle.member_table.specs.Planning.{change_of};
 ghost use Rattle.member_table.specs.Refusals.{refusal};
 ghost use Rattle.member_table.specs.Tables.{after};
 ghost use Rattle.member_table.specs.declared.entry.Entry.{Entry as EntryOf};
-ghost use Rattle.member_state.specs.Changes.{levels_with as levels_with_of};
-ghost use Rattle.member_state.specs.Denials.{IsFaultOf, budget_row, table_row};
+ghost use Rattle.member_state.specs.Changes.{accepted, levels_with as levels_with_of};
+ghost use Rattle.member_state.specs.Denials.{IsFaultOf, budget_row, denial, table_row};
+ghost use Rattle.member_state.specs.Plans.{IsReady, after_planned};
+ghost use Rattle.member_state.specs.States.{IsKept, held_by};
 
+use crate::entries::ranks_of;
 use crate::fault::FlowFault;
 use crate::planned::Planned;
 use crate::state::MemberState;
-use cv_io::{Duplicate, List, Memory};
+use cv_io::Duplicate;
 use grants::{Denial, Detail, Grant, check_flow};
 use level_map::{LevelMap, PlaceFault};
 use member_table::{Change, Entry, Table, TableFault};
 use of10_actions::PortView;
 use of10_msgs::FlowMod;
+use std::alloc::Global;
 
 /// What the table refuses, as a denial.
 fn fault_of(fault: TableFault) -> FlowFault
@@ -76,32 +79,35 @@ fn place(levels: &mut LevelMap, rank: u32) -> Result<(), FlowFault>
     }
 }
 
+/// The first rule that refuses a message, or what it changes in a table with these levels.
+fn judged(
+    alloc: Global,
+    table: &mut Table,
+    levels: &LevelMap,
+    g: &Grant,
+    v: &PortView,
+    m: &FlowMod,
+    now: u64,
+) -> Result<Planned, FlowFault>
+    requires in_range { AreInRange m.now.actions }
+    requires kept { IsKept (held_by table.old levels.now).state }
+    ensures accepted { OnOk result (denial g.now v.now (held_by table.old levels.now).state m.now ≡ None) }
+    ensures change { IfOk result (λ p. p.change ≡ change_of table.old.table m.now now) }
+    ensures planned { IfOk result (λ p. after_planned (held_by table.old levels.now).state p now ≡ accepted m.now now (held_by table.old levels.now).state) }
+    ensures ready { IfOk result (IsReady (held_by table.new levels.now)) }
+    ensures fault { IfErr result (IsFaultOf (denial g.now v.now (held_by table.old levels.now).state m.now)) }
+    ensures table { table.new.table ≡ table.old.table }
+{
+    check_flow(g, v, m)?;
+    let change = plan(table, m, now)?;
+    let placed = levels_with(levels, &change.added)?;
+    let ranks = ranks_of(alloc, table, change.removed.as_slice())?;
+    // The proof learns what is true of every table.
+    let _ = table.len();
+    Ok(Planned::of(alloc, change, ranks, placed))
+}
+
 impl MemberState {
-    ghost use Rattle.member_state.specs.Changes.{accepted};
-    ghost use Rattle.member_state.specs.Denials.{denial};
-    ghost use Rattle.member_state.specs.Plans.{IsReady, after_planned, ranks_of as ranks_of_numbers};
-
-    /// The ranks of the entries of some numbers.
-    pub(crate) fn ranks_of(&self, serials: &[u64]) -> Result<List<u32>, Memory>
-        ensures { IfOk result (λ ranks. ranks ≡ ranks_of_numbers self.now.state.table.entries serials.now) }
-    {
-        let mut ranks = List::with_capacity(self.alloc, serials.len())?;
-        for serial in serials {
-            ranks.push_some(self.rank_of(*serial))?;
-        }
-        Ok(ranks)
-    }
-
-    /// The rank of the entry of a number.
-    pub(crate) fn rank_of(&self, serial: u64) -> Option<u32>
-        ensures { result ≡ option_map (λ (e : EntryOf). e.rank) (find (has_serial serial) self.now.state.table.entries) }
-    {
-        match self.table.get(serial) {
-            Some(entry) => Some(entry.rank),
-            None => None,
-        }
-    }
-
     /// Judges a FLOW_MOD of a member with this grant at a virtual switch of which `v` holds all ports: the first rule that
     /// refuses it, or what it changes. It takes all memory that the change needs, and changes nothing yet.
     pub fn judge(
@@ -119,10 +125,6 @@ impl MemberState {
         ensures fault { IfErr result (IsFaultOf (denial g.now v.now self.old.state m.now)) }
         ensures state { self.new.state ≡ self.old.state }
     {
-        check_flow(g, v, m)?;
-        let change = plan(&mut self.table, m, now)?;
-        let levels = levels_with(&self.levels, &change.added)?;
-        let ranks = self.ranks_of(change.removed.as_slice())?;
-        Ok(Planned::of(self.alloc, change, ranks, levels))
+        judged(self.alloc, &mut self.table, &self.levels, g, v, m, now)
     }
 }

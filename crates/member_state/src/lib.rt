@@ -3,6 +3,7 @@
 #![tactic(auto)]
 
 mod commit;
+mod entries;
 pub mod fault;
 mod judging;
 pub mod laws;

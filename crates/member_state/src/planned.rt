@@ -1,7 +1,7 @@
 //! What an event changes in a member's state, before it is changed.
 ghost use Rattle.std.specs.Prelude.{◌≡◌, ℕ, [], IfOk, OnOk, OnErr};
 ghost use Rattle.member_state.specs.Changes.{touched as touched_of};
-ghost use Rattle.member_state.specs.InsideRanks.{rank_if_added};
+ghost use Rattle.member_state.specs.InsideRanks.{HasMoreRanks, drop_planned, rank_if_added};
 ghost use Rattle.member_state.specs.Plans.{IsReady, after_planned};
 ghost use Rattle.member_state.specs.States.{HeldState, MemberStateOf};
 
@@ -47,6 +47,17 @@ impl Planned {
             Some(entry) if entry.serial == serial => Some(entry.rank),
             _ => None,
         }
+    }
+
+    /// Plans that the entry of a number, whose rank is this one if a table has it, goes too.
+    pub(crate) fn drop(&mut self, serial: u64, rank: Option<u32>) -> Result<(), Memory>
+        ensures dropped { OnOk result (self.new ≡ drop_planned serial rank self.old) }
+        ensures memory { OnErr result (HasMoreRanks self.old self.new) }
+    {
+        let added = self.rank_added(serial);
+        self.ranks.push_some(rank)?;
+        self.ranks.push_some(added)?;
+        self.dropped.push(serial)
     }
 
     /// Plans that the count of the entry of a number was seen to have risen.

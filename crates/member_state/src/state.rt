@@ -1,10 +1,9 @@
 //! A member's table with its levels.
-ghost use Rattle.std.specs.Prelude.{◌≡◌, ◌≤◌, IfOk, filter, find, option_to_list};
-ghost use Rattle.member_table.specs.Entries.{has_serial};
+ghost use Rattle.std.specs.Prelude.{◌≡◌, ◌≤◌};
 
-use cv_io::{Duplicate, List, Memory};
+use cv_io::{Duplicate, Memory};
 use level_map::LevelMap;
-use member_table::{Entry, Table};
+use member_table::Table;
 use std::alloc::Global;
 use std::marker::Model;
 
@@ -17,17 +16,16 @@ pub struct MemberState {
 }
 
 impl Model for MemberState {
-    ghost use Rattle.member_state.specs.States.{HeldState, IsKept};
+    ghost use Rattle.member_state.specs.States.{HeldState, IsKept, held_by};
 
     ghost Value = { HeldState };
 
-    ghost view = { λ a. record { state = record { table = a.table.table; levels = a.levels }; room = a.table.room } };
+    ghost view = { λ a. held_by a.table a.levels };
 
-    ghost invariant = { λ a. IsKept (record { table = a.table.table; levels = a.levels }) };
+    ghost invariant = { λ a. IsKept (held_by a.table a.levels).state };
 }
 
 impl MemberState {
-    ghost use Rattle.member_state.specs.Changes.{entries_of, is_told};
     ghost use Rattle.member_state.specs.States.{IsSoundState, held_table, opening};
 
     /// A state without entries, of 2 to the power of the bits levels, which may have so many entries. It takes no memory.
@@ -58,27 +56,6 @@ impl MemberState {
         ensures { result.now ≡ self.now.state.levels }
     {
         &self.levels
-    }
-
-    /// The entry of a number, copied, if it asks to be told when it is removed.
-    fn told(&self, serial: u64) -> Result<Option<Entry>, Memory>
-        ensures { IfOk result (λ entry. option_to_list entry ≡ filter is_told (option_to_list (find (has_serial serial) self.now.state.table.entries))) }
-    {
-        match self.table.get(serial) {
-            Some(entry) if entry.flags % 2 == 1 => Ok(Some(entry.copy()?)),
-            _ => Ok(None),
-        }
-    }
-
-    /// Those of the entries of some numbers that ask to be told when they are removed.
-    pub fn told_of(&self, serials: &[u64]) -> Result<List<Entry>, Memory>
-        ensures { IfOk result (λ entries. entries ≡ filter is_told (entries_of self.now.state.table.entries serials.now)) }
-    {
-        let mut entries = List::new(self.alloc);
-        for serial in serials {
-            entries.push_some(self.told(*serial)?)?;
-        }
-        Ok(entries)
     }
 }
 
