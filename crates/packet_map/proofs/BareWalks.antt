@@ -26,7 +26,7 @@ module _ (levels : LevelsOf) (i : ℕ) (view : PortView) (h : HeaderOf) where
   of e = leaf_entry levels i view e
 
   pub best-of : (es : List Entry) → best_entry (map of es) h ≡ option_map of (best_of_table es h)
-  best-of = highest-map of (λ (e : LeafEntry). holds e.m h) (λ (e : LeafEntry). e.rank)
+  best-of es = highest-map of (λ (e : LeafEntry). holds e.m h) (λ (e : LeafEntry). e.rank) es
 
 pub best_is_the_leafs : BestIsTheLeafs
 best_is_the_leafs levels i view es h = best-of levels i view h es
@@ -34,7 +34,7 @@ best_is_the_leafs levels i view es h = best-of levels i view h es
 -- of entries without levels
 module _ (h : HeaderOf) where
   pub best-bare : (es : List LeafEntry) → best_entry (map bare_entry es) h ≡ option_map bare_entry (best_entry es h)
-  best-bare = highest-map bare_entry (λ (e : LeafEntry). holds e.m h) (λ (e : LeafEntry). e.rank)
+  best-bare es = highest-map bare_entry (λ (e : LeafEntry). holds e.m h) (λ (e : LeafEntry). e.rank) es
 
   by-bare : (t : LeafTable) (o : Option LeafEntry) → by_entry (bare_table t) (option_map bare_entry o) ≡ by_entry t o
   by-bare t None = refl

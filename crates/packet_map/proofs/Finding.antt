@@ -89,7 +89,7 @@ sees-port g p = list_any-append (λ q. q == p) g.ports.outside g.ports.links
 
 -- what is true of each entry is true of the best one
 each-best : (P : Entry → Type 0) (h : HeaderOf) (es : List Entry) → AllByRecursion P es → IfSome (best_entry es h) P
-each-best P h = highest-each P (λ (e : Entry). holds e.normal h) (λ (e : Entry). e.rank)
+each-best P h es each = highest-each P (λ (e : Entry). holds e.normal h) (λ (e : Entry). e.rank) es each
 
 -- the entry of the best one's number is the best one
 pub best-found : (t : TableOf) (h : HeaderOf) (s : ℕ) → IsSound t → Some s ≡ option_map (λ (e : Entry). e.serial) (best_entry t.entries h) → find (has_serial s) t.entries ≡ best_entry t.entries h
