@@ -69,12 +69,12 @@ module _ (i : ℕ) (g : Grant) (x : MemberStateOf) (good : IsSoundGrant g) (stat
     down = higher e d q p;
   }
 
-  apart : (es : List Entry) → tables.EachPair tables.AreApart es → AllByRecursion (λ (e : Entry). is_some (level_of x.levels e.rank) ≡ true) es → EachPair AreApart (map (leaf_entry (levels_of x.levels) i g.ports) es)
-  apart [] a l = tt
-  apart (e ∷ es) a l = (
+  apart_all : (es : List Entry) → tables.EachPair tables.AreApart es → AllByRecursion (λ (e : Entry). is_some (level_of x.levels e.rank) ≡ true) es → EachPair AreApart (map (leaf_entry (levels_of x.levels) i g.ports) es)
+  apart_all [] a l = tt
+  apart_all (e ∷ es) a l = (
     all-mapped (λ (d : Entry). tables.AreApart e d × (is_some (level_of x.levels d.rank) ≡ true)) (AreApart (leaf_entry (levels_of x.levels) i g.ports e)) (leaf_entry (levels_of x.levels) i g.ports) es (λ d h. apart_pair e d h.0 l.0 h.1)
     (all-zip (tables.AreApart e) (λ (d : Entry). is_some (level_of x.levels d.rank) ≡ true) es a.0 l.1),
-    apart es a.1 l.1,
+    apart_all es a.1 l.1,
   )
 
   within_levels : (e : Entry) → is_some (level_of x.levels e.rank) ≡ true → (2 ≤ level_or_zero (level_of x.levels e.rank)) × (level_or_zero (level_of x.levels e.rank) < x.levels.size)
@@ -85,13 +85,13 @@ module _ (i : ℕ) (g : Grant) (x : MemberStateOf) (good : IsSoundGrant g) (stat
       let l = within_levels e p in
       record { above = omega (arith, l.0); below = l.1; is_normal = w.normal; builds = builds_up g.ports i e.actions (effects_of g.ports i e.actions) refl }
 
-  entries : AllByRecursion (λ (e : Entry). tables.IsAsWritten e × (is_some (level_of x.levels e.rank) ≡ true)) x.table.entries
-  entries = all-zip tables.IsAsWritten (λ (e : Entry). is_some (level_of x.levels e.rank) ≡ true) x.table.entries state.table.written levelled
+  all_entries : AllByRecursion (λ (e : Entry). tables.IsAsWritten e × (is_some (level_of x.levels e.rank) ≡ true)) x.table.entries
+  all_entries = all-zip tables.IsAsWritten (λ (e : Entry). is_some (level_of x.levels e.rank) ≡ true) x.table.entries state.table.written levelled
 
   sound_table : IsSoundTable (leaf_of i g x)
   sound_table = record {
-    apart = apart x.table.entries state.table.apart levelled;
-    entries = all-mapped (λ (e : Entry). tables.IsAsWritten e × (is_some (level_of x.levels e.rank) ≡ true)) (IsSoundEntry x.levels.size) (leaf_entry (levels_of x.levels) i g.ports) x.table.entries (λ e h. sound_entry e h.0 h.1) entries;
+    apart = apart_all x.table.entries state.table.apart levelled;
+    entries = all-mapped (λ (e : Entry). tables.IsAsWritten e × (is_some (level_of x.levels e.rank) ≡ true)) (IsSoundEntry x.levels.size) (leaf_entry (levels_of x.levels) i g.ports) x.table.entries (λ e h. sound_entry e h.0 h.1) all_entries;
     room = omega (arith, state.kept.levels.size_from);
     boxes = good.boxes;
     disjoint = good.disjoint;
@@ -122,8 +122,8 @@ module _ (i : ℕ) (g : Grant) (x : MemberStateOf) (good : IsSoundGrant g) (stat
       others [] a = tt
       others (y ∷ ys) a = (λ s. true≢false (sym (eq-eqb e.serial y.serial s) ∙ a.0), others ys a.1)
 
-  of_member : IsTableOfMember i (leaf_of i g x)
-  of_member = record {
+  is_of_member : IsTableOfMember i (leaf_of i g x)
+  is_of_member = record {
     member = refl;
     orderly = record { serials = differ x.table.entries state.table.once; boxes = good.disjoint; visible = good.visible };
     normal = record {
@@ -138,7 +138,7 @@ module _ (i : ℕ) (g : Grant) (x : MemberStateOf) (good : IsSoundGrant g) (stat
       (λ e w. effects_within g.ports i e.actions) state.table.written
 
   pub leaf_is_sound : IsSoundLeaf i g x
-  leaf_is_sound = record { sound = sound_table; fits = fits_table; in_range = ranged; of_member = of_member; within = goes_within }
+  leaf_is_sound = record { sound = sound_table; fits = fits_table; in_range = ranged; of_member = is_of_member; within = goes_within }
 
 -- ports among those that are visible
 among : (ports visible : List ℕ) → AllByRecursion (λ p. has_port ports p ≡ true) visible → (q : ℕ) → has_port visible q ≡ true → has_port ports q ≡ true

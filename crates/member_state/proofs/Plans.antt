@@ -115,20 +115,20 @@ module _ (h : HeldState) (sound : IsSound h.state.table) (kept : IsKept h.state)
   fresh_ready c l can levelling some = record {
     change = can;
     levels = levelling;
-    levelled = λ q t. some q ∙ (ap (λ b. comes_with c.added q || b) (kept.ranks q) ∙ levelled q (comes_with c.added q) (sym (there q) ∙ t));
-    left = λ q t. ap (λ b. b || is_among (ranks_of h.state.table.entries c.removed) q) (there q) ∙ left q (comes_with c.added q) (sym (some q ∙ ap (λ b. comes_with c.added q || b) (kept.ranks q)) ∙ t);
+    levelled = λ q t. some q ∙ (ap (λ b. comes_with c.added q || b) (kept.ranks q) ∙ has_level q (comes_with c.added q) (sym (there q) ∙ t));
+    left = λ q t. ap (λ b. b || is_among (ranks_of h.state.table.entries c.removed) q) (there q) ∙ has_entry q (comes_with c.added q) (sym (some q ∙ ap (λ b. comes_with c.added q || b) (kept.ranks q)) ∙ t);
   }
     where
       there : (q : ℕ) → has (without_all [] (committed h.state.table c)).entries q ≡ (comes_with c.added q || list_any (λ e. stays c.removed (replaced c.added h.state.table.entries) e && has_rank q e) h.state.table.entries)
       there q = ap (λ (t : TableOf). has t.entries q) (none_dropped (committed h.state.table c)) ∙ rank_committed h.state.table c q
 
-      levelled : (q : ℕ) (a : Bool) → (a || list_any (λ e. stays c.removed (replaced c.added h.state.table.entries) e && has_rank q e) h.state.table.entries) ≡ true → (a || has h.state.table.entries q) ≡ true
-      levelled q true t = refl
-      levelled q false t = stays_had c.removed (replaced c.added h.state.table.entries) q h.state.table.entries t
+      has_level : (q : ℕ) (a : Bool) → (a || list_any (λ e. stays c.removed (replaced c.added h.state.table.entries) e && has_rank q e) h.state.table.entries) ≡ true → (a || has h.state.table.entries q) ≡ true
+      has_level q true t = refl
+      has_level q false t = stays_had c.removed (replaced c.added h.state.table.entries) q h.state.table.entries t
 
-      left : (q : ℕ) (a : Bool) → (a || has h.state.table.entries q) ≡ true → ((a || list_any (λ e. stays c.removed (replaced c.added h.state.table.entries) e && has_rank q e) h.state.table.entries) || is_among (ranks_of h.state.table.entries c.removed) q) ≡ true
-      left q true t = refl
-      left q false t = stays_or_goes h.state.table.entries c.removed (replaced c.added h.state.table.entries) q h.state.table.entries (each_found ◌==◌ Decides-eqb (λ (e : Entry). e.serial) h.state.table.entries sound.once) t
+      has_entry : (q : ℕ) (a : Bool) → (a || has h.state.table.entries q) ≡ true → ((a || list_any (λ e. stays c.removed (replaced c.added h.state.table.entries) e && has_rank q e) h.state.table.entries) || is_among (ranks_of h.state.table.entries c.removed) q) ≡ true
+      has_entry q true t = refl
+      has_entry q false t = stays_or_goes h.state.table.entries c.removed (replaced c.added h.state.table.entries) q h.state.table.entries (each_found ◌==◌ Decides-eqb (λ (e : Entry). e.serial) h.state.table.entries sound.once) t
 
   pub removal_ready : (serials : List ℕ) → IsReady h (removal_planned h.state serials)
   removal_ready serials = fresh_ready (removing serials) h.state.levels (record { added = tt; modified = tt }) kept.levels (λ q. refl)
@@ -305,7 +305,7 @@ module _ (h : HeldState) (p : Planned) (s : ℕ) (sound : IsSound h.state.table)
     change = r.change;
     levels = r.levels;
     levelled = λ q t. r.levelled q (fewer q t);
-    left = λ q t. ap₂ (λ a b. a || b) (gone q) (list_any-append (λ k. k == q) p.ranks (option_to_list (option_map (λ (e : Entry). e.rank) (find (has_serial s) h.state.table.entries)) ++ option_to_list (rank_if_added s p.change.added))) ∙ left q (has (planned_table h.state.table p).entries q) refl (r.left q t);
+    left = λ q t. ap₂ (λ a b. a || b) (gone q) (list_any-append (λ k. k == q) p.ranks (option_to_list (option_map (λ (e : Entry). e.rank) (find (has_serial s) h.state.table.entries)) ++ option_to_list (rank_if_added s p.change.added))) ∙ remains q (has (planned_table h.state.table p).entries q) refl (r.left q t);
   }
     where
       gone : (q : ℕ) → has (without_all (p.dropped ++ s ∷ []) (committed h.state.table p.change)).entries q ≡ has (filter (λ e. not (has_serial s e)) (planned_table h.state.table p).entries) q
@@ -340,14 +340,14 @@ module _ (h : HeldState) (p : Planned) (s : ℕ) (sound : IsSound h.state.table)
       turn true b c d f k = refl
       turn false b c d f k = or_right c d (f k)
 
-      left : (q : ℕ) (a : Bool) → has (planned_table h.state.table p).entries q ≡ a → (a || is_among p.ranks q) ≡ true
+      remains : (q : ℕ) (a : Bool) → has (planned_table h.state.table p).entries q ≡ a → (a || is_among p.ranks q) ≡ true
           → (has (filter (λ e. not (has_serial s e)) (planned_table h.state.table p).entries) q
           || (is_among p.ranks q || is_among (option_to_list (option_map (λ (e : Entry). e.rank) (find (has_serial s) h.state.table.entries)) ++ option_to_list (rank_if_added s p.change.added)) q)) ≡ true
-      left q true e k =
+      remains q true e k =
           turn (has (filter (λ x. not (has_serial s x)) (planned_table h.state.table p).entries) q) (list_any (λ x. has_serial s x && has_rank q x) (planned_table h.state.table p).entries) (is_among p.ranks q)
           (is_among (option_to_list (option_map (λ (x : Entry). x.rank) (find (has_serial s) h.state.table.entries)) ++ option_to_list (rank_if_added s p.change.added)) q) (ranked q)
           (parted s q (planned_table h.state.table p).entries e)
-      left q false e k =
+      remains q false e k =
           or_right (has (filter (λ x. not (has_serial s x)) (planned_table h.state.table p).entries) q)
           (is_among p.ranks q || is_among (option_to_list (option_map (λ (x : Entry). x.rank) (find (has_serial s) h.state.table.entries)) ++ option_to_list (rank_if_added s p.change.added)) q)
           (or_left (is_among p.ranks q) (is_among (option_to_list (option_map (λ (x : Entry). x.rank) (find (has_serial s) h.state.table.entries)) ++ option_to_list (rank_if_added s p.change.added)) q) k)
