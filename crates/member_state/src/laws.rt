@@ -2,25 +2,21 @@
 ghost use Rattle.member_state.specs.Sound.{GrantsAreKept, MemberTablesAreSound, MembersKeepToPorts, PlainGrantsGivePlainTables};
 
 /// Entries stay within their grant: an accepted message keeps them so, and so does whatever goes or is touched.
-#[tactic(auto, using(crate::proofs::Within::message_within, crate::proofs::Within::time_within, crate::proofs::Within::removal_within, crate::proofs::Within::count_within))]
 pub fn grants_are_kept()
     ensures { GrantsAreKept }
 {}
 
 /// The leaf table of a sound state is as composition and agreement ask.
-#[tactic(auto, using(crate::proofs::LeafFacts::leaf_is_sound))]
 pub fn member_tables_are_sound()
     ensures { MemberTablesAreSound }
 {}
 
 /// Members name visible ports alone.
-#[tactic(auto, using(crate::proofs::LeafFacts::leaf_keeps_to))]
 pub fn members_keep_to_ports()
     ensures { MembersKeepToPorts }
 {}
 
 /// Where outputs and CONTROLLER alone are granted, a member's entries set nothing and pass nothing on.
-#[tactic(auto, using(crate::proofs::LeafFacts::leaf_is_plain))]
 pub fn plain_grants_give_plain_tables()
     ensures { PlainGrantsGivePlainTables }
 {}
