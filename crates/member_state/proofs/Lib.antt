@@ -6,5 +6,6 @@ pub mod Plans
 pub mod Rows
 pub mod Within
 pub mod Due
+pub mod LeafLists
 pub mod LeafEffects
 pub mod LeafFacts
