@@ -81,7 +81,7 @@ above_inserted x k [] less a = (less, tt)
 above_inserted x k (j ∷ js) less a = by (above_inserted x k js less a.1) (nat_le k j)
   where
     by : AllByRecursion (λ y. x < y) (inserted k js) → (b : Bool) → AllByRecursion (λ y. x < y) (if b then k ∷ j ∷ js else j ∷ inserted k js)
-    by more true = (less, a.0, a.1)
+    by more true = (less, a)
     by more false = (a.0, more)
 
 inserted_rises : (k : ℕ) (ks : List ℕ) → is_among ks k ≡ false → Rises ks → Rises (inserted k ks)

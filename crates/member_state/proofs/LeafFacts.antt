@@ -10,7 +10,7 @@ use Rattle.of10_actions.specs.Actions.{IsInRange}
 use Rattle.of10_actions.specs.Effects.{effects_of}
 use Rattle.of10_actions.specs.declared.effects.Out.{Out}
 use Rattle.of10_actions.specs.declared.effects.PortView.{PortView}
-use Rattle.of10_actions.proofs.Building.{builds_up}
+use Rattle.of10_actions.proofs.Building.{builds-up}
 use Rattle.grants.specs.Granted.{IsGranted, IsGrantedMatch, IsServed}
 use Rattle.grants.specs.Ports.{sees}
 use Rattle.grants.specs.Rows.{grants, kind_of}
@@ -83,7 +83,7 @@ module _ (i : ℕ) (g : Grant) (x : MemberStateOf) (good : IsSoundGrant g) (stat
   sound_entry : (e : Entry) → tables.IsAsWritten e → is_some (level_of x.levels e.rank) ≡ true → IsSoundEntry x.levels.size (leaf_entry (levels_of x.levels) i g.ports e)
   sound_entry e w p =
       let l = within_levels e p in
-      record { above = omega (arith, l.0); below = l.1; is_normal = w.normal; builds = builds_up g.ports i e.actions (effects_of g.ports i e.actions) refl }
+      record { above = omega (arith, l.0); below = l.1; is_normal = w.normal; builds = builds-up g.ports i e.actions (effects_of g.ports i e.actions) refl }
 
   all_entries : AllByRecursion (λ (e : Entry). tables.IsAsWritten e × (is_some (level_of x.levels e.rank) ≡ true)) x.table.entries
   all_entries = all-zip tables.IsAsWritten (λ (e : Entry). is_some (level_of x.levels e.rank) ≡ true) x.table.entries state.table.written levelled

@@ -245,7 +245,7 @@ put_ranked s q new (e ∷ es) h = by (λ k. put_ranked s q new es k) (is_at (ide
     by : (list_any (λ x. has_serial s x && has_rank q x) (put new es) ≡ true → ((has_serial s new && has_rank q new) || list_any (λ x. has_serial s x && has_rank q x) es) ≡ true)
         → (b : Bool) → list_any (λ x. has_serial s x && has_rank q x) (if b then new ∷ es else e ∷ put new es) ≡ true → ((has_serial s new && has_rank q new) || ((has_serial s e && has_rank q e) || list_any (λ x. has_serial s x && has_rank q x) es)) ≡ true
     by later true k = skip (has_serial s new && has_rank q new) (has_serial s e && has_rank q e) (list_any (λ x. has_serial s x && has_rank q x) es) k
-    by false k = turn (has_serial s new && has_rank q new) (has_serial s e && has_rank q e) (list_any (λ x. has_serial s x && has_rank q x) (put new es)) (list_any (λ x. has_serial s x && has_rank q x) es) (put_ranked s q new es) k
+    by later false k = turn (has_serial s new && has_rank q new) (has_serial s e && has_rank q e) (list_any (λ x. has_serial s x && has_rank q x) (put new es)) (list_any (λ x. has_serial s x && has_rank q x) es) later k
 
 -- a rank that one entry of these has is that of one without the number, or of one with it
 parted : (s q : ℕ) (es : List Entry) → has es q ≡ true → (has (filter (λ e. not (has_serial s e)) es) q || list_any (λ e. has_serial s e && has_rank q e) es) ≡ true

@@ -1,5 +1,5 @@
 -- A member of three bits, its ranks and its denials, computed.
-use Rattle.std.specs.Prelude.{◌≡◌, ℕ, Option, Some, None, List, [], ◌∷◌, map}
+use Rattle.std.specs.Prelude.{◌≡◌, ℕ, true, false, Option, Some, None, List, [], ◌∷◌, map}
 use Rattle.of10_match.specs.Fields.{MatchOf}
 use Rattle.of10_match.specs.Matching.{everything}
 use Rattle.of10_match.specs.Wildcards.{match_bytes}
@@ -19,7 +19,16 @@ abbrev pub ports : PortView
 ports = record { v = 0; outside = 1 ∷ 2 ∷ 3 ∷ 4 ∷ []; links = [] }
 
 abbrev pub grant : Grant
-grant = record { fields = 0xfff; src_max = 32; dst_max = 32; actions = 0x7ff; ports = ports; regions = everything ∷ []; misses = true; packet_out = false }
+grant = record {
+  fields = 0xfff;
+  src_max = 32;
+  dst_max = 32;
+  actions = 0x7ff;
+  ports = ports;
+  regions = everything ∷ [];
+  misses = true;
+  packet_out = false;
+}
 
 -- IPv4 packets to an address, and from one
 abbrev pub going_to : ℕ → ℕ → MatchOf
@@ -70,7 +79,9 @@ abbrev pub six : MemberStateOf
 six = after_all (at 10 ∷ at 20 ∷ at 30 ∷ at 40 ∷ at 50 ∷ at 60 ∷ []) opened
 
 abbrev pub SixRanksFit : Type 0
-SixRanksFit = (denial grant ports six (at 70) ≡ Some (denial_of (Budget 6 6))) × (denial grant ports six (at 60) ≡ None)
+SixRanksFit =
+    (denial grant ports six (at 70) ≡ Some (denial_of (Budget 6 6)))
+    × (denial grant ports six (at 60) ≡ None)
 
 -- after the deletion of one, the seventh fits
 abbrev pub five : MemberStateOf
@@ -86,9 +97,10 @@ abbrev pub full : MemberStateOf
 full = accepted (message 0 100 (going_to 0x0a000000 8)) 100 (opening 2 1)
 
 abbrev pub OverlapComesFirst : Type 0
-OverlapComesFirst = denial grant ports full (message 0 100 (coming_from 0x0a000000 8)) ≡ Some (denial_of (Overlap 1))
+OverlapComesFirst =
+    denial grant ports full (message 0 100 (coming_from 0x0a000000 8)) ≡ Some (denial_of (Overlap 1))
 
--- a rank of which the last entry goes loses its level, by its time or alone, and one of which an entry stays keeps it
+-- a rank of which the last entry goes loses its level, by its time or alone; one of which an entry stays keeps it
 abbrev pub both : MemberStateOf
 both = after_all (message 0 10 (going_to 0x0a000000 8) ∷ message 0 10 (going_to 0x0b000000 8) ∷ at 20 ∷ []) opened
 

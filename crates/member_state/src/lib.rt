@@ -16,6 +16,6 @@ mod tests;
 pub mod worked;
 
 pub use fault::FlowFault;
-pub use leaf::{Seen, leaf_entry};
+pub use leaf::leaf_entry;
 pub use planned::Planned;
 pub use state::MemberState;
