@@ -173,5 +173,5 @@ module _ (g : Grant) (v : PortView) (few : g.actions < 4) (numbers : AllByRecurs
   pub effects_plain : (member : ℕ) (actions : List Action) → AllByRecursion IsServedSo actions → ArePlain (effects_of g.ports member actions).outs (effects_of g.ports member actions).tail
   effects_plain member actions a =
       let both = effects_hold g.ports member IsServedSo (λ r. r ≡ no_rewrite) (λ (o : Out). o.rewrite ≡ no_rewrite) (λ t. t ≡ Nothing) sets_nothing
-          (λ r port max_len i h. each_out (λ (o : Out). o.rewrite ≡ no_rewrite) r (λ dest. i) (dests_of g.ports member port)) (λ r port max_len i h. ends_nothing r port max_len h) refl no_rewrite actions refl a in
+      (λ r port max_len i h. each_out (λ (o : Out). o.rewrite ≡ no_rewrite) r (λ dest. i) (dests_of g.ports member port)) (λ r port max_len i h. ends_nothing r port max_len h) refl no_rewrite actions refl a in
       record { sets = both.0; ends = both.1 }

@@ -73,7 +73,7 @@ module _ (i : ℕ) (g : Grant) (x : MemberStateOf) (good : IsSoundGrant g) (stat
   apart_all [] a l = tt
   apart_all (e ∷ es) a l = (
     all-mapped (λ (d : Entry). tables.AreApart e d × (is_some (level_of x.levels d.rank) ≡ true)) (AreApart (leaf_entry (levels_of x.levels) i g.ports e)) (leaf_entry (levels_of x.levels) i g.ports) es (λ d h. apart_pair e d h.0 l.0 h.1)
-    (all-zip (tables.AreApart e) (λ (d : Entry). is_some (level_of x.levels d.rank) ≡ true) es a.0 l.1),
+        (all-zip (tables.AreApart e) (λ (d : Entry). is_some (level_of x.levels d.rank) ≡ true) es a.0 l.1),
     apart_all es a.1 l.1,
   )
 

@@ -135,8 +135,13 @@ module _ (l : Levels) (rank : ℕ) (k : IsLevelling l.size l.ranked) where
 
   counted : length (with_rank rank 0 l.ranked) ≤ length l.ranked + 1
   counted =
-      omega (arith, length-append (lower rank l.ranked) (record { rank = rank; level = 0 } ∷ higher rank l.ranked), length-append (lower rank l.ranked) (higher rank l.ranked),
-      ap length (around 0 rank l.ranked apart), filter_length (λ (r : Ranked). not (rank == r.rank)) l.ranked)
+      omega (
+        arith,
+        length-append (lower rank l.ranked) (record { rank = rank; level = 0 } ∷ higher rank l.ranked),
+        length-append (lower rank l.ranked) (higher rank l.ranked),
+        ap length (around 0 rank l.ranked apart),
+        filter_length (λ (r : Ranked). not (rank == r.rank)) l.ranked,
+      )
 
   spread_rising : length l.ranked + 3 ≤ l.size → IsRising 0 2 l.size (spread l.size (with_rank rank 0 l.ranked))
   spread_rising room =

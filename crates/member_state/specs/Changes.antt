@@ -29,7 +29,8 @@ levels_with (Some e) l = (placing l e.rank).1
 
 -- the state after an accepted message at a moment
 abbrev pub accepted : FlowMod → ℕ → MemberStateOf → MemberStateOf
-accepted m now x = with_table (after x.table m now) (record x { levels = levels_with (change_of x.table m now).added x.levels })
+accepted m now x =
+    with_table (after x.table m now) (record x { levels = levels_with (change_of x.table m now).added x.levels })
 
 -- the state without the entries that have stood for their hard timeouts at a moment
 abbrev pub expired : ℕ → MemberStateOf → MemberStateOf

@@ -40,7 +40,8 @@ budget_row l (Some rank) = when (gets_no_level l rank) (Budget (length l.ranked)
 
 -- the first row that applies: those of the grant at a virtual switch of these ports, then overlap, entries, budget
 abbrev pub denial : Grant → PortView → MemberStateOf → FlowMod → Option Denial
-denial g v x m = first_of (flow_denial g v m ∷ table_row (refusal x.table m) ∷ budget_row x.levels (rank_added x.table m) ∷ [])
+denial g v x m =
+    first_of (flow_denial g v m ∷ table_row (refusal x.table m) ∷ budget_row x.levels (rank_added x.table m) ∷ [])
 
 -- a fault is the denial, unless memory ran out
 abbrev pub IsFaultOf : Option Denial → FlowFault → Type 0

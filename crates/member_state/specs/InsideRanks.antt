@@ -14,7 +14,9 @@ use Rattle.member_state.specs.declared.planned.Planned.{Planned}
 
 -- levels without those of these ranks that no entry has
 abbrev pub without_unused : List Entry → List ℕ → Levels → Levels
-without_unused es ranks l = record l { ranked = filter (λ (r : Ranked). list_any (has_rank r.rank) es || not (is_among ranks r.rank)) l.ranked }
+without_unused es ranks l = record l {
+  ranked = filter (λ (r : Ranked). list_any (has_rank r.rank) es || not (is_among ranks r.rank)) l.ranked;
+}
 
 -- the rank of an entry, if there is one and it has the number
 abbrev pub rank_if_added : ℕ → Option Entry → Option ℕ

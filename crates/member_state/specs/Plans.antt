@@ -20,7 +20,9 @@ touched_among serials now e = if is_among serials e.serial then record e { last 
 
 -- a state in which the counts of the entries of these numbers were seen to have risen at a moment
 abbrev pub touched_all : List ℕ → ℕ → MemberStateOf → MemberStateOf
-touched_all serials now x = record x { table = record x.table { entries = map (touched_among serials now) x.table.entries } }
+touched_all serials now x = record x {
+  table = record x.table { entries = map (touched_among serials now) x.table.entries };
+}
 
 -- the table after what is planned, but for the counts that were seen to have risen
 abbrev pub planned_table : TableOf → Planned → TableOf
@@ -28,16 +30,21 @@ planned_table t p = without_all p.dropped (committed t p.change)
 
 -- the state after what is planned, at a moment
 abbrev pub after_planned : MemberStateOf → Planned → ℕ → MemberStateOf
-after_planned x p now = touched_all p.touched now (with_table (planned_table x.table p) (record x { levels = p.levels }))
+after_planned x p now =
+    touched_all p.touched now (with_table (planned_table x.table p) (record x { levels = p.levels }))
 
 -- the ranks of the entries of these numbers
 abbrev pub ranks_of : List Entry → List ℕ → List ℕ
 ranks_of es serials = filter_map (λ serial. option_map (λ (e : Entry). e.rank) (find (has_serial serial) es)) serials
 
--- what is planned can be made: the change can, levels lie in the order of ranks, each rank of an entry that is there then
--- has a level, and each rank with a level has an entry then or is one of those whose entries may have gone
+-- what is planned can be made: the change can, levels lie in the order of ranks, each rank of an entry that is there
+-- then has a level, and each rank with a level has an entry then or is one of those whose entries may have gone
 pub record IsReady (h : HeldState) (p : Planned) : Type 0 where
   pub change : CanCommit (held_table h) p.change
   pub levels : IsLevelling p.levels.size p.levels.ranked
-  pub levelled : (rank : ℕ) → list_any (has_rank rank) (planned_table h.state.table p).entries ≡ true → is_some (level_of p.levels rank) ≡ true
-  pub left : (rank : ℕ) → is_some (level_of p.levels rank) ≡ true → (list_any (has_rank rank) (planned_table h.state.table p).entries || is_among p.ranks rank) ≡ true
+  pub levelled :
+      (rank : ℕ) → list_any (has_rank rank) (planned_table h.state.table p).entries ≡ true
+      → is_some (level_of p.levels rank) ≡ true
+  pub left :
+      (rank : ℕ) → is_some (level_of p.levels rank) ≡ true
+      → (list_any (has_rank rank) (planned_table h.state.table p).entries || is_among p.ranks rank) ≡ true

@@ -40,8 +40,8 @@ GrantsAreKept = (g : Grant) (v : PortView) (x : MemberStateOf) → AreWithin g v
 abbrev pub NamesNoPort : MatchOf → Type 0
 NamesNoPort m = m.in_port ≡ None
 
--- what is asked of a grant: the boxes of its region are normal, don't overlap and name no port; no port is named twice, and
--- link ports have numbers of ports
+-- what is asked of a grant: the boxes of its region are normal, don't overlap and name no port; no port is named
+-- twice, and link ports have numbers of ports
 pub record IsSoundGrant (g : Grant) : Type 0 where
   pub boxes : AllByRecursion IsNormal g.regions
   pub disjoint : EachPair (λ m n. overlaps m n ≡ false) g.regions
@@ -49,8 +49,8 @@ pub record IsSoundGrant (g : Grant) : Type 0 where
   pub visible : EachPair (λ p q. (q == p) ≡ false) (g.ports.outside ++ g.ports.links)
   pub numbers : AllByRecursion (λ p. p < MAX) g.ports.links
 
--- the leaf table of a sound state is sound, its numbers fit and are in range, its entries differ, and its outs go to ports of
--- the member's virtual switch alone
+-- the leaf table of a sound state is sound, its numbers fit and are in range, its entries differ, and its outs go to
+-- ports of the member's virtual switch alone
 pub record IsSoundLeaf (i : ℕ) (g : Grant) (x : MemberStateOf) : Type 0 where
   pub sound : IsSoundTable (leaf_of i g x)
   pub fits : IsFittingTable (leaf_of i g x)
@@ -65,9 +65,11 @@ MemberTablesAreSound = (i : ℕ) (g : Grant) (x : MemberStateOf) → IsSoundGran
 abbrev pub MembersKeepToPorts : Type 0
 MembersKeepToPorts =
     (i : ℕ) (g : Grant) (v : PortView) (x : MemberStateOf) (ports : List ℕ) → IsSoundGrant g → AreWithin g v x
-    → AllByRecursion (λ p. has_port ports p ≡ true) (g.ports.outside ++ g.ports.links) → TableKeepsTo ports (Some (leaf_of i g x))
+    → AllByRecursion (λ p. has_port ports p ≡ true) (g.ports.outside ++ g.ports.links)
+    → TableKeepsTo ports (Some (leaf_of i g x))
 
 -- where outputs and CONTROLLER alone are granted, entries set nothing and pass nothing on
 abbrev pub PlainGrantsGivePlainTables : Type 0
 PlainGrantsGivePlainTables =
-    (i : ℕ) (g : Grant) (v : PortView) (x : MemberStateOf) → IsSoundGrant g → g.actions < 4 → AreWithin g v x → HasPlainTable (Some (leaf_of i g x))
+    (i : ℕ) (g : Grant) (v : PortView) (x : MemberStateOf) → IsSoundGrant g → g.actions < 4 → AreWithin g v x
+    → HasPlainTable (Some (leaf_of i g x))

@@ -26,14 +26,17 @@ held_by t l = record { state = record { table = t.table; levels = l }; room = t.
 
 -- as it opens: no entries, 2 to the power of the bits levels, and so many entries at most
 abbrev pub opening : ℕ → ℕ → MemberStateOf
-opening bits limit = record { table = record { entries = []; next = 1; limit = limit }; levels = record { size = 2 ^ bits; ranked = [] } }
+opening bits limit = record {
+  table = record { entries = []; next = 1; limit = limit };
+  levels = record { size = 2 ^ bits; ranked = [] };
+}
 
 -- exactly the ranks of these entries have a level
 abbrev pub AreLevelled : List Entry → Levels → Type 0
 AreLevelled es l = (rank : ℕ) → is_some (level_of l rank) ≡ list_any (has_rank rank) es
 
--- what every member's state keeps: levels lie from 2 to the last one in the order of ranks, and are those of the ranks of
--- its entries
+-- what every member's state keeps: levels lie from 2 to the last one in the order of ranks, and are those of the ranks
+-- of its entries
 pub record IsKept (x : MemberStateOf) : Type 0 where
   pub levels : IsLevelling x.levels.size x.levels.ranked
   pub ranks : AreLevelled x.table.entries x.levels

@@ -22,7 +22,8 @@ fn drop_each(table: &mut Table, serials: &[u64])
 
 /// Says of entries that their counts were seen to have risen.
 fn touch_each(table: &mut Table, serials: &[u64], now: u64)
-    ensures { table.new.table ≡ record table.old.table { entries = map (touched_among serials.now now) table.old.table.entries } }
+    ensures { table.new.table
+        ≡ record table.old.table { entries = map (touched_among serials.now now) table.old.table.entries } }
 {
     for serial in serials {
         table.touch(*serial, now);

@@ -40,7 +40,8 @@ fn asks(entry: &Entry) -> bool
 
 /// A copy of the entry of a number, if the member asks to be told when it is removed.
 fn told(table: &Table, serial: u64) -> Result<Option<Entry>, Memory>
-    ensures { IfOk result (λ entry. option_to_list entry ≡ filter is_told (option_to_list (find (has_serial serial) table.now.table.entries))) }
+    ensures { IfOk result (λ entry.
+        option_to_list entry ≡ filter is_told (option_to_list (find (has_serial serial) table.now.table.entries))) }
 {
     let Some(entry) = table.get(serial) else {
         return Ok(None);
@@ -65,7 +66,8 @@ fn told_among(alloc: Global, table: &Table, serials: &[u64]) -> Result<List<Entr
 impl MemberState {
     /// Copies of those of the entries of some numbers of whose removal the member asks to be told.
     pub fn told_of(&self, serials: &[u64]) -> Result<List<Entry>, Memory>
-        ensures { IfOk result (λ entries. entries ≡ filter is_told (entries_of self.now.state.table.entries serials.now)) }
+        ensures { IfOk result (λ entries.
+            entries ≡ filter is_told (entries_of self.now.state.table.entries serials.now)) }
     {
         told_among(self.alloc, &self.table, serials)
     }

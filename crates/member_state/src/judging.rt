@@ -93,7 +93,9 @@ fn judged(
     requires kept { IsKept (held_by table.old levels.now).state }
     ensures accepted { OnOk result (denial g.now v.now (held_by table.old levels.now).state m.now ≡ None) }
     ensures change { IfOk result (λ p. p.change ≡ change_of table.old.table m.now now) }
-    ensures planned { IfOk result (λ p. after_planned (held_by table.old levels.now).state p now ≡ accepted m.now now (held_by table.old levels.now).state) }
+    ensures planned { IfOk result (λ p.
+        after_planned (held_by table.old levels.now).state p now
+        ≡ accepted m.now now (held_by table.old levels.now).state) }
     ensures ready { IfOk result (IsReady (held_by table.new levels.now)) }
     ensures fault { IfErr result (IsFaultOf (denial g.now v.now (held_by table.old levels.now).state m.now)) }
     ensures table { table.new.table ≡ table.old.table }
@@ -108,8 +110,8 @@ fn judged(
 }
 
 impl MemberState {
-    /// Judges a FLOW_MOD of a member with this grant at a virtual switch of which `v` holds all ports: the first rule that
-    /// refuses it, or what it changes. It takes all memory that the change needs, and changes nothing yet.
+    /// Judges a FLOW_MOD of a member with this grant at a virtual switch of which `v` holds all ports: the first rule
+    /// that refuses it, or what it changes. It takes all memory that the change needs, and changes nothing yet.
     pub fn judge(
         &mut self,
         g: &Grant,

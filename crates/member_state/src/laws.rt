@@ -1,5 +1,6 @@
 //! Each function's contract is a law.
-ghost use Rattle.member_state.specs.Sound.{GrantsAreKept, MemberTablesAreSound, MembersKeepToPorts, PlainGrantsGivePlainTables};
+ghost use Rattle.member_state.specs.Sound.{GrantsAreKept, MemberTablesAreSound};
+ghost use Rattle.member_state.specs.Sound.{MembersKeepToPorts, PlainGrantsGivePlainTables};
 
 /// Entries stay within their grant: an accepted message keeps them so, and so does whatever goes or is touched.
 pub fn grants_are_kept()

@@ -62,7 +62,8 @@ impl Planned {
 
     /// Plans that the count of the entry of a number was seen to have risen.
     pub fn touch(&mut self, serial: u64) -> Result<(), Memory>
-        ensures touched { OnOk result ((x : MemberStateOf) (now : ℕ) → after_planned x self.new now ≡ touched_of serial now (after_planned x self.old now)) }
+        ensures touched { OnOk result ((x : MemberStateOf) (now : ℕ) →
+            after_planned x self.new now ≡ touched_of serial now (after_planned x self.old now)) }
         ensures ready { (h : HeldState) → IsReady h self.old → IsReady h self.new }
         ensures memory { OnErr result (self.new ≡ self.old) }
     {

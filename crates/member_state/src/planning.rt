@@ -70,9 +70,12 @@ impl MemberState {
 
     /// Plans that the entry of a number goes too, once the change is made.
     pub fn plan_drop(&self, planned: &mut Planned, serial: u64) -> Result<(), Memory>
-        ensures dropped { OnOk result ((now : ℕ) → after_planned self.now.state planned.new now ≡ without serial (after_planned self.now.state planned.old now)) }
+        ensures dropped { OnOk result ((now : ℕ) →
+            after_planned self.now.state planned.new now
+            ≡ without serial (after_planned self.now.state planned.old now)) }
         ensures ready { IsReady self.now planned.old → IsReady self.now planned.new }
-        ensures memory { OnErr result ((now : ℕ) → after_planned self.now.state planned.new now ≡ after_planned self.now.state planned.old now) }
+        ensures memory { OnErr result ((now : ℕ) →
+            after_planned self.now.state planned.new now ≡ after_planned self.now.state planned.old now) }
     {
         let rank = rank_of(&self.table, serial);
         // The proof learns what is true of every table.

@@ -28,7 +28,8 @@ impl Model for MemberState {
 impl MemberState {
     ghost use Rattle.member_state.specs.States.{IsSoundState, held_table, opening};
 
-    /// A state without entries, of 2 to the power of the bits levels, which may have so many entries. It takes no memory.
+    /// A state without entries, of 2 to the power of the bits levels, which may have so many entries. It takes no
+    /// memory.
     pub fn new(alloc: Global, bits: u32, limit: u32) -> MemberState
         requires from { 2 ≤ bits }
         requires to { bits ≤ 15 }

@@ -116,7 +116,11 @@ fn six_ranks_fit_and_a_seventh_is_refused(rt: HostRuntime) -> Result<(), Fail> {
     let g = grant(alloc)?;
     let mut x = MemberState::new(alloc, 3, 8);
     for (command, priority, want) in ROWS {
-        assert_eq!(rt; answered(alloc, &mut x, &g, command, priority)?.as_str(), want, "{priority}");
+        assert_eq!(rt;
+            answered(alloc, &mut x, &g, command, priority)?.as_str(),
+            want,
+            "{priority}"
+        );
     }
     Ok(())
 }
