@@ -44,7 +44,8 @@ weaker x y (z ∷ zs) less a = (omega (arith, a.0), weaker x y zs less a.1)
 later_sorted : (x y : ℕ) (ys : List ℕ) → IsSorted nat_cmp (x ∷ y ∷ ys) → IsSorted nat_cmp (y ∷ ys)
 later_sorted x y ys s k d low lt =
     let next : suc k + 1 ≡ suc (k + 1) = omega arith in
-    subst (λ n. is_lt (nat_cmp (slice_index_or (x ∷ y ∷ ys) n d) (slice_index_or (y ∷ ys) k d)) ≡ false) next (s (suc k) d (omega arith) (omega arith))
+    subst (λ n. is_lt (nat_cmp (slice_index_or (x ∷ y ∷ ys) n d) (slice_index_or (y ∷ ys) k d)) ≡ false) next
+    (s (suc k) d (omega arith) (omega arith))
 
 not_less : (x y : ℕ) → is_lt (nat_cmp y x) ≡ false → x ≤ y
 not_less x y e = elim (cases_lt y x) [
@@ -68,7 +69,8 @@ among_inserted : (n k : ℕ) (ks : List ℕ) → is_among (inserted k ks) n ≡ 
 among_inserted n k [] = refl
 among_inserted n k (j ∷ js) = by (nat_le k j) (among_inserted n k js)
   where
-    by : (b : Bool) → is_among (inserted k js) n ≡ ((k == n) || is_among js n) → is_among (if b then k ∷ j ∷ js else j ∷ inserted k js) n ≡ ((k == n) || ((j == n) || is_among js n))
+    by : (b : Bool) → is_among (inserted k js) n ≡ ((k == n) || is_among js n)
+        → is_among (if b then k ∷ j ∷ js else j ∷ inserted k js) n ≡ ((k == n) || ((j == n) || is_among js n))
     by true h = refl
     by false h = ap (λ b. (j == n) || b) h ∙ or_swap (j == n) (k == n) (is_among js n)
 
@@ -76,11 +78,13 @@ pub among_rising : (ns : List ℕ) (n : ℕ) → is_among (rising ns) n ≡ is_a
 among_rising [] n = refl
 among_rising (k ∷ ks) n = among_inserted n k (rising ks) ∙ ap (λ b. (k == n) || b) (among_rising ks n)
 
-above_inserted : (x k : ℕ) (ks : List ℕ) → x < k → AllByRecursion (λ y. x < y) ks → AllByRecursion (λ y. x < y) (inserted k ks)
+above_inserted : (x k : ℕ) (ks : List ℕ) → x < k → AllByRecursion (λ y. x < y) ks
+    → AllByRecursion (λ y. x < y) (inserted k ks)
 above_inserted x k [] less a = (less, tt)
 above_inserted x k (j ∷ js) less a = by (above_inserted x k js less a.1) (nat_le k j)
   where
-    by : AllByRecursion (λ y. x < y) (inserted k js) → (b : Bool) → AllByRecursion (λ y. x < y) (if b then k ∷ j ∷ js else j ∷ inserted k js)
+    by : AllByRecursion (λ y. x < y) (inserted k js) → (b : Bool)
+        → AllByRecursion (λ y. x < y) (if b then k ∷ j ∷ js else j ∷ inserted k js)
     by more true = (less, a)
     by more false = (a.0, more)
 
@@ -88,7 +92,8 @@ inserted_rises : (k : ℕ) (ks : List ℕ) → is_among ks k ≡ false → Rises
 inserted_rises k [] n r = (tt, tt)
 inserted_rises k (j ∷ js) n r = by (λ m. inserted_rises k js m r.1) (j == k) refl n (nat_le k j) refl
   where
-    by : (is_among js k ≡ false → Rises (inserted k js)) → (c : Bool) → (j == k) ≡ c → (c || is_among js k) ≡ false → (b : Bool) → nat_le k j ≡ b → Rises (if b then k ∷ j ∷ js else j ∷ inserted k js)
+    by : (is_among js k ≡ false → Rises (inserted k js)) → (c : Bool) → (j == k) ≡ c → (c || is_among js k) ≡ false
+        → (b : Bool) → nat_le k j ≡ b → Rises (if b then k ∷ j ∷ js else j ∷ inserted k js)
     by more true e m b t = absurd (true≢false m)
     by more false e m true t =
         let le : k ≤ j = leb-true k j t in
@@ -144,23 +149,34 @@ one_list (x ∷ xs) (y ∷ ys) p q h =
     λ i. same i ∷ tails i
   where
     rest : (n : ℕ) → x ≡ y → AllByRecursion (λ z. x < z) ys → (b : Bool) → (x == n) ≡ b → is_among xs n ≡ is_among ys n
-    rest n s a true e = let here : x ≡ n = eqb-true x n e in ap (is_among xs) (sym here) ∙ (not_above x xs p.0 ∙ (sym (not_above x ys a) ∙ ap (is_among ys) here))
-    rest n s a false e = sym (ap (λ b. b || is_among xs n) e) ∙ (h n ∙ ap (λ b. b || is_among ys n) (ap (λ k. k == n) (sym s) ∙ e))
+    rest n s a true e = let here : x ≡ n = eqb-true x n e in ap (is_among xs) (sym here)
+        ∙ (not_above x xs p.0 ∙ (sym (not_above x ys a) ∙ ap (is_among ys) here))
+    rest n s a false e = sym (ap (λ b. b || is_among xs n) e)
+        ∙ (h n ∙ ap (λ b. b || is_among ys n) (ap (λ k. k == n) (sym s) ∙ e))
 
 -- the numbers that are listed rising
-pub due_is : (test : Entry → Bool) (t : TableOf) (due : List ℕ) → IsSound t → ListsRising (serials_of test t.entries) due → due ≡ rising_serials test t.entries
+pub due_is : (test : Entry → Bool) (t : TableOf) (due : List ℕ) → IsSound t
+    → ListsRising (serials_of test t.entries) due → due ≡ rising_serials test t.entries
 due_is test t due sound l =
     let ns = serials_of test t.entries in
     let once : IsDistinct ◌==◌ ns = once_filter ◌==◌ Decides-eqb (λ e. e.serial) test t.entries sound.once in
-    one_list due (rising ns) (sorted_rises due l.rising (IsDistinct-IsPermutation ◌==◌ eqb_flip ns due l.same once)) (rising_rises ns once)
-    (λ n. same_any due ns (λ p. sum_by-IsPermutation (λ k. cond (p k) 1 0) ns due l.same) (λ k. k == n) ∙ sym (among_rising ns n))
+    one_list due (rising ns) (sorted_rises due l.rising (IsDistinct-IsPermutation ◌==◌ eqb_flip ns due l.same once))
+    (rising_rises ns once)
+    (λ n. same_any due ns (λ p. sum_by-IsPermutation (λ k. cond (p k) 1 0) ns due l.same) (λ k. k == n)
+    ∙ sym (among_rising ns n))
 
 -- the table without those that have stood for their hard timeouts
-pub expired_planned : (x : MemberStateOf) (due : List ℕ) (now : ℕ) → IsSound x.table → due ≡ rising_serials (is_hard_due now) x.table.entries → after_planned x (removal_planned x due) now ≡ expired now x
+pub expired_planned : (x : MemberStateOf) (due : List ℕ) (now : ℕ) → IsSound x.table → due
+    ≡ rising_serials (is_hard_due now) x.table.entries → after_planned x (removal_planned x due) now ≡ expired now x
 expired_planned x due now sound e =
     let t = x.table in
     let ns = serials_of (is_hard_due now) t.entries in
     let among : (n : ℕ) → is_among due n ≡ is_among ns n = λ n. ap (λ l. is_among l n) e ∙ among_rising ns n in
     let gone : committed t (removing due) ≡ without_expired now t =
-    ap (λ (among : ℕ → Bool). record t { entries = map (changed_by []) (filter (λ (y : Entry). not (among y.serial) || is_number None y.serial) t.entries) }) (λ i n. among n i) ∙ removing_is t (is_hard_due now) sound in
+    ap (λ (among : ℕ → Bool).
+    record t {
+      entries = map (changed_by [])
+          (filter (λ (y : Entry). not (among y.serial) || is_number None y.serial) t.entries);
+    }) (λ i n. among n i)
+    ∙ removing_is t (is_hard_due now) sound in
     fresh x (removing due) (ranks_of t.entries due) x.levels now ∙ ap (λ (u : TableOf). with_table u x) gone

@@ -28,26 +28,32 @@ use Rattle.policy_meaning.proofs.Lists.{all-append, all-each, all-mapped}
 use Rattle.agreement.specs.Premises.{GoesWithin}
 
 -- what holds of the rewrite in force, of outs and of tails
-module _ (ports : PortView) (member : ℕ) (A : Action → Type 0) (I : RewriteOf → Type 0) (O : Out → Type 0) (T : Tail → Type 0)
+module _ (ports : PortView) (member : ℕ) (A : Action → Type 0) (I : RewriteOf → Type 0) (O : Out → Type 0)
+    (T : Tail → Type 0)
     (step : (r : RewriteOf) (a : Action) → I r → A a → I (and_then r (set_by a)))
-    (out : (r : RewriteOf) (port max_len : ℕ) → I r → A (Output port max_len) → AllByRecursion O (outs_of r (dests_of ports member port)))
+    (out : (r : RewriteOf) (port max_len : ℕ) → I r → A (Output port max_len)
+    → AllByRecursion O (outs_of r (dests_of ports member port)))
     (tail : (r : RewriteOf) (port max_len : ℕ) → I r → A (Output port max_len) → T (tail_of ports r port))
     (none : T Nothing) where
   abbrev Holds : Effects → Type 0
   Holds e = AllByRecursion O e.outs × T e.tail
 
-  ended : (t : Tail) (outs : List Out) (later : Effects) → T t → AllByRecursion O outs → Holds later → Holds (ends_or t outs later)
+  ended : (t : Tail) (outs : List Out) (later : Effects) → T t → AllByRecursion O outs → Holds later
+      → Holds (ends_or t outs later)
   ended Nothing outs later h a l = (all-append O outs later.outs a l.0, l.1)
   ended (Pass r) outs later h a l = (tt, h)
   ended (Link r port) outs later h a l = (tt, h)
 
-  pub effects_hold : (r : RewriteOf) (actions : List Action) → I r → AllByRecursion A actions → AllByRecursion O (effects_from ports member r actions).outs × T (effects_from ports member r actions).tail
+  pub effects_hold : (r : RewriteOf) (actions : List Action) → I r → AllByRecursion A actions
+      → AllByRecursion O (effects_from ports member r actions).outs × T (effects_from ports member r actions).tail
   effects_hold r [] i a = (tt, none)
   effects_hold r (Output port max_len ∷ actions) i a =
-      ended (tail_of ports r port) (outs_of r (dests_of ports member port)) (effects_from ports member r actions) (tail r port max_len i a.0) (out r port max_len i a.0) (effects_hold r actions i a.1)
+      ended (tail_of ports r port) (outs_of r (dests_of ports member port)) (effects_from ports member r actions)
+      (tail r port max_len i a.0) (out r port max_len i a.0) (effects_hold r actions i a.1)
   effects_hold r (action ∷ actions) i a = effects_hold (and_then r (set_by action)) actions (step r action i a.0) a.1
 
-each_out : (O : Out → Type 0) (r : RewriteOf) → ((dest : Dest) → O (record { rewrite = r; dest = dest })) → (dests : List Dest) → AllByRecursion O (outs_of r dests)
+each_out : (O : Out → Type 0) (r : RewriteOf) → ((dest : Dest) → O (record { rewrite = r; dest = dest }))
+    → (dests : List Dest) → AllByRecursion O (outs_of r dests)
 each_out O r h [] = tt
 each_out O r h (dest ∷ dests) = (h dest, each_out O r h dests)
 
@@ -81,7 +87,8 @@ set_range (SetVlanPcp pcp) h = nothing_range
 set_range StripVlan h = nothing_range
 set_range (Enqueue port queue) h = nothing_range
 
-pub effects_range : (ports : PortView) (member : ℕ) (actions : List Action) → AllByRecursion IsInRange actions → AllInRange (effects_of ports member actions).outs (effects_of ports member actions).tail
+pub effects_range : (ports : PortView) (member : ℕ) (actions : List Action) → AllByRecursion IsInRange actions
+    → AllInRange (effects_of ports member actions).outs (effects_of ports member actions).tail
 effects_range ports member actions a =
     effects_hold ports member IsInRange SetsInRange (λ (o : Out). SetsInRange o.rewrite) TailInRange
     (λ r x i h. then_range r (set_by x) i (set_range x h))
@@ -89,22 +96,27 @@ effects_range ports member actions a =
     (λ r port max_len i h. by r port i (port == NORMAL) (list_any (λ link. link == port) ports.links))
     tt no_rewrite actions nothing_range a
   where
-    by : (r : RewriteOf) (port : ℕ) → SetsInRange r → (n l : Bool) → TailInRange (if n then Pass r else if l then Link r port else Nothing)
+    by : (r : RewriteOf) (port : ℕ) → SetsInRange r → (n l : Bool)
+        → TailInRange (if n then Pass r else if l then Link r port else Nothing)
     by r port i true l = i
     by r port i false true = i
     by r port i false false = tt
 
 -- ---- ports of one virtual switch
 
-each_dest : (P : Dest → Type 0) (r : RewriteOf) (dests : List Dest) → AllByRecursion P dests → AllByRecursion (λ (o : Out). P o.dest) (outs_of r dests)
+each_dest : (P : Dest → Type 0) (r : RewriteOf) (dests : List Dest) → AllByRecursion P dests
+    → AllByRecursion (λ (o : Out). P o.dest) (outs_of r dests)
 each_dest P r [] a = tt
 each_dest P r (dest ∷ dests) a = (a.0, each_dest P r dests a.1)
 
-pub effects_within : (ports : PortView) (member : ℕ) (actions : List Action) → AllByRecursion (λ (o : Out). GoesWithin ports.v o.dest) (effects_of ports member actions).outs
+pub effects_within : (ports : PortView) (member : ℕ) (actions : List Action)
+    → AllByRecursion (λ (o : Out). GoesWithin ports.v o.dest) (effects_of ports member actions).outs
 effects_within ports member actions =
     (effects_hold ports member (λ a. Unit {0}) (λ r. Unit {0}) (λ (o : Out). GoesWithin ports.v o.dest) (λ t. Unit {0})
     (λ r x i h. tt)
-    (λ r port max_len i h. each_dest (GoesWithin ports.v) r (dests_of ports member port) (by port (port == IN_PORT) ((port == FLOOD) || (port == ALL)) (port == CONTROLLER) (list_any (λ outside. outside == port) ports.outside)))
+    (λ r port max_len i h. each_dest (GoesWithin ports.v) r (dests_of ports member port)
+    (by port (port == IN_PORT) ((port == FLOOD) || (port == ALL)) (port == CONTROLLER)
+    (list_any (λ outside. outside == port) ports.outside)))
     (λ r port max_len i h. tt)
     tt no_rewrite actions tt (all-each (λ a. Unit {0}) actions (λ a. tt))).0
   where
@@ -112,7 +124,10 @@ effects_within ports member actions =
     flood [] = tt
     flood (p ∷ ps) = (refl, flood ps)
 
-    by : (port : ℕ) (i f c o : Bool) → AllByRecursion (GoesWithin ports.v) (if i then Ingress ∷ [] else if f then flood_of ports else if c then Tell member ACTION ∷ [] else if o then Port ports.v port ∷ [] else [])
+    by : (port : ℕ) (i f c o : Bool)
+        → AllByRecursion (GoesWithin ports.v)
+        (if i then Ingress ∷ [] else if f then flood_of ports else if c then Tell member ACTION ∷ [] else if o then
+        Port ports.v port ∷ [] else [])
     by port true f c o = (tt, tt)
     by port false true c o = flood ports.outside
     by port false false true o = (tt, tt)
@@ -149,16 +164,22 @@ module _ (g : Grant) (v : PortView) (few : g.actions < 4) (numbers : AllByRecurs
 
   none_so_high : (ps : List ℕ) → AllByRecursion (λ p. p < MAX) ps → list_any (λ p. p == CONTROLLER) ps ≡ false
   none_so_high [] a = refl
-  none_so_high (p ∷ ps) a = let less : p < MAX = a.0 in rw (ne_eqb p CONTROLLER (λ s. absurd (omega arith)), none_so_high ps a.1) refl
+  none_so_high (p ∷ ps) a = let less : p < MAX = a.0 in rw
+      (ne_eqb p CONTROLLER (λ s. absurd (omega arith)), none_so_high ps a.1) refl
 
-  ends_nothing : (r : RewriteOf) (port max_len : ℕ) → IsServedSo (Output port max_len) → tail_of g.ports r port ≡ Nothing
+  ends_nothing : (r : RewriteOf) (port max_len : ℕ) → IsServedSo (Output port max_len) → tail_of g.ports r port
+      ≡ Nothing
   ends_nothing r port max_len h = served (is_refused true g v port) h.1 h.0
     where
       by : (c n l : Bool) → (port == CONTROLLER) ≡ c → (port == NORMAL) ≡ n → is_one_of g.ports.links port ≡ l
-          → IsTrue (grants g (Some (if c then kinds.Controller else if n then kinds.Pass else if l then kinds.Link else kinds.Output)))
+          → IsTrue (grants g
+          (Some (if c then kinds.Controller else if n then kinds.Pass else if l then kinds.Link else
+          kinds.Output)))
           → (if n then Pass r else if l then Link r port else Nothing) ≡ Nothing
       by true true l c n o k = absurd (true≢false (sym n ∙ ap (λ p. p == NORMAL) (eqb-true port CONTROLLER c)))
-      by true false true c n o k = absurd (true≢false (sym o ∙ (ap (is_one_of g.ports.links) (eqb-true port CONTROLLER c) ∙ none_so_high g.ports.links numbers)))
+      by true false true c n o k = absurd
+          (true≢false
+          (sym o ∙ (ap (is_one_of g.ports.links) (eqb-true port CONTROLLER c) ∙ none_so_high g.ports.links numbers)))
       by true false false c n o k = refl
       by false true l c n o k = absurd (not_both _ k (off (2 ^ 2) (omega arith)))
       by false false true c n o k = absurd (not_both _ k (off (2 ^ 3) (omega arith)))
@@ -170,8 +191,12 @@ module _ (g : Grant) (v : PortView) (few : g.actions < 4) (numbers : AllByRecurs
       served true s k = absurd (true≢false s)
       served false s k = by (port == CONTROLLER) (port == NORMAL) (is_one_of g.ports.links port) refl refl refl k
 
-  pub effects_plain : (member : ℕ) (actions : List Action) → AllByRecursion IsServedSo actions → ArePlain (effects_of g.ports member actions).outs (effects_of g.ports member actions).tail
+  pub effects_plain : (member : ℕ) (actions : List Action) → AllByRecursion IsServedSo actions
+      → ArePlain (effects_of g.ports member actions).outs (effects_of g.ports member actions).tail
   effects_plain member actions a =
-      let both = effects_hold g.ports member IsServedSo (λ r. r ≡ no_rewrite) (λ (o : Out). o.rewrite ≡ no_rewrite) (λ t. t ≡ Nothing) sets_nothing
-      (λ r port max_len i h. each_out (λ (o : Out). o.rewrite ≡ no_rewrite) r (λ dest. i) (dests_of g.ports member port)) (λ r port max_len i h. ends_nothing r port max_len h) refl no_rewrite actions refl a in
+      let both = effects_hold g.ports member IsServedSo (λ r. r ≡ no_rewrite) (λ (o : Out). o.rewrite ≡ no_rewrite)
+      (λ t. t ≡ Nothing) sets_nothing
+      (λ r port max_len i h. each_out (λ (o : Out). o.rewrite ≡ no_rewrite) r (λ dest. i)
+      (dests_of g.ports member port)) (λ r port max_len i h. ends_nothing r port max_len h) refl no_rewrite
+      actions refl a in
       record { sets = both.0; ends = both.1 }

@@ -41,7 +41,8 @@ pub filter_same : {X : Type 0} (p q : X → Bool) → ((x : X) → p x ≡ q x) 
 filter_same p q h [] = refl
 filter_same p q h (x ∷ xs) = ap₂ (λ b ys. cond b (x ∷ ys) ys) (h x) (filter_same p q h xs)
 
-pub filter_within : {X : Type 0} (p q : X → Bool) (xs : List X) → AllByRecursion (λ x. p x ≡ q x) xs → filter p xs ≡ filter q xs
+pub filter_within : {X : Type 0} (p q : X → Bool) (xs : List X) → AllByRecursion (λ x. p x ≡ q x) xs → filter p xs
+    ≡ filter q xs
 filter_within p q [] h = refl
 filter_within p q (x ∷ xs) h = ap₂ (λ b ys. cond b (x ∷ ys) ys) h.0 (filter_within p q xs h.1)
 
@@ -54,7 +55,9 @@ pub filter_twice : {X : Type 0} (p q : X → Bool) (xs : List X) → filter q (f
 filter_twice p q [] = refl
 filter_twice p q (x ∷ xs) = by (p x) (filter_twice p q xs)
   where
-    by : (b : Bool) → filter q (filter p xs) ≡ filter (λ y. p y && q y) xs → filter q (cond b (x ∷ filter p xs) (filter p xs)) ≡ cond (b && q x) (x ∷ filter (λ y. p y && q y) xs) (filter (λ y. p y && q y) xs)
+    by : (b : Bool) → filter q (filter p xs) ≡ filter (λ y. p y && q y) xs
+        → filter q (cond b (x ∷ filter p xs) (filter p xs)) ≡ cond (b && q x) (x ∷ filter (λ y. p y && q y) xs)
+        (filter (λ y. p y && q y) xs)
     by true h = ap (λ ys. cond (q x) (x ∷ ys) ys) h
     by false h = h
 
@@ -62,16 +65,19 @@ pub filter_length : {X : Type 0} (p : X → Bool) (xs : List X) → length (filt
 filter_length p [] = omega arith
 filter_length p (x ∷ xs) = by (p x) (filter_length p xs)
   where
-    by : (b : Bool) → length (filter p xs) ≤ length xs → length (cond b (x ∷ filter p xs) (filter p xs)) ≤ length (x ∷ xs)
+    by : (b : Bool) → length (filter p xs) ≤ length xs → length (cond b (x ∷ filter p xs) (filter p xs)) ≤ length
+        (x ∷ xs)
     by true h = omega (arith, h)
     by false h = omega (arith, h)
 
 -- a test that doesn't see a change passes the same items
-pub filter_map_same : {X : Type 0} (f : X → X) (p : X → Bool) → ((x : X) → p (f x) ≡ p x) → (xs : List X) → filter p (map f xs) ≡ map f (filter p xs)
+pub filter_map_same : {X : Type 0} (f : X → X) (p : X → Bool) → ((x : X) → p (f x) ≡ p x) → (xs : List X)
+    → filter p (map f xs) ≡ map f (filter p xs)
 filter_map_same f p h [] = refl
 filter_map_same f p h (x ∷ xs) = ap₂ (λ b ys. cond b (f x ∷ ys) ys) (h x) (filter_map_same f p h xs) ∙ by (p x)
   where
-    by : (b : Bool) → cond b (f x ∷ map f (filter p xs)) (map f (filter p xs)) ≡ map f (cond b (x ∷ filter p xs) (filter p xs))
+    by : (b : Bool) → cond b (f x ∷ map f (filter p xs)) (map f (filter p xs))
+        ≡ map f (cond b (x ∷ filter p xs) (filter p xs))
     by true = refl
     by false = refl
 
@@ -87,7 +93,8 @@ pub map_id : {X : Type 0} (f : X → X) → ((x : X) → f x ≡ x) → (xs : Li
 map_id f h [] = refl
 map_id f h (x ∷ xs) = ap₂ (λ y ys. y ∷ ys) (h x) (map_id f h xs)
 
-pub any_map_same : {X : Type 0} (f : X → X) (p : X → Bool) → ((x : X) → p (f x) ≡ p x) → (xs : List X) → list_any p (map f xs) ≡ list_any p xs
+pub any_map_same : {X : Type 0} (f : X → X) (p : X → Bool) → ((x : X) → p (f x) ≡ p x) → (xs : List X)
+    → list_any p (map f xs) ≡ list_any p xs
 any_map_same f p h [] = refl
 any_map_same f p h (x ∷ xs) = ap₂ (λ a b. a || b) (h x) (any_map_same f p h xs)
 
@@ -95,7 +102,8 @@ pub any_filter : {X : Type 0} (p q : X → Bool) (xs : List X) → list_any p (f
 any_filter p q [] = refl
 any_filter p q (x ∷ xs) = by (q x) (any_filter p q xs)
   where
-    by : (b : Bool) → list_any p (filter q xs) ≡ list_any (λ y. q y && p y) xs → list_any p (cond b (x ∷ filter q xs) (filter q xs)) ≡ ((b && p x) || list_any (λ y. q y && p y) xs)
+    by : (b : Bool) → list_any p (filter q xs) ≡ list_any (λ y. q y && p y) xs
+        → list_any p (cond b (x ∷ filter q xs) (filter q xs)) ≡ ((b && p x) || list_any (λ y. q y && p y) xs)
     by true h = ap (λ b. p x || b) h
     by false h = h
 

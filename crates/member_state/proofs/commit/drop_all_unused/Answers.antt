@@ -20,10 +20,12 @@ loop-rank-preserved c =
     let lt : i < length rs = omega arith in
     record {
       rise = subst (λ (k : Levels). RanksRise 0 k.ranked) (sym c.drop_unused.ensures)
-          (kept_ranks (λ (r : Ranked). has es r.rank || not (is_among (get_or rs i 0 ∷ []) r.rank)) 0 l.ranked c.loop-rank.invariant.rise);
+          (kept_ranks (λ (r : Ranked). has es r.rank || not (is_among (get_or rs i 0 ∷ []) r.rank)) 0 l.ranked
+          c.loop-rank.invariant.rise);
       rest =
           ap (without_unused es (drop (i + 1) rs)) c.drop_unused.ensures
-          ∙ (unused_next es (get_or rs i 0) (drop (i + 1) rs) l ∙ (ap (λ xs. without_unused es xs l) (sym (drop_next rs i 0 lt)) ∙ c.loop-rank.invariant.rest));
+          ∙ (unused_next es (get_or rs i 0) (drop (i + 1) rs) l
+          ∙ (ap (λ xs. without_unused es xs l) (sym (drop_next rs i 0 lt)) ∙ c.loop-rank.invariant.rest));
     }
 
 pub returns : goal.returns

@@ -7,5 +7,6 @@ use Rattle.member_state.proofs.commit.drop_all_unused.Given as goal
 abbrev pub invariant-loop-rank : goal.invariant-loop-rank
 invariant-loop-rank l = record {
   rise : RanksRise 0 l.levels.ranked;
-  rest : without_unused l.table.table.entries (drop l.rank-index l.ranks) l.levels ≡ without_unused l.table.table.entries l.ranks l.initial.levels;
+  rest : without_unused l.table.table.entries (drop l.rank-index l.ranks) l.levels
+      ≡ without_unused l.table.table.entries l.ranks l.initial.levels;
 }

@@ -13,7 +13,8 @@ loop-serial-preserved c =
     let test = c.loop-serial-test.true in
     let lt : i < length ss = omega arith in
     ap (without_all (drop (i + 1) ss)) c.drop_serial.ensures.table
-    ∙ (dropped_first (get_or ss i 0) (drop (i + 1) ss) t ∙ (ap (λ xs. without_all xs t) (sym (drop_next ss i 0 lt)) ∙ c.loop-serial.invariant))
+    ∙ (dropped_first (get_or ss i 0) (drop (i + 1) ss) t
+    ∙ (ap (λ xs. without_all xs t) (sym (drop_next ss i 0 lt)) ∙ c.loop-serial.invariant))
 
 pub returns : goal.returns
 returns c =

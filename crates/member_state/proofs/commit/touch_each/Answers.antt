@@ -24,4 +24,5 @@ returns c =
     let t = c.loop-serial.table.table in
     let test = c.loop-serial-test.false in
     let past : length ss ≤ i = omega arith in
-    sym (ap (λ xs. table_touched xs now t) (drop_all i ss past) ∙ ap (λ es. record t { entries = es }) (none_touched now t.entries)) ∙ c.loop-serial.invariant
+    sym (ap (λ xs. table_touched xs now t) (drop_all i ss past)
+    ∙ ap (λ es. record t { entries = es }) (none_touched now t.entries)) ∙ c.loop-serial.invariant

@@ -7,4 +7,6 @@ use Rattle.member_state.proofs.state.MemberState.commit.Goals as goal
 pub invariant_of-self : goal.invariant_of-self
 invariant_of-self c =
     let h : HeldState = held_by c.self.inside.table c.self.inside.levels in
-    subst IsKept (sym c.make.ensures) (kept_made h c.args.planned c.args.now (subst (λ (x : HeldState). IsReady x c.args.planned) (sym c.self.view_is) c.requires))
+    subst IsKept (sym c.make.ensures)
+    (kept_made h c.args.planned c.args.now
+    (subst (λ (x : HeldState). IsReady x c.args.planned) (sym c.self.view_is) c.requires))

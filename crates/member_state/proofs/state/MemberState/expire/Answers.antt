@@ -13,11 +13,15 @@ returns-clause-planned c =
     let x = c.args.self.now.state in
     let sound = subst (λ (h : HeldState). IsSound h.state.table) c.self.view_is c.len.ensures.sound in
     IfOk-weaker c.removal.result _ _
-    (λ p e. ap (λ q. after_planned x q c.args.now) (e ∙ ap (λ (h : HeldState). removal_planned h.state c.args.hard) c.self.view_is) ∙ expired_planned x c.args.hard c.args.now sound c.requires) c.removal.ensures
+    (λ p e. ap (λ q. after_planned x q c.args.now)
+    (e ∙ ap (λ (h : HeldState). removal_planned h.state c.args.hard) c.self.view_is)
+    ∙ expired_planned x c.args.hard c.args.now sound c.requires) c.removal.ensures
 
 pub returns-clause-ready : goal.returns-clause-ready
 returns-clause-ready c =
     let sound = subst (λ (h : HeldState). IsSound h.state.table) c.self.view_is c.len.ensures.sound in
     let kept = subst (λ (h : HeldState). IsKept h.state) c.self.view_is c.self.invariant in
     IfOk-weaker c.removal.result _ _
-    (λ p e. subst (IsReady c.args.self.now) (sym (e ∙ ap (λ (h : HeldState). removal_planned h.state c.args.hard) c.self.view_is)) (removal_ready c.args.self.now sound kept c.args.hard)) c.removal.ensures
+    (λ p e. subst (IsReady c.args.self.now)
+    (sym (e ∙ ap (λ (h : HeldState). removal_planned h.state c.args.hard) c.self.view_is))
+    (removal_ready c.args.self.now sound kept c.args.hard)) c.removal.ensures

@@ -9,16 +9,22 @@ use Rattle.member_state.proofs.state.MemberState.judge.Goals as goal
 
 pub returns-clause-accepted : goal.returns-clause-accepted
 returns-clause-accepted c =
-    subst (λ (h : HeldState). OnOk c.judged.result (denial c.args.g.now c.args.v.now h.state c.args.m.now ≡ None)) c.self.view_is c.judged.ensures.accepted
+    subst (λ (h : HeldState). OnOk c.judged.result (denial c.args.g.now c.args.v.now h.state c.args.m.now ≡ None))
+    c.self.view_is c.judged.ensures.accepted
 
 pub returns-clause-change : goal.returns-clause-change
 returns-clause-change c =
-    subst (λ (h : HeldState). IfOk c.judged.result (λ (p : Planned). p.change ≡ change_of h.state.table c.args.m.now c.args.now)) c.self.view_is c.judged.ensures.change
+    subst (λ (h : HeldState). IfOk c.judged.result
+    (λ (p : Planned). p.change ≡ change_of h.state.table c.args.m.now c.args.now)) c.self.view_is
+    c.judged.ensures.change
 
 pub returns-clause-planned : goal.returns-clause-planned
 returns-clause-planned c =
-    subst (λ (h : HeldState). IfOk c.judged.result (λ (p : Planned). after_planned h.state p c.args.now ≡ accepted c.args.m.now c.args.now h.state)) c.self.view_is c.judged.ensures.planned
+    subst (λ (h : HeldState). IfOk c.judged.result
+    (λ (p : Planned). after_planned h.state p c.args.now ≡ accepted c.args.m.now c.args.now h.state))
+    c.self.view_is c.judged.ensures.planned
 
 pub returns-clause-fault : goal.returns-clause-fault
 returns-clause-fault c =
-    subst (λ (h : HeldState). IfErr c.judged.result (IsFaultOf (denial c.args.g.now c.args.v.now h.state c.args.m.now))) c.self.view_is c.judged.ensures.fault
+    subst (λ (h : HeldState). IfErr c.judged.result
+    (IsFaultOf (denial c.args.g.now c.args.v.now h.state c.args.m.now))) c.self.view_is c.judged.ensures.fault

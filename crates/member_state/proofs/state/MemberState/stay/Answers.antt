@@ -13,7 +13,9 @@ returns-clause-planned c =
     let sound = subst (λ (h : HeldState). IsSound h.state.table) c.self.view_is c.len.ensures.sound in
     let kept = subst (λ (h : HeldState). IsKept h.state) c.self.view_is c.self.invariant in
     IfOk-weaker c.removal.result _ _
-    (λ p e now. ap (λ q. after_planned x q now) (e ∙ (ap (λ (h : HeldState). removal_planned h.state c.new.result) c.self.view_is ∙ ap (removal_planned x) c.new.ensures)) ∙ stay_planned c.args.self.now sound kept now) c.removal.ensures
+    (λ p e now. ap (λ q. after_planned x q now)
+    (e ∙ (ap (λ (h : HeldState). removal_planned h.state c.new.result) c.self.view_is
+    ∙ ap (removal_planned x) c.new.ensures)) ∙ stay_planned c.args.self.now sound kept now) c.removal.ensures
 
 pub returns-clause-ready : goal.returns-clause-ready
 returns-clause-ready c =
@@ -21,4 +23,6 @@ returns-clause-ready c =
     let sound = subst (λ (h : HeldState). IsSound h.state.table) c.self.view_is c.len.ensures.sound in
     let kept = subst (λ (h : HeldState). IsKept h.state) c.self.view_is c.self.invariant in
     IfOk-weaker c.removal.result _ _
-    (λ p e. subst (IsReady c.args.self.now) (sym (e ∙ (ap (λ (h : HeldState). removal_planned h.state c.new.result) c.self.view_is ∙ ap (removal_planned x) c.new.ensures))) (removal_ready c.args.self.now sound kept [])) c.removal.ensures
+    (λ p e. subst (IsReady c.args.self.now)
+    (sym (e ∙ (ap (λ (h : HeldState). removal_planned h.state c.new.result) c.self.view_is
+    ∙ ap (removal_planned x) c.new.ensures))) (removal_ready c.args.self.now sound kept [])) c.removal.ensures
