@@ -69,6 +69,30 @@ pub rank_at : (t : TableOf) (m : FlowMod) (now : ℕ) → option_map (λ (e : En
     ≡ rank_added t m
 rank_at t m now = ranks_alike (command_at m.command) t m now 0
 
+-- and so is what it removes
+same_removed : (b : Bool) (t : TableOf) (m : FlowMod) (one other : ℕ) (serials : List ℕ)
+    → (if b then changing m.actions serials else addition t m one).removed
+    ≡ (if b then changing m.actions serials else addition t m other).removed
+same_removed true t m one other serials = refl
+same_removed false t m one other serials = refl
+
+asked_alike : (command : Option Command) (t : TableOf) (m : FlowMod) (one other : ℕ)
+    → (change_asked command t m one).removed ≡ (change_asked command t m other).removed
+asked_alike None t m one other = refl
+asked_alike (Some Add) t m one other = refl
+asked_alike (Some Modify) t m one other =
+    same_removed (list_any (is_meant false (identity_in m)) t.entries) t m one other
+    (serials_of (is_meant false (identity_in m)) t.entries)
+asked_alike (Some ModifyStrict) t m one other =
+    same_removed (list_any (is_meant true (identity_in m)) t.entries) t m one other
+    (serials_of (is_meant true (identity_in m)) t.entries)
+asked_alike (Some Delete) t m one other = refl
+asked_alike (Some DeleteStrict) t m one other = refl
+
+pub removed_alike : (t : TableOf) (m : FlowMod) (one other : ℕ)
+    → (change_of t m one).removed ≡ (change_of t m other).removed
+removed_alike t m one other = asked_alike (command_at m.command) t m one other
+
 module _ (g : Grant) (v : PortView) (x : MemberStateOf) (m : FlowMod) where
   pub not_denied : flow_denial g v m ≡ None → table_row (refusal x.table m) ≡ None
       → budget_row x.levels (rank_added x.table m) ≡ None → denial g v x m ≡ None

@@ -1,5 +1,5 @@
 -- What becomes of a member's table and its levels.
-use Rattle.std.specs.Prelude.{ℕ, Bool, ◌==◌, ◌%◌, not, nat_le, List, [], ◌∷◌, Option, Some, None, find, filter, filter_map, map, if◌then◌else◌}
+use Rattle.std.specs.Prelude.{◌≡◌, ℕ, Bool, ◌==◌, ◌%◌, not, nat_le, List, [], ◌∷◌, Option, Some, None, find, filter, filter_map, map, if◌then◌else◌}
 use Rattle.std.specs.List.{list_any}
 use Rattle.of10_msgs.specs.declared.message.FlowMod.{FlowMod}
 use Rattle.grants.specs.Rows.{is_delete}
@@ -63,6 +63,11 @@ is_told e = e.flags % 2 == 1
 -- the entries that an accepted message removes: one that is replaced isn't removed
 abbrev pub removed_by : FlowMod → MemberStateOf → List Entry
 removed_by m x = if is_delete m.command then entries_of x.table.entries (change_of x.table m 0).removed else []
+
+-- what a message removes is the same at every moment
+abbrev pub RemovalsAreTimeless : Type 0
+RemovalsAreTimeless =
+    (t : TableOf) (m : FlowMod) (one other : ℕ) → (change_of t m one).removed ≡ (change_of t m other).removed
 
 -- numbers with one more, where they rise
 abbrev pub inserted : ℕ → List ℕ → List ℕ

@@ -1,4 +1,5 @@
 //! Each function's contract is a law.
+ghost use Rattle.member_state.specs.Changes.{RemovalsAreTimeless};
 ghost use Rattle.member_state.specs.Sound.{GrantsAreKept, MemberTablesAreSound};
 ghost use Rattle.member_state.specs.Sound.{MembersKeepToPorts, PlainGrantsGivePlainTables};
 
@@ -20,4 +21,9 @@ pub fn members_keep_to_ports()
 /// Where outputs and CONTROLLER alone are granted, a member's entries set nothing and pass nothing on.
 pub fn plain_grants_give_plain_tables()
     ensures { PlainGrantsGivePlainTables }
+{}
+
+/// What a message removes is the same at every moment.
+pub fn removals_are_timeless()
+    ensures { RemovalsAreTimeless }
 {}
