@@ -1,14 +1,13 @@
 -- What is sent is read, and what is quiet changes nothing.
-use Rattle.std.proofs.Common.{◌≡◌, ◌<◌, ◌^◌, ℕ, ◌+◌, Bool, true, false, List, [], ◌∷◌, ◌++◌, Result, Ok, Err, map}
-use Rattle.std.proofs.Common.{length, refl, ap, sym, subst, ◌∙◌, append_assoc, append-nil, arith}
-use Rattle.std.specs.Prelude.{◌==◌, All, flat_map, if◌then◌else◌}
+use Rattle.std.proofs.Common.{◌≡◌, ◌<◌, ◌^◌, ℕ, ◌+◌, Bool, true, false, List, [], ◌∷◌, ◌++◌, Ok, map}
+use Rattle.std.proofs.Common.{refl, ap, sym, subst, ◌∙◌, append_assoc, append-nil, arith}
+use Rattle.std.specs.Prelude.{◌==◌, All, if◌then◌else◌}
 use Rattle.std.specs.BTreeSet.{insert_key}
 use Rattle.std.specs.List.{AllByRecursion}
 use Rattle.std.specs.Ordering.{nat_cmp}
 use Rattle.std.proofs.lemmas.Bool.{eqb-false}
 use Rattle.std.proofs.lemmas.List.Concat.{flat_map-append}
 use Rattle.std.proofs.lemmas.List.Elements.{All-from_recursion}
-use Rattle.install_plan.specs.declared.written.Batch.{Batch}
 use Rattle.install_plan.specs.declared.written.Written.{Written}
 use Rattle.of10_actions.specs.Actions.{FitsTypes as ActionFits}
 use Rattle.of10_actions.specs.declared.action.Action.{Action}
@@ -26,7 +25,7 @@ use Rattle.switch_state.specs.Frames.{BatchIsSendable, HasTypes, IsQuiet, IsSend
 use Rattle.switch_state.specs.Frames.{QuietChangesNothing, SentIsRead, bodies_in, said_by}
 use Rattle.switch_state.specs.Known.{KnownOf}
 use Rattle.switch_state.specs.Messages.{addition, batch_messages, beginning, delete_strict, flow_mod, phase}
-use Rattle.switch_state.specs.Sending.{Sending, known_after, next_xid, send, send_all}
+use Rattle.switch_state.specs.Sending.{Sending, known_after, next_xid, send}
 use Rattle.switch_state.specs.Writing.{between_barriers, changes_of, in_first}
 use Rattle.switch_state.proofs.Fitting.{addition_fits, all_joined, all_of_phase, barrier_fits, delete_all_fits}
 use Rattle.switch_state.proofs.Fitting.{delete_strict_fits, flow_request_fits, match_long, packet_fits}

@@ -1,6 +1,6 @@
 -- The first item that passes a test, and the list without it.
 use Rattle.std.proofs.Common.{◌≡◌, ℕ, suc, ◌+◌, ◌<◌, ◌≤◌, Bool, true, false, List, [], ◌∷◌, ◌++◌, Option, Some}
-use Rattle.std.proofs.Common.{None, length, take, drop, get_or, refl, ap, sym, subst, ◌∙◌, arith, append-nil}
+use Rattle.std.proofs.Common.{None, length, drop, get_or, refl, ap, sym, subst, ◌∙◌, arith, append-nil}
 use Rattle.std.specs.Prelude.{◌↔◌, IfSome, IsSome, OnSome, find, not, nat_lt, position, slice_get, if◌then◌else◌}
 use Rattle.std.specs.List.{position_or_len, remove}
 use Rattle.std.specs.Set.{remove_key}

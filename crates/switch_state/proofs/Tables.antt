@@ -1,25 +1,23 @@
 -- What the messages to a switch make of its table.
-use Rattle.std.proofs.Common.{◌≡◌, List, [], ◌∷◌, ◌++◌, map, length, refl, ap, sym, subst, ◌∙◌, append_assoc}
+use Rattle.std.proofs.Common.{◌≡◌, List, [], ◌∷◌, ◌++◌, map, refl, ap, sym, subst, ◌∙◌, append_assoc}
 use Rattle.std.proofs.Common.{append-nil, arith}
-use Rattle.std.specs.Prelude.{◌+◌, IsPermutation, filter, flat_map, not}
-use Rattle.std.specs.List.{AllByRecursion, list_any}
+use Rattle.std.specs.Prelude.{IsPermutation, flat_map}
+use Rattle.std.specs.List.{AllByRecursion}
 use Rattle.std.proofs.lemmas.List.Sorted.{IsPermutation-map, IsPermutation-refl, IsPermutation-sym}
 use Rattle.std.proofs.lemmas.List.Sorted.{IsPermutation-trans, length_permutation}
-use Rattle.install_plan.specs.Tables.{entries_in, entry_of}
+use Rattle.install_plan.specs.Tables.{entry_of}
 use Rattle.install_plan.specs.declared.written.Batch.{Batch}
 use Rattle.install_plan.specs.declared.written.Written.{Written}
 use Rattle.of10_match.specs.Matching.{everything}
 use Rattle.of10_match.proofs.ReadingBack.{normal_of-match_bytes}
 use Rattle.of10_msgs.specs.declared.message.Body.{Body}
 use Rattle.of10_msgs.specs.declared.message.Body.TheVariants.{BarrierRequest}
-use Rattle.switch_meaning.specs.BatchLaw.{HasOneAKey, IsTableOf}
+use Rattle.switch_meaning.specs.BatchLaw.{IsTableOf}
 use Rattle.switch_meaning.specs.Batches.{adding, by_key, deleting, difference, missing}
 use Rattle.switch_meaning.specs.Keys.{flow_of}
-use Rattle.switch_meaning.specs.Same.{same_entry}
 use Rattle.switch_meaning.specs.Tables.{table_after, table_after_all}
 use Rattle.switch_meaning.specs.declared.entry.Change.{Change}
 use Rattle.switch_meaning.specs.declared.entry.Change.TheVariants.{Add, Delete, DeleteStrict}
-use Rattle.switch_meaning.specs.declared.entry.Difference.{Difference}
 use Rattle.switch_meaning.specs.declared.entry.FlowEntry.{FlowEntry}
 use Rattle.switch_meaning.specs.declared.entry.PhysEntry.{PhysEntry}
 use Rattle.switch_meaning.proofs.Batched.{batch-gives-table, by_key-permutes, fresh-gives-table}

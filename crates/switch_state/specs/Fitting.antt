@@ -1,5 +1,5 @@
 -- What a switch is sent can be written.
-use Rattle.std.specs.Prelude.{ℕ, ◌+◌, ◌<◌, ◌^◌, length}
+use Rattle.std.specs.Prelude.{◌+◌, ◌<◌, ◌^◌, length}
 use Rattle.std.specs.List.{AllByRecursion}
 use Rattle.install_plan.specs.declared.written.Batch.{Batch}
 use Rattle.install_plan.specs.declared.written.Written.{Written}

@@ -1,5 +1,5 @@
 -- What the messages to a switch make of its table.
-use Rattle.std.specs.Prelude.{◌≡◌, ℕ, Option, Some, List, [], ◌∷◌, ◌++◌, map, IsPermutation}
+use Rattle.std.specs.Prelude.{◌≡◌, Option, Some, List, [], ◌∷◌, ◌++◌, map, IsPermutation}
 use Rattle.std.specs.List.{AllByRecursion}
 use Rattle.install_plan.specs.Tables.{entries_in, entry_of}
 use Rattle.install_plan.specs.declared.written.Batch.{Batch}
