@@ -20,6 +20,3 @@ pub mod worked;
 
 pub use gate::{Gate, GateDelta};
 pub use switch_meaning::PhysEntry;
-
-#[cfg(test)]
-mod tests;
