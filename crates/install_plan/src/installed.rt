@@ -8,7 +8,7 @@ use crate::key::Key;
 use crate::listing::{copied, count, listed};
 use crate::numbering::{number_all, number_whole};
 use crate::slot::Slot;
-use crate::slots::{keep_all, open, put_into, restore_all, save, take_from};
+use crate::slots::{admit, keep_all, put_into, restore_all, save, take_from};
 use crate::written::{Batch, Written};
 use cv_io::{Duplicate, List, Memory};
 use of10_match::Header;
@@ -111,8 +111,7 @@ impl Installed {
     {
         let key = Key::of(come);
         let copied = come.copy()?;
-        self.finder.insert(&key, &come.m)?;
-        open(self.alloc, &mut self.slots, &key)?;
+        admit(self.alloc, &mut self.slots, &mut self.finder, &key, &come.m)?;
         save(&self.slots, &mut self.saved, &key)?;
         put_into(&mut self.slots, &key, copied)
     }

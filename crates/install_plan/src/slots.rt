@@ -2,6 +2,7 @@
 ghost use Rattle.std.specs.Prelude.{◌≡◌, [], false, IfSome, IsSome, MatchOption, OnOk, Some, is_ok};
 ghost use Rattle.std.specs.List.{AllByRecursion};
 ghost use Rattle.of10_match.specs.Ranges.{IsMatch};
+ghost use Rattle.of10_match.specs.Wildcards.{match_bytes};
 ghost use Rattle.std.specs.BTreeMap.{is_at};
 ghost use Rattle.std.specs.Map.{set_value};
 ghost use Rattle.install_plan.specs.InsideSlots.{AreKept, Fits, IsPutInto, IsTakenFrom, Slots, as_is, as_saved, key_of, order, restored, slot_at, table_by, without_empty};
@@ -13,12 +14,13 @@ use crate::finder::Finder;
 use crate::key::Key;
 use crate::slot::Slot;
 use cv_io::{Duplicate, Memory};
+use of10_match::Match;
 use std::alloc::Global;
 use std::collections::BTreeMap;
 use switch_meaning::PhysEntry;
 
 /// Makes a slot for a key that has none.
-pub fn open(alloc: Global, slots: &mut BTreeMap<Key, Slot>, key: &Key) -> Result<(), Memory>
+fn open(alloc: Global, slots: &mut BTreeMap<Key, Slot>, key: &Key) -> Result<(), Memory>
     ensures there { OnOk result (IsSome (slot_at key.now slots.new.entries)) }
     ensures kept { (saved : Slots) → AreKept slots.old.entries saved → AreKept slots.new.entries saved }
     ensures only { (q : KeyOf) → is_at (order key.now) q ≡ false → IsSome (slot_at q slots.new.entries) → IsSome (slot_at q slots.old.entries) }
@@ -29,6 +31,29 @@ pub fn open(alloc: Global, slots: &mut BTreeMap<Key, Slot>, key: &Key) -> Result
         slots.insert(*key, Slot::new(alloc))?;
     }
     Ok(())
+}
+
+/// Makes a slot for the key of a match that has none, and makes the key known.
+pub fn admit(
+    alloc: Global,
+    slots: &mut BTreeMap<Key, Slot>,
+    finder: &mut Finder,
+    key: &Key,
+    m: &Match,
+) -> Result<(), Memory>
+    requires key { key.now.bytes ≡ match_bytes m.now }
+    requires in_range { IsMatch m.now }
+    ensures there { OnOk result (IsSome (slot_at key.now slots.new.entries)) }
+    ensures kept { (saved : Slots) → AreKept slots.old.entries saved → AreKept slots.new.entries saved }
+    ensures known { AreKnown finder.old slots.old.entries → AreKnown finder.new slots.new.entries }
+    ensures now { table_by as_is slots.new.entries ≡ table_by as_is slots.old.entries }
+    ensures before { (saved : Slots) → AreKept slots.old.entries saved → table_by (as_saved saved) slots.new.entries ≡ table_by (as_saved saved) slots.old.entries }
+{
+    if slots.contains_key(key) {
+        return Ok(());
+    }
+    finder.insert(key, m)?;
+    open(alloc, slots, key)
 }
 
 /// Saves a slot under its key, where none is saved.
@@ -55,10 +80,13 @@ pub fn save(
     ensures kept { AreKept slots.now.entries saved.old.entries → AreKept slots.now.entries saved.new.entries }
     ensures before { AreKept slots.now.entries saved.old.entries → table_by (as_saved saved.new.entries) slots.now.entries ≡ table_by (as_saved saved.old.entries) slots.now.entries }
 {
-    match slots.get(key) {
-        Some(slot) => save_slot(saved, key, slot),
-        None => Ok(()),
+    if saved.contains_key(key) {
+        return Ok(());
     }
+    if let Some(slot) = slots.get(key) {
+        saved.insert(*key, slot.copy()?)?;
+    }
+    Ok(())
 }
 
 /// Saves all slots that aren't saved yet.
