@@ -1,6 +1,0 @@
-pub mod Links
-pub mod Standing
-pub mod InsideListing
-pub mod InsideGiven
-pub mod InsideNodes
-pub mod Tables
