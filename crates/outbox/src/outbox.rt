@@ -1,5 +1,5 @@
 //! The round of a session and the messages that wait for it.
-ghost use Rattle.std.specs.Prelude.{◌≡◌, ◌+◌, ◌++◌, ◌<◌, ◌^◌, IsTrue, length};
+ghost use Rattle.std.specs.Prelude.{◌≡◌, ◌↔◌, ◌+◌, ◌++◌, ◌<◌, ◌^◌, IsTrue, length};
 ghost use Rattle.outbox.specs.Outboxes.{closed as closed_of, is_full as is_full_of, is_open as is_open_of, opened};
 ghost use Rattle.outbox.specs.Outboxes.{taken, taking, turned, unless_taken, unopened, with_more, OutboxOf};
 
@@ -129,7 +129,7 @@ impl Outbox {
 
     /// Whether so many more messages have a place, as those of any machine do.
     pub fn has_place(&self, more: &Letters) -> bool
-        ensures { IsTrue result → length self.now.waiting + length more.now < 2 ^ 63 }
+        ensures { IsTrue result ↔ length self.now.waiting + length more.now < 2 ^ 63 }
     {
         self.waiting.len() + more.len() < 1 << 63
     }

@@ -14,4 +14,5 @@ pub mod ItemSteps
 pub mod Each
 pub mod Passing
 pub mod Unlike
+pub mod Granted
 pub mod Checked

@@ -8,7 +8,8 @@ use Rattle.std.proofs.lemmas.List.Quantifiers.{position-Some}
 use Rattle.std.proofs.lemmas.Option.{get_or_from_slice_get, slice_get_within}
 use Rattle.std.proofs.lemmas.Slice.Eq.{bytes_eq-Decides}
 use Rattle.std.proofs.lemmas.Bool.Decides.{nat_tests}
-use Rattle.toml.specs.Data.{Data, string, integer, float, boolean, datetime, array, table, Members, get_member, as_str}
+use Rattle.toml.specs.Data.{Data, string, integer, float, boolean, datetime, array, table, Members, get_member, as_bool, as_str}
+use Rattle.grants.specs.declared.grant.Grant.{Grant}
 use Rattle.virtual_topology.specs.declared.plan.SwitchItem.{SwitchItem}
 use Rattle.virtual_topology.specs.declared.plan.TopologyPlan.{TopologyPlan}
 use Rattle.virtual_topology.specs.declared.plan.VirtualItem.{VirtualItem}
@@ -27,14 +28,15 @@ use Rattle.policy_file.specs.declared.section.Section.{Section}
 use Rattle.policy_file.specs.declared.section.Section.TheVariants.{Top, Item}
 use Rattle.policy_file.specs.Heads.{head_of, first_of, last_of, items_at, or_absent}
 use Rattle.policy_file.specs.Listed.{items, version_of}
-use Rattle.policy_file.specs.Members.{is_at, is_used, place, rights, member, member_with, numbered, virtual_at, number_of, next_member, members_of, new_controller}
+use Rattle.policy_file.specs.Members.{is_at, is_used, place, ports_at, region_in, region_key, rights, member, member_with, numbered, virtual_at, number_of, next_member, members_of, new_controller}
 use Rattle.policy_file.specs.Outcomes.{then_do, found}
 use Rattle.policy_file.specs.Plans.{dpid_is_taken, name_is_taken, new_dpid, new_name, plan_of, switch, virtual_switch, switches as switches_of, virtuals as virtuals_of, pairs, read_at, if_new, with_item, items_after}
 use Rattle.policy_file.specs.Reading.{draft_of, policy_of, number_of as number_of_version}
-use Rattle.policy_file.specs.Sound.{IsSoundMember, IsSoundSwitch, EachToEarlier, AreUnlikeSwitches, AreUnlikeVirtuals, AreUnlikeMembers, KeepsLimits, StandsAt}
+use Rattle.policy_file.specs.Sound.{IsSoundGrant, IsSoundMember, IsSoundSwitch, EachToEarlier, AreUnlikeSwitches, AreUnlikeVirtuals, AreUnlikeMembers, KeepsLimits, StandsAt}
 use Rattle.policy_file.specs.Values.{address, dpid, expression, name, number, ports, is_name, is_address}
-use Rattle.policy_file.specs.Words.{actions, virtual_ports}
-use Rattle.policy_file.specs.Regions.{if_there}
+use Rattle.policy_file.specs.Words.{actions, fields, nothing, virtual_ports}
+use Rattle.policy_file.specs.Regions.{all_headers, if_there}
+use Rattle.policy_file.proofs.Granted.{AreApart, regions_apart, side_rises, side_there}
 use Rattle.policy_file.proofs.Outcomes.{done, found_some}
 use Rattle.policy_file.proofs.Unlike.{IsReadApart, items_apart, not_any, not_taken, unlike_all, ports_within}
 use Rattle.policy_file.proofs.Kept.{IsWithin, absent_within, read_within, read_passes, absent_passes, there_passes, Gives, items_each}
@@ -90,6 +92,31 @@ named_there virtuals (Some s) n x e t =
     let is : same_name x.name s ≡ true = subst (λ (v : VirtualItem). same_name v.name s ≡ true) (get_or_from_slice_get virtuals n x x t) p.1 in
     ap Some (sym ((bytes_eq-Decides x.name s).0 is))
 
+-- the boxes of a member's region
+rights_apart : (version : Version) (virtuals : List VirtualItem) (s : Section) (ms : Members) (r : Rights) → rights version virtuals s ms ≡ Ok r → AreApart r.regions
+rights_apart version virtuals s ms r e =
+    let a = done (found s (codes "match") (or_absent nothing fields (get_member (codes "match") ms))) _ r e in
+    let b = done (found s (codes "misses") (or_absent true as_bool (get_member (codes "misses") ms))) _ r a.second in
+    let c = done (found s (codes "packet_out") (or_absent false as_bool (get_member (codes "packet_out") ms))) _ r b.second in
+    let d = done (found s (codes "ports") (ports_at virtuals ms)) _ r c.second in
+    let f = done (found s (region_key version) (or_absent all_headers (region_in version) (get_member (region_key version) ms))) _ r d.second in
+    let region : or_absent all_headers (region_in version) (get_member (region_key version) ms) ≡ Some f.value = found_some s (region_key version) _ f.value f.first in
+    let same : record { nameable = a.value; misses = b.value; packet_out = c.value; listed = d.value; regions = f.value } ≡ r = cc f.second in
+    subst (λ (x : Rights). AreApart x.regions) same (regions_apart version (get_member (region_key version) ms) f.value region)
+
+-- what a grant shows of the virtual switch that it is for
+grant_sound : (number : ℕ) (v : VirtualItem) (place : Place) (r : Rights) → AreApart r.regions → IsSoundGrant (member_with number v place r).grant v
+grant_sound number v place r h = record {
+  rising = record { outside = side_rises v r.listed false; links = side_rises v r.listed true };
+  outside = side_there v r.listed false;
+  links = side_there v r.listed true;
+  boxes = h.boxes;
+  apart = h.apart;
+}
+
+shown : (virtuals : List VirtualItem) (v : ℕ × VirtualItem) (g : Grant) → slice_get virtuals v.0 ≡ Some v.1 → IsSoundGrant g v.1 → IfSome (slice_get virtuals v.0) (IsSoundGrant g)
+shown virtuals v g e h = rw e h
+
 stands : (virtuals : List VirtualItem) (v : ℕ × VirtualItem) → slice_get virtuals v.0 ≡ Some v.1 → IfSome (slice_get virtuals v.0) (λ (x : VirtualItem). x.name ≡ v.1.name)
 stands virtuals v e = rw e refl
 
@@ -105,6 +132,7 @@ member_sound version virtuals earlier s ms m e =
       controller = k.controller;
       there = slice_get_within virtuals c.value.0 c.value.1 n.there;
       stands = stands virtuals c.value n.there;
+      grant = shown virtuals c.value (member_with c.value.0 c.value.1 a.value b.value).grant n.there (grant_sound c.value.0 c.value.1 a.value b.value (rights_apart version virtuals s ms b.value b.first));
       least_bits = k.bits.least_is;
       most_bits = k.bits.greatest_is;
       some_entries = k.entries.least_is;

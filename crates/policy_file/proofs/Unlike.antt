@@ -23,11 +23,11 @@ use Rattle.policy_file.proofs.Kept.{number_within}
 pub record IsReadApart {A : Type 0} (read : List A → Section → Members → Result A PolicyFault) (R : A → A → Type 0) : Type 0 where
   pub each : (earlier : List A) (s : Section) (ms : Members) (x : A) → read earlier s ms ≡ Ok x → AllByRecursion (R x) earlier
 
-all_end : {A : Type 0} (P : A → Type 0) (xs : List A) (x : A) → AllByRecursion P xs → P x → AllByRecursion P (xs ++ x ∷ [])
+pub all_end : {A : Type 0} (P : A → Type 0) (xs : List A) (x : A) → AllByRecursion P xs → P x → AllByRecursion P (xs ++ x ∷ [])
 all_end P [] x h p = (p, tt)
 all_end P (y ∷ ys) x h p = (h.0, all_end P ys x h.1 p)
 
-earlier_end : {A : Type 0} (R : A → A → Type 0) (xs : List A) (x : A) → EachToEarlier R xs → AllByRecursion (R x) xs → EachToEarlier R (xs ++ x ∷ [])
+pub earlier_end : {A : Type 0} (R : A → A → Type 0) (xs : List A) (x : A) → EachToEarlier R xs → AllByRecursion (R x) xs → EachToEarlier R (xs ++ x ∷ [])
 earlier_end R [] x h k = (tt, tt)
 earlier_end R (y ∷ ys) x h k = (all_end (λ z. R z y) ys x h.0 k.0, earlier_end R ys x h.1 k.1)
 

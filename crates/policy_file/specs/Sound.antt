@@ -1,8 +1,14 @@
 -- What holds of each policy: its numbers are in range, and it fits together.
-use Rattle.std.specs.Prelude.{◌≡◌, ◌==◌, ℕ, ◌≤◌, ◌<◌, true, false, List, [], ◌∷◌, length, Option, None, Some, IfSome, IsOk, IfOk, slice_get}
-use Rattle.std.specs.List.{AllByRecursion}
+use Rattle.std.specs.Prelude.{◌≡◌, ◌==◌, ◌&&◌, ℕ, ◌≤◌, ◌<◌, Bool, true, false, is_none, is_some, List, [], ◌∷◌, length, Option, None, Some, IfSome, IsOk, IfOk, slice_get, if◌then◌else◌}
+use Rattle.std.specs.List.{AllByRecursion, list_any}
+use Rattle.of10_actions.specs.Ports.{AreRising}
+use Rattle.of10_match.specs.Fields.{MatchOf}
+use Rattle.of10_match.specs.Matching.{overlaps}
+use Rattle.of10_match.specs.Normal.{IsNormal}
+use Rattle.grants.specs.declared.grant.Grant.{Grant}
 use Rattle.virtual_topology.specs.declared.plan.SwitchItem.{SwitchItem}
 use Rattle.virtual_topology.specs.declared.plan.VirtualItem.{VirtualItem}
+use Rattle.virtual_topology.specs.declared.plan.VirtualPort.{VirtualPort}
 use Rattle.virtual_topology.specs.Places.{same_name}
 use Rattle.virtual_topology.specs.Faults.{fault_of}
 use Rattle.inner_paths.specs.Cuts.{cut_fault}
@@ -18,11 +24,42 @@ use Rattle.policy_file.specs.Widths.{too_wide_in}
 abbrev pub StandsAt : List VirtualItem → MemberItem → Type 0
 StandsAt virtuals m = IfSome (slice_get virtuals m.grant.ports.v) (λ (v : VirtualItem). v.name ≡ m.vsw)
 
+-- each item is so to those before it
+abbrev pub EachToEarlier : {A : Type 0} → (A → A → Type 0) → List A → Type 0
+EachToEarlier R [] = Unit {0}
+EachToEarlier R (x ∷ xs) = AllByRecursion (λ y. R y x) xs × EachToEarlier R xs
+
+-- a box of a region: no port is named, and each field that is named stands with those that it needs
+pub record IsSoundBox (m : MatchOf) : Type 0 where
+  pub normal : IsNormal m
+  pub port : m.in_port ≡ None
+
+-- a box holds no header that the earlier one holds
+abbrev pub LiesApart : MatchOf → MatchOf → Type 0
+LiesApart later earlier = overlaps earlier later ≡ false
+
+-- a link port of this number, or an outside port
+abbrev pub is_at_side : Bool → ℕ → VirtualPort → Bool
+is_at_side links port q = (q.port == port) && (if links then is_none q.at else is_some q.at)
+
+-- the virtual switch has such a port
+abbrev pub has_at_side : VirtualItem → Bool → ℕ → Bool
+has_at_side v links port = list_any (is_at_side links port) v.ports
+
+-- what a grant shows of a virtual switch: ports that it has, in rising order, and boxes of which no two hold a header
+pub record IsSoundGrant (g : Grant) (v : VirtualItem) : Type 0 where
+  pub rising : AreRising g.ports
+  pub outside : AllByRecursion (λ port. has_at_side v false port ≡ true) g.ports.outside
+  pub links : AllByRecursion (λ port. has_at_side v true port ≡ true) g.ports.links
+  pub boxes : AllByRecursion IsSoundBox g.regions
+  pub apart : EachToEarlier LiesApart g.regions
+
 -- what holds of each member
 pub record IsSoundMember (virtuals : List VirtualItem) (m : MemberItem) : Type 0 where
   pub controller : is_name m.controller ≡ true
   pub there : m.grant.ports.v < length virtuals
   pub stands : StandsAt virtuals m
+  pub grant : IfSome (slice_get virtuals m.grant.ports.v) (IsSoundGrant m.grant)
   pub least_bits : 2 ≤ m.bits
   pub most_bits : m.bits ≤ 15
   pub some_entries : 1 ≤ m.entries
@@ -36,11 +73,6 @@ IsPortNumber n = (1 ≤ n) × (n ≤ 65279)
 pub record IsSoundSwitch (s : SwitchItem) : Type 0 where
   pub name : is_name s.name ≡ true
   pub ports : AllByRecursion IsPortNumber s.ports
-
--- each item is so to those before it
-abbrev pub EachToEarlier : {A : Type 0} → (A → A → Type 0) → List A → Type 0
-EachToEarlier R [] = Unit {0}
-EachToEarlier R (x ∷ xs) = AllByRecursion (λ y. R y x) xs × EachToEarlier R xs
 
 -- two switches have neither one name nor one datapath id
 pub record AreUnlikeSwitches (a b : SwitchItem) : Type 0 where

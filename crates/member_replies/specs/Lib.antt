@@ -1,0 +1,10 @@
+pub mod Ports
+pub mod Switches
+pub mod Packets
+pub mod Refusals
+pub mod Audit
+pub mod Filters
+pub mod Statistics
+pub mod InsideSums
+pub mod Worked
+pub mod WorkedStatistics

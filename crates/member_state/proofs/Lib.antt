@@ -1,0 +1,11 @@
+pub mod Lists
+pub mod Levels
+pub mod Ranks
+pub mod Unused
+pub mod Plans
+pub mod Rows
+pub mod Within
+pub mod Due
+pub mod LeafLists
+pub mod LeafEffects
+pub mod LeafFacts
