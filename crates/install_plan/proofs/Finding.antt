@@ -133,6 +133,10 @@ pub others-stay : (numbers value numbers' : Numbers) (k : Key) → numbers ≡ v
 others-stay numbers value numbers' k view at q f s =
     subst IsSome (sym (at q ∙ ap (λ c. cond c None (number_at q numbers)) f)) (subst (λ (ns : Numbers). IsSome (number_at q ns)) (sym view) s)
 
+-- the key that goes has no number
+pub goes : (numbers numbers' : Numbers) (k : Key) → ((q : Key) → number_at q numbers' ≡ cond (is_at (order k) q) None (number_at q numbers)) → number_at k numbers' ≡ None
+goes numbers numbers' k at = at k ∙ ap (λ c. cond c None (number_at k numbers)) (at_self k)
+
 -- the keys of all matches that hold a header
 pub are-held : (numbers : Numbers) (items : List Item) (next : ℕ) (h : HeaderOf) (ids : List ℕ) → AreIndexed numbers items next → IsDistinct ◌==◌ (map (λ (e : Item). e.id) items)
     → IsPermutation (ids_of (is_holding h) items) ids → AreHeld numbers h (flat_map (keys_under items) ids)

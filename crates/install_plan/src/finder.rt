@@ -117,6 +117,7 @@ impl Finder {
 
     /// Takes a key's number back, where it has one.
     pub fn remove(&mut self, key: &Key)
+        ensures gone { number_at key.now self.new ≡ None }
         ensures others { (q : KeyOf) → is_at (order key.now) q ≡ false → IsSome (number_at q self.old) → IsSome (number_at q self.new) }
     {
         // The proof learns that no two matches stand under one number.

@@ -1,5 +1,5 @@
 use Rattle.std.proofs.Common.{sym}
-use Rattle.install_plan.proofs.Finding.{indexed-less, others-stay}
+use Rattle.install_plan.proofs.Finding.{goes, indexed-less, others-stay}
 use Rattle.install_plan.proofs.finder.Finder.remove.Goals as goal
 
 pub invariant_of-self : goal.invariant_of-self
@@ -9,5 +9,12 @@ invariant_of-self c =
 
 pub returns-in-Some : goal.returns-in-Some
 returns-in-Some c = record {
+  gone = goes c.self.inside.numbers.entries c.take.new.numbers.entries c.args.key.now c.take.ensures.others;
+  others = others-stay c.self.inside.numbers.entries c.args.self.now c.take.new.numbers.entries c.args.key.now c.self.view_is c.take.ensures.others;
+}
+
+pub returns-in_default : goal.returns-in_default
+returns-in_default c = record {
+  gone = goes c.self.inside.numbers.entries c.take.new.numbers.entries c.args.key.now c.take.ensures.others;
   others = others-stay c.self.inside.numbers.entries c.args.self.now c.take.new.numbers.entries c.args.key.now c.self.view_is c.take.ensures.others;
 }
