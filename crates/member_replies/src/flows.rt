@@ -139,6 +139,7 @@ fn with_entry_at<C: EntryCounts>(
     filter: &Filter,
     counts: &C,
 ) -> Sums
+    requires { IsSound table.now.table }
     ensures { result ≡ sums_with (C.numbers counts.now) sums (listed filter.now (option_to_list (slice_get table.now.table.entries place))) }
 {
     let Some(entry) = table.at(place) else {
