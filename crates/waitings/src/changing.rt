@@ -29,14 +29,23 @@ fn parts_without_switch(parts: List<Part>, switch: u32) -> List<Part>
     List::from_vec(parts)
 }
 
-/// The answer of a switch that has no xid yet is that to the request of this xid.
-fn number_parts(parts: &mut [Part], switch: u32, xid: u32)
+impl Part {
+    /// The answer of a switch that has no xid yet is that to the request of this xid.
+    fn give_xid(&mut self, switch: u32, xid: u32)
+        ensures { self.new ≡ part_with_xid switch xid self.old }
+    {
+        if self.is(switch, 0) {
+            self.number = u64::from(xid);
+        }
+    }
+}
+
+/// The same of all parts.
+fn give_parts_xid(parts: &mut [Part], switch: u32, xid: u32)
     ensures { parts.new ≡ map (part_with_xid switch xid) parts.old }
 {
     for part in parts.iter_mut() {
-        if part.is(switch, 0) {
-            part.number = u64::from(xid);
-        }
+        part.give_xid(switch, xid);
     }
 }
 
@@ -76,11 +85,11 @@ impl Waiting {
     }
 
     /// A poll of this virtual switch is asked of a switch.
-    fn number(&mut self, v: u32, switch: u32, xid: u32)
+    fn give_xid(&mut self, v: u32, switch: u32, xid: u32)
         ensures { self.new ≡ with_xid v switch xid self.old }
     {
         if self.v == v {
-            number_parts(self.parts.as_mut_slice(), switch, xid);
+            give_parts_xid(self.parts.as_mut_slice(), switch, xid);
         }
     }
 }
@@ -135,11 +144,11 @@ pub(crate) fn pass_all(alloc: Global, list: &mut [Waiting], switch: u32, number:
 }
 
 /// Polls of this virtual switch are asked of a switch.
-pub(crate) fn number_all(list: &mut [Waiting], v: u32, switch: u32, xid: u32)
+pub(crate) fn give_all_xid(list: &mut [Waiting], v: u32, switch: u32, xid: u32)
     ensures { list.new ≡ map (with_xid v switch xid) list.old }
 {
     for waiting in list.iter_mut() {
-        waiting.number(v, switch, xid);
+        waiting.give_xid(v, switch, xid);
     }
 }
 

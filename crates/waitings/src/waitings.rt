@@ -9,7 +9,8 @@ ghost use Rattle.waitings.specs.Waitings.{with_xid, without_barrier, without_par
 ghost use Rattle.waitings.specs.declared.state.Waiting.{Waiting as WaitingOf};
 
 use crate::changing::{
-    done_among, drop_all_parts_of, number_all, pass_all, take_flows, without_asked_by, without_done,
+    done_among, drop_all_parts_of, give_all_xid, pass_all, take_flows, without_asked_by,
+    without_done,
 };
 use crate::looking::{
     any_asked_by, any_decides_on, any_part_of, any_waits_for_barrier, any_waits_for_flows,
@@ -161,7 +162,10 @@ impl<'a> Waitings<'a> {
         ensures now { OnOk result (self.new.now ≡ changed_first (waits_for_flows_of switch xid) (unless_more more switch xid) self.old.now) }
         ensures memory { OnErr result (self.new.now ≡ self.old.now) }
     {
-        if more || !self.waits_for_flows(switch, xid) {
+        if more {
+            return Ok(());
+        }
+        if !self.waits_for_flows(switch, xid) {
             return Ok(());
         }
         let mut list = self.take_list()?;
@@ -207,7 +211,7 @@ impl<'a> Waitings<'a> {
         ensures memory { OnErr result (self.new.now ≡ self.old.now) }
     {
         let mut list = self.take_list()?;
-        number_all(list.as_mut_slice(), v, switch, xid);
+        give_all_xid(list.as_mut_slice(), v, switch, xid);
         self.put(list);
         Ok(())
     }
