@@ -1,8 +1,8 @@
 -- Lists that a change leaves as they are.
-use Rattle.std.proofs.Common.{◌≡◌, ℕ, Bool, true, false, List, [], ◌∷◌, length, refl, ap, sym, subst, ◌∙◌}
+use Rattle.std.proofs.Common.{◌≡◌, ℕ, suc, Bool, true, false, List, [], ◌∷◌, length, refl, ap, sym, ◌∙◌, arith}
 use Rattle.std.specs.Prelude.{◌==◌, ◌||◌, ◌&&◌, filter, map, not, if◌then◌else◌}
 use Rattle.std.specs.List.{list_any}
-use Rattle.std.proofs.lemmas.Bool.{or_parts}
+use Rattle.std.proofs.lemmas.Bool.{eqb-true, or_parts}
 use Rattle.waitings.specs.Waitings.{has_part_of, is_done, is_of_barriers, is_part, waits_for, waits_for_barrier, without_barrier, without_part, without_parts_of}
 use Rattle.waitings.specs.declared.state.Part.{Part}
 use Rattle.waitings.specs.declared.state.Waiting.{Waiting}
@@ -23,6 +23,9 @@ map_none p f same (x ∷ xs) h =
     let parts = or_parts (p x) (list_any p xs) h in
     ap (λ y. y ∷ map f xs) (same x parts.0) ∙ ap (λ ys. x ∷ ys) (map_none p f same xs parts.1)
 
+cons-nil : {A : Type 0} {x : A} {xs : List A} → x ∷ xs ≡ [] → ⊥
+cons-nil e = cc
+
 -- where none is kept, none passes
 none_kept : {A : Type 0} (p : A → Bool) (xs : List A) → filter p xs ≡ [] → list_any p xs ≡ false
 none_kept p [] h = refl
@@ -30,13 +33,16 @@ none_kept {A} p (x ∷ xs) h = by (p x) h (none_kept p xs)
   where
     by : (b : Bool) → (if b then x ∷ filter p xs else filter p xs) ≡ [] → (filter p xs ≡ [] → list_any p xs ≡ false)
         → (b || list_any p xs) ≡ false
-    by true h rest = cc
+    by true h rest = absurd (cons-nil h)
     by false h rest = rest h
+
+eqb-zero : (n : ℕ) → (suc n == 0) ≡ true → ⊥
+eqb-zero n h = let e : suc n ≡ 0 = eqb-true (suc n) 0 h in omega arith
 
 -- a list without length
 no_length : {A : Type 0} (xs : List A) → (length xs == 0) ≡ true → xs ≡ []
 no_length [] h = refl
-no_length (x ∷ xs) h = cc
+no_length (x ∷ xs) h = absurd (eqb-zero (length xs) h)
 
 -- where nothing is done, all still wait
 pub none_done : (done ws : List Waiting) → done ≡ filter is_done ws → (length done == 0) ≡ true
