@@ -1,8 +1,9 @@
 -- Lists of which the first item that passes a test is changed.
-use Rattle.std.proofs.Common.{◌≡◌, ℕ, zero, suc, ◌<◌, Bool, true, false, List, [], ◌∷◌, length, take, set, get_or, refl, ap, sym, subst, ◌∙◌, arith}
+use Rattle.std.proofs.Common.{◌≡◌, ℕ, zero, suc, ◌<◌, ◌≤◌, Bool, true, false, List, [], ◌∷◌, length, take, set, get_or, refl, ap, sym, subst, ◌∙◌, arith}
 use Rattle.std.specs.Prelude.{if◌then◌else◌}
 use Rattle.std.specs.List.{list_any}
 use Rattle.std.proofs.lemmas.Bool.{or_parts}
+use Rattle.std.proofs.lemmas.List.{get_or_default, take_all}
 use Rattle.waitings.specs.Lists.{changed_first}
 
 module _ {A : Type 0} (test : A → Bool) (f : A → A) where
@@ -33,3 +34,20 @@ module _ {A : Type 0} (test : A → Bool) (f : A → A) where
       let parts = or_parts (test y) (list_any test (take i xs)) none in
       ap (λ zs. y ∷ zs) (first_at xs i x (omega arith) is parts.1 passes)
       ∙ sym (ap (λ b. if b then f y ∷ xs else y ∷ changed_first test f xs) parts.0)
+
+  -- the first that passes is changed in place
+  pub first_changed : (xs ys : List A) (i : ℕ) (d e y : A) → i < length xs → ys ≡ xs → list_any test (take i xs) ≡ false
+      → true ≡ test (get_or ys i d) → y ≡ f (get_or ys i e) → set ys i y ≡ changed_first test f xs
+  first_changed xs ys i d e y within same none passes new =
+      let here : true ≡ test (get_or xs i d) = subst (λ zs. true ≡ test (get_or zs i d)) same passes in
+      let made : y ≡ f (get_or xs i e) = subst (λ zs. y ≡ f (get_or zs i e)) same new in
+      let read : get_or xs i e ≡ get_or xs i d = get_or_default xs i e d within in
+      ap (λ zs. set zs i y) same
+      ∙ (ap (set xs i) made
+      ∙ first_at xs i (get_or xs i e) within (get_or_default xs i e (get_or xs i e) within) none (ap test read ∙ sym here))
+
+  -- none has passed, up to the end
+  pub first_past : (xs ys : List A) (i : ℕ) → length xs ≤ i → ys ≡ xs → list_any test (take i xs) ≡ false
+      → ys ≡ changed_first test f xs
+  first_past xs ys i past same none =
+      same ∙ sym (first_none xs (subst (λ zs. list_any test zs ≡ false) (take_all i xs past) none))

@@ -1,5 +1,5 @@
 //! Changes of what is waited for.
-ghost use Rattle.std.specs.Prelude.{◌≡◌, IfOk, filter, map, not};
+ghost use Rattle.std.specs.Prelude.{◌≡◌, ◌==◌, IfOk, filter, map, not};
 ghost use Rattle.waitings.specs.Lists.{changed_first};
 ghost use Rattle.waitings.specs.Waitings.{is_asked_by, is_done, is_part, part_with_xid, unless_more, waits_for_flows};
 ghost use Rattle.waitings.specs.Waitings.{with_xid, without_barrier, without_part, without_parts_of};
