@@ -1,5 +1,6 @@
 -- Lists of which the first item that passes a test is changed.
-use Rattle.std.proofs.Common.{◌≡◌, ℕ, zero, suc, ◌<◌, ◌≤◌, Bool, true, false, List, [], ◌∷◌, length, take, set, get_or, refl, ap, sym, subst, ◌∙◌, arith}
+use Rattle.std.proofs.Common.{◌≡◌, ℕ, zero, suc, ◌<◌, ◌≤◌, Bool, true, false, List, [], ◌∷◌, length, take, set}
+use Rattle.std.proofs.Common.{get_or, refl, ap, sym, subst, ◌∙◌, arith}
 use Rattle.std.specs.Prelude.{if◌then◌else◌}
 use Rattle.std.specs.List.{list_any}
 use Rattle.std.proofs.lemmas.Bool.{or_parts}
@@ -44,7 +45,8 @@ module _ {A : Type 0} (test : A → Bool) (f : A → A) where
       let read : get_or xs i e ≡ get_or xs i d = get_or_default xs i e d within in
       ap (λ zs. set zs i y) same
       ∙ (ap (set xs i) made
-      ∙ first_at xs i (get_or xs i e) within (get_or_default xs i e (get_or xs i e) within) none (ap test read ∙ sym here))
+      ∙ first_at xs i (get_or xs i e) within (get_or_default xs i e (get_or xs i e) within) none
+      (ap test read ∙ sym here))
 
   -- none has passed, up to the end
   pub first_past : (xs ys : List A) (i : ℕ) → length xs ≤ i → ys ≡ xs → list_any test (take i xs) ≡ false

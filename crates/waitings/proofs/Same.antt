@@ -3,7 +3,8 @@ use Rattle.std.proofs.Common.{◌≡◌, ℕ, suc, Bool, true, false, List, [], 
 use Rattle.std.specs.Prelude.{◌==◌, ◌||◌, ◌&&◌, filter, map, not, if◌then◌else◌}
 use Rattle.std.specs.List.{list_any}
 use Rattle.std.proofs.lemmas.Bool.{eqb-true, or_parts}
-use Rattle.waitings.specs.Waitings.{has_part_of, is_done, is_of_barriers, is_part, waits_for, waits_for_barrier, without_barrier, without_part, without_parts_of}
+use Rattle.waitings.specs.Waitings.{has_part_of, is_done, is_of_barriers, is_part, waits_for, waits_for_barrier}
+use Rattle.waitings.specs.Waitings.{without_barrier, without_part, without_parts_of}
 use Rattle.waitings.specs.declared.state.Part.{Part}
 use Rattle.waitings.specs.declared.state.Waiting.{Waiting}
 
@@ -54,11 +55,13 @@ without_parts-none : (n : ℕ) (w : Waiting) → has_part_of n w ≡ false → w
 without_parts-none n w h =
     ap (λ (ps : List Part). record w { parts = ps }) (filter_none (λ (part : Part). part.switch == n) w.parts h)
 
-pub all_without_parts : (n : ℕ) (ws : List Waiting) → list_any (has_part_of n) ws ≡ false → map (without_parts_of n) ws ≡ ws
+pub all_without_parts : (n : ℕ) (ws : List Waiting) → list_any (has_part_of n) ws ≡ false
+    → map (without_parts_of n) ws ≡ ws
 all_without_parts n ws h = map_none (has_part_of n) (without_parts_of n) (without_parts-none n) ws h
 
 -- what doesn't wait for a barrier waits on
-without_barrier-none : (n number : ℕ) (w : Waiting) → waits_for_barrier n number w ≡ false → without_barrier n number w ≡ w
+without_barrier-none : (n number : ℕ) (w : Waiting) → waits_for_barrier n number w ≡ false
+    → without_barrier n number w ≡ w
 without_barrier-none n number w h = by (is_of_barriers w.purpose) h
   where
     by : (b : Bool) → (b && waits_for n number w) ≡ false → (if b then without_part n number w else w) ≡ w

@@ -1,5 +1,6 @@
 -- The numbers of ports that switches tell a poll.
-use Rattle.std.specs.Prelude.{ℕ, Bool, ◌==◌, not, List, [], ◌∷◌, ◌++◌, Option, Some, None, filter, filter_map, fold, if◌then◌else◌, option_and_then}
+use Rattle.std.specs.Prelude.{ℕ, Bool, ◌==◌, not, List, [], ◌∷◌, ◌++◌, Option, Some, None, filter, filter_map, fold}
+use Rattle.std.specs.Prelude.{if◌then◌else◌, option_and_then}
 use Rattle.of10_stats.specs.declared.reply.PortStat.{PortStat}
 use Rattle.virtual_topology.specs.Rows.{Spot}
 use Rattle.virtual_topology.specs.Wires.{entering_of}

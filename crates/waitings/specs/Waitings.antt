@@ -1,5 +1,6 @@
 -- What is waited for, by its parts and its purpose.
-use Rattle.std.specs.Prelude.{ℕ, Bool, true, false, ◌==◌, ◌&&◌, not, List, [], Option, Some, None, filter, if◌then◌else◌, length, map}
+use Rattle.std.specs.Prelude.{ℕ, Bool, true, false, ◌==◌, ◌&&◌, not, List, [], Option, Some, None, filter}
+use Rattle.std.specs.Prelude.{if◌then◌else◌, length, map}
 use Rattle.std.specs.List.{list_any}
 use Rattle.std.specs.Option.{option_map_or}
 use Rattle.waitings.specs.declared.state.Asker.{Asker}

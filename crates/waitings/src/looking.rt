@@ -1,10 +1,14 @@
 //! Who is to be answered, and what is waited for.
 ghost use Rattle.std.specs.Prelude.{◌≡◌};
 ghost use Rattle.std.specs.List.{list_any};
-ghost use Rattle.waitings.specs.Waitings.{asker_of, decides_on as decides_on_of, has_part_of as has_part_of_of, is_asked_by as is_asked_by_of, is_done as is_done_of};
-ghost use Rattle.waitings.specs.Waitings.{is_of_barriers as is_of_barriers_of, is_of_flows as is_of_flows_of, is_of_ports as is_of_ports_of, is_on as is_on_of, is_part};
-ghost use Rattle.waitings.specs.Waitings.{unwritten as unwritten_of, waits_for as waits_for_of, waits_for_barrier as waits_for_barrier_of};
-ghost use Rattle.waitings.specs.Waitings.{waits_for_flows as waits_for_flows_of, waits_for_ports as waits_for_ports_of};
+ghost use Rattle.waitings.specs.Waitings.{asker_of, decides_on as decides_on_of, has_part_of as has_part_of_of};
+ghost use Rattle.waitings.specs.Waitings.{is_asked_by as is_asked_by_of, is_done as is_done_of};
+ghost use Rattle.waitings.specs.Waitings.{is_of_barriers as is_of_barriers_of, is_of_flows as is_of_flows_of};
+ghost use Rattle.waitings.specs.Waitings.{is_of_ports as is_of_ports_of, is_on as is_on_of, is_part};
+ghost use Rattle.waitings.specs.Waitings.{unwritten as unwritten_of, waits_for as waits_for_of};
+ghost use Rattle.waitings.specs.Waitings.{waits_for_barrier as waits_for_barrier_of};
+ghost use Rattle.waitings.specs.Waitings.{waits_for_flows as waits_for_flows_of};
+ghost use Rattle.waitings.specs.Waitings.{waits_for_ports as waits_for_ports_of};
 
 use crate::state::{Asker, Doubt, Part, Purpose, Waiting};
 

@@ -37,7 +37,8 @@ fn tell(
     v: u32,
     stats: &[PortStat],
 ) -> Result<(), Memory>
-    ensures told { OnOk result (told.new ≡ fold with_told_of told.old (filter_map (told_of_of topology.now switch v) stats.now)) }
+    ensures told { OnOk result
+        (told.new ≡ fold with_told_of told.old (filter_map (told_of_of topology.now switch v) stats.now)) }
     ensures memory { OnErr result (told.new ≡ told.old) }
 {
     let mut known = told.copied()?.into_vec();
@@ -59,7 +60,8 @@ impl Purpose {
         v: u32,
         stats: &[PortStat],
     ) -> Result<(), Memory>
-        ensures told { OnOk result (self.new ≡ purpose_told (filter_map (told_of_of topology.now switch v) stats.now) self.old) }
+        ensures told { OnOk result
+            (self.new ≡ purpose_told (filter_map (told_of_of topology.now switch v) stats.now) self.old) }
         ensures memory { OnErr result (self.new ≡ self.old) }
     {
         match self {
@@ -99,7 +101,9 @@ pub(crate) fn take_ports(
     more: bool,
     stats: &[PortStat],
 ) -> Result<(), Memory>
-    ensures taken { OnOk result (list.new ≡ changed_first (waits_for_ports switch xid) (taking_ports topology.now switch xid more stats.now) list.old) }
+    ensures taken { OnOk result
+        (list.new ≡ changed_first (waits_for_ports switch xid)
+        (taking_ports topology.now switch xid more stats.now) list.old) }
     ensures memory { OnErr result (list.new ≡ list.old) }
 {
     for waiting in list.iter_mut() {

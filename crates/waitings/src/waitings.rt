@@ -159,7 +159,8 @@ impl<'a> Waitings<'a> {
     /// The oldest poll of entries that waits for this part takes it.
     pub fn flows_told(&mut self, switch: u32, xid: u32, more: bool) -> Result<(), Memory>
         ensures base { self.new.base ≡ self.old.base }
-        ensures now { OnOk result (self.new.now ≡ changed_first (waits_for_flows_of switch xid) (unless_more more switch xid) self.old.now) }
+        ensures now { OnOk result
+            (self.new.now ≡ changed_first (waits_for_flows_of switch xid) (unless_more more switch xid) self.old.now) }
         ensures memory { OnErr result (self.new.now ≡ self.old.now) }
     {
         if more {
@@ -184,7 +185,9 @@ impl<'a> Waitings<'a> {
         stats: &[PortStat],
     ) -> Result<(), Memory>
         ensures base { self.new.base ≡ self.old.base }
-        ensures now { OnOk result (self.new.now ≡ changed_first (waits_for_ports switch xid) (taking_ports topology.now switch xid more stats.now) self.old.now) }
+        ensures now { OnOk result
+            (self.new.now ≡ changed_first (waits_for_ports switch xid)
+            (taking_ports topology.now switch xid more stats.now) self.old.now) }
         ensures memory { OnErr result (self.new.now ≡ self.old.now) }
     {
         if !any_waits_for_ports(self.list(), switch, xid) {

@@ -1,4 +1,4 @@
-use Rattle.std.proofs.Common.{rules, ◌≡◌, ap, ◌∙◌}
+use Rattle.std.proofs.Common.{rules, ◌≡◌, Bool, ap, ◌∙◌}
 use Rattle.std.specs.Prelude.{◌==◌, filter, not}
 use Rattle.std.proofs.lemmas.Fn.{filter_same}
 use Rattle.waitings.specs.declared.state.Part.{Part}
@@ -6,6 +6,7 @@ use Rattle.waitings.proofs.changing.parts_without_switch.Goals as goal
 
 pub returns : goal.returns
 returns c =
-    let kept : c.retain.new.self.items ≡ filter (λ (part : Part). not (part.switch == c.args.switch)) c.into_vec-parts.result.items =
-    filter_same _ (λ (part : Part). not (part.switch == c.args.switch)) _ (λ x b f' k. search rules) _ _ c.retain.ensures.filtered in
-    c.from_vec.ensures ∙ (kept ∙ ap (filter (λ (part : Part). not (part.switch == c.args.switch))) c.into_vec-parts.ensures)
+    let stays : Part → Bool = λ part. not (part.switch == c.args.switch) in
+    let kept : c.retain.new.self.items ≡ filter stays c.into_vec-parts.result.items =
+    filter_same _ stays _ (λ x b f' k. search rules) _ _ c.retain.ensures.filtered in
+    c.from_vec.ensures ∙ (kept ∙ ap (filter stays) c.into_vec-parts.ensures)

@@ -6,5 +6,7 @@ use Rattle.waitings.proofs.waitings.Waitings.barrier_passed.Goals as goal
 
 pub returns-then-not-any_waits_for_barrier-clause-now : goal.returns-then-not-any_waits_for_barrier-clause-now
 returns-then-not-any_waits_for_barrier-clause-now c =
-    let none = ap (list_any (waits_for_barrier c.args.switch c.args.number)) (sym c.list.ensures) ∙ (sym c.any_waits_for_barrier.ensures ∙ c.if-not-any_waits_for_barrier.true) in
+    let none =
+    ap (list_any (waits_for_barrier c.args.switch c.args.number)) (sym c.list.ensures)
+    ∙ (sym c.any_waits_for_barrier.ensures ∙ c.if-not-any_waits_for_barrier.true) in
     sym (all_without_barrier c.args.switch c.args.number c.args.self.now.now none)

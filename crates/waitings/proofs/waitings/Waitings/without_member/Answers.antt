@@ -6,5 +6,7 @@ use Rattle.waitings.proofs.waitings.Waitings.without_member.Goals as goal
 
 pub returns-then-not-any_asked_by-clause-now : goal.returns-then-not-any_asked_by-clause-now
 returns-then-not-any_asked_by-clause-now c =
-    let none = ap (list_any (is_asked_by c.args.member)) (sym c.list.ensures) ∙ (sym c.any_asked_by.ensures ∙ c.if-not-any_asked_by.true) in
+    let none =
+    ap (list_any (is_asked_by c.args.member)) (sym c.list.ensures)
+    ∙ (sym c.any_asked_by.ensures ∙ c.if-not-any_asked_by.true) in
     sym (filter_none (is_asked_by c.args.member) c.args.self.now.now none)
