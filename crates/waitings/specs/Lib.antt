@@ -1,0 +1,4 @@
+pub mod Lists
+pub mod Overlays
+pub mod Ports
+pub mod Waitings
