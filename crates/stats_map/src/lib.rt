@@ -3,15 +3,23 @@
 //! else only totals.
 #![tactic(auto)]
 
+pub mod changes;
 mod cookies;
 mod copies;
 pub mod counts;
 pub mod laws;
+mod overlay;
+pub mod pending;
+mod rooms;
 mod row;
+mod slot_sums;
+mod slots;
 mod sum;
 mod sums;
 
+pub use changes::Changes;
 pub use counts::{Counts, Known};
+pub use pending::Pending;
 
 #[cfg(test)]
 mod tests;
