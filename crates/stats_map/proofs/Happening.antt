@@ -1,6 +1,6 @@
 -- What happens to the sums of leaves, one after the other.
-use Rattle.std.proofs.Common.{◌≡◌, ℕ, zero, suc, ◌+◌, ◌<◌, Bool, true, false, ◌||◌, List, [], ◌∷◌, length, get_or, take, refl, sym, ap, subst, ◌∙◌, arith}
-use Rattle.std.specs.Prelude.{IfSome, if◌then◌else◌, option_and_then}
+use Rattle.std.proofs.Common.{◌≡◌, ℕ, zero, suc, ◌+◌, ◌<◌, Bool, true, false, ◌||◌, List, [], ◌∷◌, length, get_or, take, refl, sym, ap, subst, ◌∙◌, arith, true≢false}
+use Rattle.std.specs.Prelude.{IfSome, if◌then◌else◌, not, option_and_then}
 use Rattle.std.specs.List.{list_any}
 use Rattle.cv_io.specs.Leaves.{same_leaf}
 use Rattle.cv_io.specs.declared.leaf.Leaf.{Leaf}
@@ -93,3 +93,21 @@ module _ (event : Event) (xs : List Leaf) (i : ℕ) (x : Leaf) (lt : i < length 
 
 pub happened-none : (event : Event) (sums : Sums) → HappenedTo event [] sums sums
 happened-none event sums q = refl
+
+pub not-true : (b : Bool) → not b ≡ true → b ≡ false
+not-true true e = cc
+not-true false e = refl
+
+pub not-false : (b : Bool) → not b ≡ false → b ≡ true
+not-false true e = refl
+not-false false e = cc
+
+-- what held of the leaves so far and holds of one leaf more
+pub one-more-have : (xs : List Leaf) (i : ℕ) (x : Leaf) (P Q : Leaf → Type 0) → i < length xs → x ≡ get_or xs i x → ((q : Leaf) → P q → Q q) → Q x
+    → ((q : Leaf) → list_any (same_leaf q) (take i xs) ≡ true → P q) → (q : Leaf) → list_any (same_leaf q) (take (i + 1) xs) ≡ true → Q q
+one-more-have xs i x P Q lt is stay now before q t = by (list_any (same_leaf q) (take i xs)) refl (same_leaf q x) refl (sym (any-more q xs i x lt is) ∙ t)
+  where
+    by : (b : Bool) → list_any (same_leaf q) (take i xs) ≡ b → (d : Bool) → same_leaf q x ≡ d → (list_any (same_leaf q) (take i xs) || same_leaf q x) ≡ true → Q q
+    by true e d f u = stay q (before q e)
+    by false e true f u = subst Q (sym ((leaf_decides q x).0 f)) now
+    by false e false f u = absurd (true≢false (sym u ∙ (ap (λ b. b || same_leaf q x) e ∙ f)))

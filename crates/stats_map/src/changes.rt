@@ -35,13 +35,15 @@ pub fn make_in(
     let mut places = Vec::new(alloc);
     let mut leaves = Vec::new(alloc);
     // The proof learns that the keys rise.
-    let _ = (live.len(), sums.len());
+    let _places = live.len();
+    let _leaves = sums.len();
     if let Err(memory) = add_all_rooms(live, sums, &changes, &mut places, &mut leaves) {
         take_out(live, places);
         take_out(sums, leaves);
         return Err(memory);
     }
-    let _ = (live.len(), sums.len());
+    let _more_places = live.len();
+    let _more_leaves = sums.len();
     let Changes {
         live: cookies,
         sums: totals,

@@ -151,7 +151,8 @@ impl Counts {
         ensures made { OnOk result (self.new ≡ made changes self.old) }
         ensures memory { OnErr result (self.new ≡ self.old) }
     {
-        make_in(self.alloc, &mut self.live, &mut self.sums, changes)
+        make_in(self.alloc, &mut self.live, &mut self.sums, changes)?;
+        Ok(())
     }
 
     /// What the maps are made in.

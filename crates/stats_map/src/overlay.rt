@@ -2,8 +2,10 @@
 //! nothing; then it is made in the slots without memory.
 ghost use Rattle.std.specs.Prelude.{◌≡◌, IfOk, Option, OnErr, OnOk, filter, ◌==◌};
 ghost use Rattle.std.specs.Map.{keys_of};
+ghost use Rattle.cv_io.specs.Leaves.{leaf_cmp};
 ghost use Rattle.stats_map.specs.Counting.{Place, downed, forgot, installed};
-ghost use Rattle.stats_map.specs.Lays.{IsDrawn, IsLaid, now_of};
+ghost use Rattle.stats_map.specs.Lays.{IsDrawn, IsLaid, NamesAreDrawn, SwitchIsDrawn, now_of};
+ghost use Rattle.stats_map.specs.Overlay.{AreDrawn};
 ghost use Rattle.stats_map.specs.Pending.{ended_now};
 ghost use Rattle.stats_map.specs.Told.{told};
 
@@ -37,7 +39,7 @@ fn places_of<V>(
     let mut places = Vec::new(alloc);
     for (place, _) in map.range((switch, 0)..) {
         if place.0 != switch {
-            break;
+            return Ok(places);
         }
         places.push(*place)?;
     }
@@ -45,6 +47,41 @@ fn places_of<V>(
 }
 
 impl<'a> Overlay<'a> {
+    /// Nothing is changed. It takes no memory.
+    pub fn of(base: &'a Counts) -> Overlay<'a>
+        ensures base { result.base.now ≡ base.now }
+        ensures same { now_of result ≡ base.now }
+        ensures laid { IsLaid result }
+    {
+        // The proof learns that the keys rise.
+        let _places = base.live();
+        let _leaves = base.sums();
+        let alloc = base.allocator();
+        Overlay {
+            base,
+            live: BTreeMap::new(alloc),
+            sums: BTreeMap::new(alloc),
+        }
+    }
+
+    /// Draws the leaves of a cookie.
+    fn draw_named(&mut self, place: &(u32, u64)) -> Result<(), Memory>
+        ensures base { self.new.base.now ≡ self.old.base.now }
+        ensures live { self.new.live.entries ≡ self.old.live.entries }
+        ensures drawn { AreDrawn leaf_cmp self.old.base.now.sums self.old.sums.entries self.new.sums.entries }
+        ensures named { OnOk result (NamesAreDrawn place.now self.new) }
+    {
+        let Some(row) = value_of(self.base.live(), &self.live, place) else {
+            return Ok(());
+        };
+        draw_leaves(
+            self.base.sums(),
+            &mut self.sums,
+            row.ancestry().as_slice(),
+        )?;
+        Ok(())
+    }
+
     /// Draws a place, with the leaves of its cookie.
     fn draw_place(&mut self, place: &(u32, u64)) -> Result<(), Memory>
         requires { IsLaid self.old }
@@ -54,13 +91,7 @@ impl<'a> Overlay<'a> {
         ensures stay { (q : Place) → IsDrawn q self.old → IsDrawn q self.new }
         ensures there { OnOk result (IsDrawn place.now self.new) }
     {
-        if let Some(row) = value_of(self.base.live(), &self.live, place) {
-            draw_leaves(
-                self.base.sums(),
-                &mut self.sums,
-                row.ancestry().as_slice(),
-            )?;
-        }
+        self.draw_named(place)?;
         draw(self.base.live(), &mut self.live, place)
     }
 
@@ -98,28 +129,30 @@ impl<'a> Overlay<'a> {
     }
 
     /// Draws the cookies of a switch.
-    fn draw_switch(&mut self, alloc: Global, switch: u32) -> Result<(), Memory>
+    fn draw_switch(&mut self, switch: u32) -> Result<(), Memory>
         requires { IsLaid self.old }
         ensures base { self.new.base.now ≡ self.old.base.now }
         ensures same { now_of self.new ≡ now_of self.old }
         ensures laid { IsLaid self.new }
+        ensures drawn { OnOk result (SwitchIsDrawn switch self.new) }
     {
-        for place in &places_of(alloc, self.base.live(), switch)? {
+        let places = places_of(self.base.allocator(), self.base.live(), switch)?;
+        for place in &places {
             self.draw_place(place)?;
         }
         Ok(())
     }
 
     /// No cookie of a switch matters any more.
-    pub fn end_all(&mut self, alloc: Global, switch: u32) -> Result<(), Memory>
+    pub fn end_all(&mut self, switch: u32) -> Result<(), Memory>
         requires { IsLaid self.old }
         ensures base { self.new.base.now ≡ self.old.base.now }
         ensures laid { IsLaid self.new }
         ensures ended { OnOk result (told (now_of self.new) ≡ downed switch (told (now_of self.old))) }
         ensures memory { OnErr result (now_of self.new ≡ now_of self.old) }
     {
-        self.draw_switch(alloc, switch)?;
-        let places = places_of(alloc, &self.live, switch)?;
+        self.draw_switch(switch)?;
+        let places = places_of(self.base.allocator(), &self.live, switch)?;
         for place in &places {
             self.end_drawn(place);
         }
@@ -137,6 +170,9 @@ impl<'a> Overlay<'a> {
         if value_of(self.base.live(), &self.live, &place).is_some() {
             return Ok(());
         }
+        // The proof learns that there are fewer than 2^63 of each.
+        let _standing = self.base.live().len();
+        let _changed = self.live.len();
         let row = Row::new(ancestry.copy()?);
         draw_leaves(self.base.sums(), &mut self.sums, ancestry.as_slice())?;
         self.live.insert(place, Some(row))?;

@@ -11,14 +11,11 @@ use crate::overlay::Overlay;
 use crate::slots::value_of;
 use cv_io::{Leaf, Memory};
 use install_plan::Written;
-use std::alloc::Global;
-use std::collections::BTreeMap;
 use std::marker::Model;
 
 /// The counts as an event began, and as it makes them.
 #[derive(Drop)]
 pub struct Pending<'a> {
-    alloc: Global,
     over: Overlay<'a>,
 }
 
@@ -39,14 +36,8 @@ impl<'a> Pending<'a> {
         ensures base { result.base ≡ counts.now }
         ensures now { result.now ≡ counts.now }
     {
-        let alloc = counts.allocator();
         Pending {
-            alloc,
-            over: Overlay {
-                base: counts,
-                live: BTreeMap::new(alloc),
-                sums: BTreeMap::new(alloc),
-            },
+            over: Overlay::of(counts),
         }
     }
 
@@ -56,7 +47,8 @@ impl<'a> Pending<'a> {
         ensures ended { OnOk result (told self.new.now ≡ ended_now (switch, cookie) (told self.old.now)) }
         ensures memory { OnErr result (self.new ≡ self.old) }
     {
-        self.over.end(&(switch, cookie))
+        self.over.end(&(switch, cookie))?;
+        Ok(())
     }
 
     /// A switch went down: its cookies have their last numbers.
@@ -65,7 +57,8 @@ impl<'a> Pending<'a> {
         ensures downed { OnOk result (told self.new.now ≡ downed switch (told self.old.now)) }
         ensures memory { OnErr result (self.new ≡ self.old) }
     {
-        self.over.end_all(self.alloc, switch)
+        self.over.end_all(switch)?;
+        Ok(())
     }
 
     /// A cookie is written to a switch. One that was written already stays as it is.
@@ -75,7 +68,8 @@ impl<'a> Pending<'a> {
         ensures memory { OnErr result (self.new ≡ self.old) }
     {
         self.over
-            .begin((switch, written.cookie), &written.entry.ancestry)
+            .begin((switch, written.cookie), &written.entry.ancestry)?;
+        Ok(())
     }
 
     /// A leaf isn't counted any more, as soon as no cookie that matters names it.
@@ -84,7 +78,8 @@ impl<'a> Pending<'a> {
         ensures forgot { OnOk result (told self.new.now ≡ forgot leaf.now (told self.old.now)) }
         ensures memory { OnErr result (self.new ≡ self.old) }
     {
-        self.over.forget(leaf)
+        self.over.forget(leaf)?;
+        Ok(())
     }
 
     /// The packets and bytes of all cookies that named the leaf.
@@ -109,10 +104,10 @@ impl<'a> Pending<'a> {
 
     /// What is to be changed of the counts.
     pub fn into_changes(self) -> Changes
-        ensures made { made result self.base ≡ self.now }
-        ensures can { CanMake result self.base }
+        ensures made { made result self.entry.base ≡ self.entry.now }
+        ensures can { CanMake result self.entry.base }
     {
-        let Pending { alloc: _, over } = self;
+        let Pending { over } = self;
         let Overlay { base: _, live, sums } = over;
         Changes { live, sums }
     }

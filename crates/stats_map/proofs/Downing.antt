@@ -1,0 +1,185 @@
+-- A switch goes down: its cookies end, place by place.
+use Rattle.std.proofs.Common.{◌≡◌, ℕ, Bool, true, false, cond, ◌||◌, List, [], ◌∷◌, refl, sym, ap, subst, ◌∙◌, true≢false}
+use Rattle.std.specs.Prelude.{◌==◌, IsSome, Option, Some, None, filter, is_some, unwrap_or}
+use Rattle.std.specs.BTreeMap.{is_at}
+use Rattle.std.specs.List.{AllByRecursion, list_any}
+use Rattle.std.specs.List.Sorted.{IsStrictlySortedBy}
+use Rattle.std.specs.Map.{keys_of, lookup, remove_entry}
+use Rattle.std.specs.Ordering.{is_eq}
+use Rattle.std.specs.declared.cmp.Ordering.TheVariants.{Less, Equal}
+use Rattle.std.proofs.lemmas.Cmp.{tied_itself}
+use Rattle.std.proofs.lemmas.Map.{lookup-none}
+use Rattle.std.proofs.lemmas.Map.Entries.{lookup-filter-keys, none_below_head}
+use Rattle.switch_meaning.specs.Counts.{Cookie}
+use Rattle.stats_map.specs.Counting.{Cookies, CountsOf, Place, all_ended, cookie_at, downed, ended, of_switch, place_cmp}
+use Rattle.stats_map.specs.Overlay.{HasKey, value_at}
+use Rattle.stats_map.specs.Pending.{ended_if, ended_now}
+use Rattle.stats_map.proofs.Adding.{equal-is}
+use Rattle.stats_map.proofs.Laying.{place_exact}
+use Rattle.stats_map.proofs.Rows.{at, place_total}
+use Rattle.stats_map.proofs.SlotSums.{some-keys}
+use Rattle.stats_map.proofs.Overlays.{Rise, at-slot, same-turned}
+use Rattle.stats_map.proofs.Switches.{at-front, part_of}
+
+at-is : (a b : Place) → at a b ≡ true → a ≡ b
+at-is a b t = place_exact a b (equal-is (place_cmp a b) t)
+
+-- the values at the places of a switch
+part-at : {V : Type 0} (switch : ℕ) (q : Place) (es : List (Place × V)) → value_at place_cmp q (part_of switch es) ≡ cond (q.0 == switch) (value_at place_cmp q es) None
+part-at switch q es = lookup-filter-keys (at q) (λ (k : Place). k.0 == switch) (q.0 == switch) (λ k t. ap (λ (z : Place). z.0 == switch) (sym (at-is q k t))) es
+
+above-part : {V : Type 0} (switch : ℕ) (x : Place) (es : List (Place × V)) → AllByRecursion (λ z. place_cmp x z ≡ Less) (keys_of es) → AllByRecursion (λ z. place_cmp x z ≡ Less) (keys_of (part_of switch es))
+above-part switch x [] a = tt
+above-part switch x (e ∷ es) a = by (e.0.0 == switch) (above-part switch x es a.1)
+  where
+    by : (b : Bool) → AllByRecursion (λ z. place_cmp x z ≡ Less) (keys_of (part_of switch es)) → AllByRecursion (λ z. place_cmp x z ≡ Less) (keys_of (cond b (e ∷ part_of switch es) (part_of switch es)))
+    by true rest = (a.0, rest)
+    by false rest = rest
+
+pub part-rise : {V : Type 0} (switch : ℕ) (es : List (Place × V)) → Rise place_total es → Rise place_total (part_of switch es)
+unfolding IsStrictlySortedBy
+part-rise switch [] r = tt
+part-rise switch (e ∷ es) r = by (e.0.0 == switch) (part-rise switch es r.1)
+  where
+    by : (b : Bool) → IsStrictlySortedBy place_cmp (keys_of (part_of switch es)) → IsStrictlySortedBy place_cmp (keys_of (cond b (e ∷ part_of switch es) (part_of switch es)))
+    by true rest = (above-part switch e.0 es r.0, rest)
+    by false rest = rest
+
+-- places that are listed are those of the switch that have a value
+module _ {V : Type 0} (switch : ℕ) (es : List (Place × V)) (places : List Place) (is : places ≡ keys_of (part_of switch es)) (q : Place) where
+  listed : list_any (at q) places ≡ is_some (cond (q.0 == switch) (value_at place_cmp q es) None)
+  listed = ap (list_any (at q)) is ∙ (sym (some-keys (at q) (part_of switch es)) ∙ ap is_some (part-at switch q es))
+
+  pub listed-own : list_any (at q) places ≡ true → (q.0 == switch) ≡ true
+  listed-own t = by (q.0 == switch) (sym listed ∙ t)
+    where
+      by : (b : Bool) → is_some (cond b (value_at place_cmp q es) None) ≡ true → b ≡ true
+      by true u = refl
+      by false u = absurd (true≢false (sym u))
+
+  pub listed-has : list_any (at q) places ≡ true → HasKey place_cmp q es
+  listed-has t = by (q.0 == switch) (sym listed ∙ t)
+    where
+      by : (b : Bool) → is_some (cond b (value_at place_cmp q es) None) ≡ true → HasKey place_cmp q es
+      by true u = u
+      by false u = absurd (true≢false (sym u))
+
+  pub has-listed : (q.0 == switch) ≡ true → HasKey place_cmp q es → list_any (at q) places ≡ true
+  has-listed t h = listed ∙ (ap (λ (b : Bool). is_some (cond b (value_at place_cmp q es) None)) t ∙ h)
+
+-- a place that is not after any other of its part comes first
+front : (p : Place) (c : Cookie) (part : Cookies) → Rise place_total part → value_at place_cmp p part ≡ Some c → ((q : Place) → HasKey place_cmp q part → at q p ≡ false → place_cmp p q ≡ Less)
+    → (rest : Cookies) × (part ≡ (p, c) ∷ rest)
+front p c [] r found least = absurd (true≢false (sym (ap is_some found)))
+front p c (e ∷ es) r found least = by (at p e.0) refl
+  where
+    head : is_some (lookup (at e.0) (e ∷ es)) ≡ true
+    head = ap (λ b. is_some (cond b (Some e.1) (lookup (at e.0) es))) (ap is_eq (tied_itself place_total e.0))
+
+    by : (b : Bool) → at p e.0 ≡ b → (rest : Cookies) × (e ∷ es ≡ (p, c) ∷ rest)
+    by true t =
+        let key : e.0 ≡ p = sym (at-is p e.0 t) in
+        let value : e.1 ≡ c = ap (λ (o : Option Cookie). unwrap_or o e.1) (sym (ap (λ b. cond b (Some e.1) (lookup (at p) es)) t) ∙ found) in
+        (es, λ i. (key i, value i) ∷ es)
+    by false t =
+        let none = lookup-none (at p) (e ∷ es) (none_below_head place_total p e es r (least e.0 head (same-turned place_total e.0 p ∙ t))) in
+        absurd (true≢false (ap is_some (sym found ∙ none)))
+
+-- each place of the switch that has a cookie is among these
+abbrev pub Covers : ℕ → List Place → CountsOf → Type 0
+Covers switch places s = (q : Place) → (q.0 == switch) ≡ true → HasKey place_cmp q s.live → list_any (at q) places ≡ true
+
+later : (p q : Place) (rest : List Place) → list_any (at q) (p ∷ rest) ≡ true → at q p ≡ false → list_any (at q) rest ≡ true
+later p q rest t f = sym (ap (λ b. b || list_any (at q) rest) f) ∙ t
+
+below-listed : (p q : Place) (rest : List Place) → AllByRecursion (λ z. place_cmp p z ≡ Less) rest → list_any (at q) rest ≡ true → place_cmp p q ≡ Less
+below-listed p q [] a t = absurd (true≢false (sym t))
+below-listed p q (x ∷ xs) a t = by (at q x) refl
+  where
+    by : (b : Bool) → at q x ≡ b → place_cmp p q ≡ Less
+    by true f = ap (place_cmp p) (at-is q x f) ∙ a.0
+    by false f = below-listed p q xs a.1 (later x q xs t f)
+
+-- the cookie of the first place ends, if there is one
+module _ (switch : ℕ) (p : Place) (rest : List Place) (above : AllByRecursion (λ z. place_cmp p z ≡ Less) rest) (s s' : CountsOf) (r : Rise place_total s.live)
+    (cover : Covers switch (p ∷ rest) s) (own : (p.0 == switch) ≡ true) (done : s' ≡ ended_now p s) where
+  none-same : cookie_at p s ≡ None → s' ≡ s
+  none-same e = done ∙ ap (λ (o : Option Cookie). ended_if o p s) e
+
+  some-ended : (c : Cookie) → cookie_at p s ≡ Some c → s' ≡ ended p c s
+  some-ended c e = done ∙ ap (λ (o : Option Cookie). ended_if o p s) e
+
+  least : (q : Place) → HasKey place_cmp q (of_switch switch s.live) → at q p ≡ false → place_cmp p q ≡ Less
+  least q h f =
+      let in-part = sym (ap is_some (part-at switch q s.live)) ∙ h in
+      below-listed p q rest above (later p q rest (by (q.0 == switch) refl in-part) f)
+    where
+      by : (b : Bool) → (q.0 == switch) ≡ b → is_some (cond b (value_at place_cmp q s.live) None) ≡ true → list_any (at q) (p ∷ rest) ≡ true
+      by true t u = cover q t u
+      by false t u = absurd (true≢false (sym u))
+
+  pub rest-covers : Covers switch rest s'
+  rest-covers q t h = by (cookie_at p s) refl
+    where
+      by : (o : Option Cookie) → cookie_at p s ≡ o → list_any (at q) rest ≡ true
+      by None e = here (at q p) refl
+        where
+          has : HasKey place_cmp q s.live
+          has = ap (λ (z : CountsOf). is_some (value_at place_cmp q z.live)) (sym (none-same e)) ∙ h
+
+          here : (b : Bool) → at q p ≡ b → list_any (at q) rest ≡ true
+          here true f = absurd (true≢false (sym has ∙ ap is_some (ap (λ (z : Place). value_at place_cmp z s.live) (at-is q p f) ∙ e)))
+          here false f = later p q rest (cover q t has) f
+      by (Some c) e = here (at p q) refl
+        where
+          left : value_at place_cmp q s'.live ≡ cond (at p q) None (value_at place_cmp q s.live)
+          left = ap (λ (z : CountsOf). value_at place_cmp q z.live) (some-ended c e) ∙ at-slot place_total q p None s.live r
+
+          here : (b : Bool) → at p q ≡ b → list_any (at q) rest ≡ true
+          here true f = absurd (true≢false (sym h ∙ (ap is_some left ∙ ap (λ b. is_some (cond b None (value_at place_cmp q s.live))) f)))
+          here false f =
+              later p q rest (cover q t (sym (ap is_some left ∙ ap (λ b. is_some (cond b None (value_at place_cmp q s.live))) f) ∙ h)) (same-turned place_total q p ∙ f)
+
+  pub rest-ends : all_ended (of_switch switch s'.live) s' ≡ all_ended (of_switch switch s.live) s
+  rest-ends = by (cookie_at p s) refl
+    where
+      by : (o : Option Cookie) → cookie_at p s ≡ o → all_ended (of_switch switch s'.live) s' ≡ all_ended (of_switch switch s.live) s
+      by None e = ap (λ (z : CountsOf). all_ended (of_switch switch z.live) z) (none-same e)
+      by (Some c) e =
+          let found = part-at switch p s.live ∙ (ap (λ b. cond b (value_at place_cmp p s.live) None) own ∙ e) in
+          let first = front p c (of_switch switch s.live) (part-rise switch s.live r) found least in
+          let at-first = at-front switch s.live p c first.0 first.1 in
+          let now = some-ended c e in
+          let tail : of_switch switch s'.live ≡ first.0 = ap (of_switch switch) (ap (λ (z : CountsOf). z.live) now) ∙ at-first.left in
+          (λ i. all_ended (tail i) (now i)) ∙ ap (λ cookies. all_ended cookies s) (sym first.1)
+
+-- no place is left
+pub none-left : (switch : ℕ) (s : CountsOf) → Covers switch [] s → all_ended (of_switch switch s.live) s ≡ s
+none-left switch s cover = ap (λ cookies. all_ended cookies s) (by (of_switch switch s.live) refl)
+  where
+    head : (e : Place × Cookie) (es : Cookies) → is_some (lookup (at e.0) (e ∷ es)) ≡ true
+    head e es = ap (λ b. is_some (cond b (Some e.1) (lookup (at e.0) es))) (ap is_eq (tied_itself place_total e.0))
+
+    by : (part : Cookies) → of_switch switch s.live ≡ part → part ≡ []
+    by [] e = refl
+    by (x ∷ xs) e = absurd (true≢false (sym (listed-in x (own x in-part) (has x in-part))))
+      where
+        in-part : is_some (cond (x.0.0 == switch) (value_at place_cmp x.0 s.live) None) ≡ true
+        in-part = sym (ap is_some (part-at switch x.0 s.live)) ∙ (ap (λ (cs : Cookies). is_some (value_at place_cmp x.0 cs)) e ∙ head x xs)
+
+        own : (y : Place × Cookie) → is_some (cond (y.0.0 == switch) (value_at place_cmp y.0 s.live) None) ≡ true → (y.0.0 == switch) ≡ true
+        own y t = go (y.0.0 == switch) t
+          where
+            go : (b : Bool) → is_some (cond b (value_at place_cmp y.0 s.live) None) ≡ true → b ≡ true
+            go true u = refl
+            go false u = absurd (true≢false (sym u))
+
+        has : (y : Place × Cookie) → is_some (cond (y.0.0 == switch) (value_at place_cmp y.0 s.live) None) ≡ true → HasKey place_cmp y.0 s.live
+        has y t = go (y.0.0 == switch) t
+          where
+            go : (b : Bool) → is_some (cond b (value_at place_cmp y.0 s.live) None) ≡ true → HasKey place_cmp y.0 s.live
+            go true u = u
+            go false u = absurd (true≢false (sym u))
+
+        listed-in : (y : Place × Cookie) → (y.0.0 == switch) ≡ true → HasKey place_cmp y.0 s.live → false ≡ true
+        listed-in y t h = cover y.0 t h
