@@ -1,5 +1,5 @@
 -- A switch goes down: its cookies end, place by place.
-use Rattle.std.proofs.Common.{◌≡◌, ℕ, Bool, true, false, cond, ◌||◌, List, [], ◌∷◌, refl, sym, ap, subst, ◌∙◌, true≢false}
+use Rattle.std.proofs.Common.{◌≡◌, ℕ, zero, suc, ◌+◌, ◌<◌, Bool, true, false, cond, ◌||◌, List, [], ◌∷◌, length, get_or, take, refl, sym, ap, subst, ◌∙◌, arith, true≢false}
 use Rattle.std.specs.Prelude.{◌==◌, IsSome, Option, Some, None, filter, is_some, unwrap_or}
 use Rattle.std.specs.BTreeMap.{is_at}
 use Rattle.std.specs.List.{AllByRecursion, list_any}
@@ -12,14 +12,18 @@ use Rattle.std.proofs.lemmas.Map.{lookup-none}
 use Rattle.std.proofs.lemmas.Map.Entries.{lookup-filter-keys, none_below_head}
 use Rattle.switch_meaning.specs.Counts.{Cookie}
 use Rattle.stats_map.specs.Counting.{Cookies, CountsOf, Place, all_ended, cookie_at, downed, ended, of_switch, place_cmp}
-use Rattle.stats_map.specs.Overlay.{HasKey, value_at}
+use Rattle.stats_map.specs.Overlay.{HasKey, slot_or, value_at}
+use Rattle.stats_map.specs.Lays.{IsDrawn, SwitchIsDrawn, now_of}
 use Rattle.stats_map.specs.Pending.{ended_if, ended_now}
+use Rattle.stats_map.specs.Told.{told}
+use Rattle.stats_map.specs.declared.overlay.Overlay.{Overlay}
 use Rattle.stats_map.proofs.Adding.{equal-is}
+use Rattle.stats_map.proofs.Happening.{any-next}
 use Rattle.stats_map.proofs.Laying.{place_exact}
 use Rattle.stats_map.proofs.Rows.{at, place_total}
 use Rattle.stats_map.proofs.SlotSums.{some-keys}
-use Rattle.stats_map.proofs.Overlays.{Rise, at-slot, same-turned}
-use Rattle.stats_map.proofs.Switches.{at-front, part_of}
+use Rattle.stats_map.proofs.Overlays.{Rise, at-laid, at-slot, same-turned}
+use Rattle.stats_map.proofs.Switches.{at-front, part_of, same-is}
 
 at-is : (a b : Place) → at a b ≡ true → a ≡ b
 at-is a b t = place_exact a b (equal-is (place_cmp a b) t)
@@ -94,11 +98,11 @@ later p q rest t f = sym (ap (λ b. b || list_any (at q) rest) f) ∙ t
 
 below-listed : (p q : Place) (rest : List Place) → AllByRecursion (λ z. place_cmp p z ≡ Less) rest → list_any (at q) rest ≡ true → place_cmp p q ≡ Less
 below-listed p q [] a t = absurd (true≢false (sym t))
-below-listed p q (x ∷ xs) a t = by (at q x) refl
+below-listed p q (x ∷ xs) a t = by (at q x) refl (λ u. below-listed p q xs a.1 u)
   where
-    by : (b : Bool) → at q x ≡ b → place_cmp p q ≡ Less
-    by true f = ap (place_cmp p) (at-is q x f) ∙ a.0
-    by false f = below-listed p q xs a.1 (later x q xs t f)
+    by : (b : Bool) → at q x ≡ b → (list_any (at q) xs ≡ true → place_cmp p q ≡ Less) → place_cmp p q ≡ Less
+    by true f go = ap (place_cmp p) (at-is q x f) ∙ a.0
+    by false f go = go (later x q xs t f)
 
 -- the cookie of the first place ends, if there is one
 module _ (switch : ℕ) (p : Place) (rest : List Place) (above : AllByRecursion (λ z. place_cmp p z ≡ Less) rest) (s s' : CountsOf) (r : Rise place_total s.live)
@@ -183,3 +187,62 @@ none-left switch s cover = ap (λ cookies. all_ended cookies s) (by (of_switch s
 
         listed-in : (y : Place × Cookie) → (y.0.0 == switch) ≡ true → HasKey place_cmp y.0 s.live → false ≡ true
         listed-in y t h = cover y.0 t h
+
+-- the places whose cookies have still to end, and that then all of the switch have
+pub record AreLeft (switch : ℕ) (places : List Place) (s start : CountsOf) : Type 0 where
+  pub rise : IsStrictlySortedBy place_cmp places
+  pub covers : Covers switch places s
+  pub ends : all_ended (of_switch switch s.live) s ≡ downed switch start
+
+pub left-next : (switch : ℕ) (p : Place) (rest : List Place) (s s' start : CountsOf) → Rise place_total s.live → (p.0 == switch) ≡ true → s' ≡ ended_now p s → AreLeft switch (p ∷ rest) s start → AreLeft switch rest s' start
+unfolding IsStrictlySortedBy
+left-next switch p rest s s' start r own done was = record {
+  rise = was.rise.1;
+  covers = rest-covers switch p rest was.rise.0 s s' r was.covers own done;
+  ends = rest-ends switch p rest was.rise.0 s s' r was.covers own done ∙ was.ends;
+}
+
+pub left-none : (switch : ℕ) (s start : CountsOf) → AreLeft switch [] s start → s ≡ downed switch start
+left-none switch s start was = sym (none-left switch s was.covers) ∙ was.ends
+
+-- all places of the switch, where each that has a cookie has a slot
+pub left-all : (switch : ℕ) (o : Overlay) (places : List Place) → places ≡ keys_of (part_of switch o.live.entries) → Rise place_total o.live.entries → SwitchIsDrawn switch o
+    → AreLeft switch places (told (now_of o)) (told (now_of o))
+left-all switch o places is r drawn = record {
+  rise = subst (IsStrictlySortedBy place_cmp) (sym is) (part-rise switch o.live.entries r);
+  covers = λ q t h. has-listed switch o.live.entries places is q t (drawn q (grind (arith, t)) h);
+  ends = refl;
+}
+
+-- places of a switch that have a cookie and no slot are among those that stand
+pub switch-drawn : (switch : ℕ) (o : Overlay) (places : List Place) (base : Cookies) → places ≡ keys_of (part_of switch base) → base ≡ o.base.now.live → Rise place_total o.base.now.live
+    → ((q : Place) → list_any (at q) places ≡ true → IsDrawn q o) → SwitchIsDrawn switch o
+switch-drawn switch o places base is b r all q own h = by (value_at place_cmp q o.live.entries) refl (sym (ap is_some (at-laid place_total o.live.entries o.base.now.live r q)) ∙ h)
+  where
+    by : (slot : Option (Option Cookie)) → value_at place_cmp q o.live.entries ≡ slot → is_some (slot_or (value_at place_cmp q o.live.entries) (value_at place_cmp q o.base.now.live)) ≡ true → IsDrawn q o
+    by (Some slot) e t = ap is_some e
+    by None e t =
+        let stands : HasKey place_cmp q base =
+            ap (λ (cookies : Cookies). is_some (value_at place_cmp q cookies)) b
+            ∙ (sym (ap (λ (z : Option (Option Cookie)). is_some (slot_or z (value_at place_cmp q o.base.now.live))) e) ∙ t) in
+        all q (has-listed switch base places is q (same-is q.0 switch own) stands)
+
+-- a place that stands in a list
+pub listed-at : (xs : List Place) (i : ℕ) (x : Place) → i < length xs → x ≡ get_or xs i x → list_any (at x) xs ≡ true
+listed-at [] i x lt e = absurd (omega arith)
+listed-at (y ∷ ys) zero x lt e = ap (λ b. b || list_any (at x) ys) (ap (at x) (sym e) ∙ ap is_eq (tied_itself place_total x))
+listed-at (y ∷ ys) (suc i) x lt e = by (at x y) (listed-at ys i x (omega arith) e)
+  where
+    by : (b : Bool) → list_any (at x) ys ≡ true → (b || list_any (at x) ys) ≡ true
+    by true t = refl
+    by false t = t
+
+-- what held of the places so far and holds of one more
+pub one-more-place : (xs : List Place) (i : ℕ) (x : Place) (o o' : Overlay) → i < length xs → x ≡ get_or xs i x → ((q : Place) → IsDrawn q o → IsDrawn q o') → IsDrawn x o'
+    → ((q : Place) → list_any (at q) (take i xs) ≡ true → IsDrawn q o) → (q : Place) → list_any (at q) (take (i + 1) xs) ≡ true → IsDrawn q o'
+one-more-place xs i x o o' lt is stay now before q t = by (list_any (at q) (take i xs)) refl (at q x) refl (sym (any-next (at q) xs i x lt is) ∙ t)
+  where
+    by : (b : Bool) → list_any (at q) (take i xs) ≡ b → (d : Bool) → at q x ≡ d → (list_any (at q) (take i xs) || at q x) ≡ true → IsDrawn q o'
+    by true e d f u = stay q (before q e)
+    by false e true f u = subst (λ (z : Place). IsDrawn z o') (sym (at-is q x f)) now
+    by false e false f u = absurd (true≢false (sym u ∙ (ap (λ b. b || at q x) e ∙ f)))

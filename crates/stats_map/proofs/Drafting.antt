@@ -59,3 +59,11 @@ found-named o place row base slice b l found have c e =
 
     same : (x y : Cookie) → Some x ≡ Some y → x ≡ y
     same x y f = cc
+
+-- what is written as it was changes nothing
+module _ (o o' : Overlay) (e : o'.base.now ≡ o.base.now) (l : o'.live.entries ≡ o.live.entries) (s : o'.sums.entries ≡ o.sums.entries) where
+  pub kept-same : now_of o' ≡ now_of o
+  kept-same = λ i. laid (l i) (s i) (e i)
+
+  pub kept-laid : IsLaid o → IsLaid o'
+  kept-laid was = laid-again o o' e kept-same (subst (λ places. LeavesHaveSlots places o'.sums.entries) (sym l) (subst (λ leaves. LeavesHaveSlots o.live.entries leaves) (sym s) was.slots)) was

@@ -45,6 +45,14 @@ module _ {K : Type 0} {cmp : K → K → Ordering} (total : IsTotalOrder cmp) wh
         by q slot e n None f = y.fresh q slot e f
         by q slot e n (Some t) f = same slot t (sym e ∙ y.kept q t f) ∙ x.fresh q t f n
 
+    -- what had a slot has one
+    pub drawn-key : (base : List (K × V)) (old new : List (K × Option V)) → AreDrawn cmp base old new → (q : K) → HasKey cmp q old → HasKey cmp q new
+    drawn-key base old new d q t = by (value_at cmp q old) refl t
+      where
+        by : (o : Option (Option V)) → value_at cmp q old ≡ o → IsSome o → HasKey cmp q new
+        by None e u = absurd (true≢false (sym u))
+        by (Some slot) e u = ap is_some (d.kept q slot e)
+
     -- a key that had no slot gets one with its value
     module _ (base : List (K × V)) (k : K) (slot : Option V) (old new : List (K × Option V)) (none : value_at cmp k old ≡ None) (is : slot ≡ value_at cmp k base)
         (written : (q : K) → value_at cmp q new ≡ cond (is_at (cmp k) q) (Some slot) (value_at cmp q old)) where

@@ -1,5 +1,5 @@
 -- Cookies end and begin in slots.
-use Rattle.std.proofs.Common.{◌≡◌, ℕ, ◌+◌, ◌<◌, ◌≤◌, ◌^◌, Bool, true, false, cond, List, [], ◌∷◌, length, refl, sym, ap, subst, ◌∙◌, arith, true≢false}
+use Rattle.std.proofs.Common.{◌≡◌, ℕ, ◌+◌, ◌<◌, ◌≤◌, ◌^◌, Bool, true, false, cond, ◌||◌, List, [], ◌∷◌, length, refl, sym, ap, subst, ◌∙◌, arith, true≢false}
 use Rattle.std.specs.Prelude.{IfSome, IsSome, Option, Some, None, is_some, unwrap_or}
 use Rattle.std.specs.BTreeMap.{insert_entry, is_at}
 use Rattle.std.specs.List.{list_any}
@@ -15,6 +15,7 @@ use Rattle.std.proofs.lemmas.Map.Lookups.{CmpEqualImpliesEq, exact_pairs, exact_
 use Rattle.cv_io.specs.Leaves.{leaf_cmp, same_leaf}
 use Rattle.cv_io.specs.declared.leaf.Leaf.{Leaf}
 use Rattle.switch_meaning.specs.Counts.{Cookie, names}
+use Rattle.switch_meaning.proofs.Alike.{leaf_decides}
 use Rattle.stats_map.specs.Counting.{Cookies, CountsOf, Place, cookie_at, ended, forgot, installed, place_cmp}
 use Rattle.stats_map.specs.InsideSums.{Allows, AllowsEach, AreSums, HappenedTo, HaveMore, Sums, sum_at}
 use Rattle.stats_map.specs.Overlay.{AreDrawn, HasKey, IsSameBut, overlaid, slot_or, value_at, with_slot}
@@ -25,7 +26,7 @@ use Rattle.stats_map.specs.declared.sum.Sum.{Sum}
 use Rattle.stats_map.specs.declared.sum.Tally.{Tally}
 use Rattle.stats_map.proofs.Acts.{end-allowed, end-seen, end-sums}
 use Rattle.stats_map.proofs.Beginning.{begin-seen, begin-sums, more-sums}
-use Rattle.stats_map.proofs.Drawing.{same-value}
+use Rattle.stats_map.proofs.Drawing.{drawn-key, same-value}
 use Rattle.stats_map.proofs.Reporting.{forgot-seen, forgot-sums}
 use Rattle.stats_map.proofs.Rows.{at, place_total}
 use Rattle.stats_map.proofs.SlotSums.{allowed-slots, happened-laid, leaf_exact, leaf_total, more-laid, slots-kept, there-laid}
@@ -112,17 +113,23 @@ module _ (h : HeldOf) (rp : Rise place_total h.live) (rl : Rise leaf_total h.sum
 -- slots that are drawn or that stay are there
 
 pub drawn-has : (base : Sums) (leaves leaves' : LeafSlots) → AreDrawn leaf_cmp base leaves leaves' → (q : Leaf) → HasKey leaf_cmp q leaves → HasKey leaf_cmp q leaves'
-drawn-has base leaves leaves' d q t = by (value_at leaf_cmp q leaves) refl t
-  where
-    by : (o : Option (Option Sum)) → value_at leaf_cmp q leaves ≡ o → IsSome o → IsSome (value_at leaf_cmp q leaves')
-    by None e u = absurd (true≢false (sym u))
-    by (Some slot) e u = ap is_some (d.kept q slot e)
+drawn-has base leaves leaves' d q t = drawn-key leaf_total base leaves leaves' d q t
 
 pub drawn-have : (base : Sums) (xs : List Leaf) (leaves leaves' : LeafSlots) → AreDrawn leaf_cmp base leaves leaves' → HaveSlots xs leaves → HaveSlots xs leaves'
 drawn-have base xs leaves leaves' d have q t = drawn-has base leaves leaves' d q (have q t)
 
 pub drawn-all-have : (base : Sums) (places : PlaceSlots) (leaves leaves' : LeafSlots) → AreDrawn leaf_cmp base leaves leaves' → LeavesHaveSlots places leaves → LeavesHaveSlots places leaves'
 drawn-all-have base places leaves leaves' d have q c e = drawn-have base c.ancestry leaves leaves' d (have q c e)
+
+pub slots-all-kept : (places : PlaceSlots) (leaves leaves' : LeafSlots) → keys_of leaves' ≡ keys_of leaves → LeavesHaveSlots places leaves → LeavesHaveSlots places leaves'
+slots-all-kept places leaves leaves' keys have q c e = slots-kept c.ancestry leaves leaves' keys (have q c e)
+
+pub one-slot-has : (leaf : Leaf) (leaves : LeafSlots) → HasKey leaf_cmp leaf leaves → HaveSlots (leaf ∷ []) leaves
+one-slot-has leaf leaves t q u = by (same_leaf q leaf) refl u
+  where
+    by : (b : Bool) → same_leaf q leaf ≡ b → (b || false) ≡ true → HasKey leaf_cmp q leaves
+    by true f v = subst (λ (z : Leaf). HasKey leaf_cmp z leaves) (sym ((leaf_decides q leaf).0 f)) t
+    by false f v = absurd (true≢false (sym v))
 
 -- a place is drawn, whose leaves are
 module _ (base : Cookies) (r : Rise place_total base) (place : Place) (places places' : PlaceSlots) (leaves : LeafSlots) (drawn : AreDrawn place_cmp base places places') (but : IsSameBut place_cmp place places places')
@@ -221,8 +228,8 @@ module _ (h : HeldOf) (rp : Rise place_total h.live) (rl : Rise leaf_total h.sum
     there-over q t =
         there-laid h.sums rl leaves1 leaves2 keys2 slice slots there q (ap (λ (xs : List Leaf). list_any (same_leaf q) xs) l ∙ t)
 
-    over : HappenedTo Begun slice sums2 (overlaid leaf_cmp leaves3 h.sums)
-    over = happened-laid h.sums rl leaves2 leaves3 keys3 Begun slice slots2 happened
+    begun-over : HappenedTo Begun slice sums2 (overlaid leaf_cmp leaves3 h.sums)
+    begun-over = happened-laid h.sums rl leaves2 leaves3 keys3 Begun slice slots2 happened
 
     put : overlaid place_cmp places' h.live ≡ insert_entry place_cmp old.live place w
     put = laid-slot place_total place_exact h.live rp place (Some w) places places' written
@@ -230,12 +237,12 @@ module _ (h : HeldOf) (rp : Rise place_total h.live) (rl : Rise leaf_total h.sum
     pub begun-summed : IsSummed (laid places' leaves3 h)
     begun-summed =
         begin-sums old.live old.sums sums2 more-over place w slice ancestry w-is l (rise-laid place_total places h.live rp) none-now there-over summed
-        (overlaid place_cmp places' h.live) (overlaid leaf_cmp leaves3 h.sums) put over
+        (overlaid place_cmp places' h.live) (overlaid leaf_cmp leaves3 h.sums) put begun-over
 
     pub begun-told : told (laid places' leaves3 h) ≡ installed place ancestry (told old)
     begun-told =
         begin-seen old.live old.sums sums2 more-over place w slice ancestry w-is l (rise-laid place_total places h.live rp) none-now there-over summed
-        (overlaid place_cmp places' h.live) (overlaid leaf_cmp leaves3 h.sums) put over
+        (overlaid place_cmp places' h.live) (overlaid leaf_cmp leaves3 h.sums) put begun-over
 
     pub begun-have : LeavesHaveSlots places' leaves3
     begun-have q d e = by (at place q) refl

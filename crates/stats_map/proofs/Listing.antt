@@ -10,6 +10,14 @@ use Rattle.stats_map.proofs.Rows.{place_total}
 use Rattle.stats_map.proofs.Overlays.{Rise}
 use Rattle.stats_map.proofs.Switches.{above, all-above, other-is, part_of, same-is, same-switch, starts}
 
+appended : (xs ys : List Place) (p : Place) → (xs ++ p ∷ []) ++ ys ≡ xs ++ p ∷ ys
+appended [] ys p = refl
+appended (x ∷ xs) ys p = ap (λ zs. x ∷ zs) (appended xs ys p)
+
+alone : (xs : List Place) → xs ++ [] ≡ xs
+alone [] = refl
+alone (x ∷ xs) = ap (λ zs. x ∷ zs) (alone xs)
+
 module _ {V : Type 0} (switch : ℕ) where
   -- what is left to list: some places are listed, and these are left
   pub record IsLeft (all : List Place) (listed : List Place) (left : List (Place × V)) : Type 0 where
@@ -44,20 +52,12 @@ module _ {V : Type 0} (switch : ℕ) where
       by true t rest = (t, rest)
       by false t rest = rest
 
-  pub left-first : (es part : List (Place × V)) → part ≡ filter (starts switch) es → Rise place_total es → IsLeft (keys_of (part_of switch es)) [] part
-  left-first es part is r = record {
-    told = ap (λ xs. keys_of (part_of switch xs)) is ∙ sym (ap keys_of (same-switch switch es));
+  pub left-first : (es part : List (Place × V)) (listed : List Place) → listed ≡ [] → part ≡ filter (starts switch) es → Rise place_total es → IsLeft (keys_of (part_of switch es)) listed part
+  left-first es part listed none is r = record {
+    told = ap (λ xs. xs ++ keys_of (part_of switch part)) none ∙ (ap (λ xs. keys_of (part_of switch xs)) is ∙ sym (ap keys_of (same-switch switch es)));
     rise = subst (Rise place_total) (sym is) (rise-from es r);
     from = subst (AllByRecursion (λ (e : Place × V). starts switch e ≡ true)) (sym is) (all-from es);
   }
-
-  appended : (xs ys : List Place) (p : Place) → (xs ++ p ∷ []) ++ ys ≡ xs ++ p ∷ ys
-  appended [] ys p = refl
-  appended (x ∷ xs) ys p = ap (λ zs. x ∷ zs) (appended xs ys p)
-
-  alone : (xs : List Place) → xs ++ [] ≡ xs
-  alone [] = refl
-  alone (x ∷ xs) = ap (λ zs. x ∷ zs) (alone xs)
 
   module _ (all listed : List Place) (left rest : List (Place × V)) (p : Place) (v : V) (is : left ≡ (p, v) ∷ rest) (was : IsLeft all listed left) where
     both : IsLeft all listed ((p, v) ∷ rest)

@@ -7,10 +7,10 @@ use Rattle.std.specs.List.{list_any}
 use Rattle.std.specs.List.Sorted.{IsStrictlySortedBy}
 use Rattle.std.specs.Map.{keys_of, lookup, set_value}
 use Rattle.std.specs.Ordering.{is_eq}
-use Rattle.std.specs.declared.cmp.Ordering.{Ordering}
 use Rattle.std.proofs.lemmas.Cmp.{eq_by_cmp_equiv, tied_itself}
 use Rattle.std.proofs.lemmas.Map.{keys-set_value, lookup-set_value}
 use Rattle.std.proofs.lemmas.Map.Lookups.{CmpEqualImpliesEq}
+use Rattle.std.proofs.lemmas.Map.Steps.{set_value_same}
 use Rattle.cv_io.specs.Leaves.{leaf_cmp, same_leaf}
 use Rattle.cv_io.specs.declared.leaf.Leaf.{Leaf}
 use Rattle.switch_meaning.proofs.Alike.{leaf_decides}
@@ -33,9 +33,9 @@ at-same a b =
     both_ways (is_at (leaf_cmp a) b) (same_leaf a b) (λ t. (leaf_decides a b).1 (leaf-exact a b t))
     (λ t. ap (λ (z : Leaf). is_at (leaf_cmp a) z) (sym ((leaf_decides a b).0 t)) ∙ ap is_eq (tied_itself leaf_total a))
 
-pub rise-none : {K V : Type 0} {cmp : K → K → Ordering} (total : IsTotalOrder cmp) → Rise total {V} []
+rise-none : IsStrictlySortedBy leaf_cmp []
 unfolding IsStrictlySortedBy
-rise-none total = tt
+rise-none = tt
 
 -- a key is there where it is among the keys
 pub some-keys : {K V : Type 0} (test : K → Bool) (es : List (K × V)) → is_some (lookup test es) ≡ list_any test (keys_of es)
@@ -53,7 +53,7 @@ abbrev Goes : Event → List Leaf → Leaf → Option Sum → Option Sum
 Goes event leaves q o = if list_any (same_leaf q) leaves then option_and_then (changed_by event) o else o
 
 pub at-slots : (slots : LeafSlots) (q : Leaf) → sum_at q (slot_sums slots) ≡ slot_or (value_at leaf_cmp q slots) None
-at-slots slots q = at-laid leaf_total slots [] (rise-none leaf_total) q
+at-slots slots q = at-laid leaf_total slots [] rise-none q
 
 -- the sum of a leaf whose slot is this
 pub slot-is : (slots : LeafSlots) (q : Leaf) (slot : Option Sum) → value_at leaf_cmp q slots ≡ Some slot → sum_at q (slot_sums slots) ≡ slot
@@ -163,6 +163,14 @@ module _ (leaf : Leaf) (slot w : Option Sum) (old new : LeafSlots) (found : valu
   opened-at v empty e z =
       more-inserted leaf v (slot_sums old) (slot_sums new) z (slot-is old leaf slot found ∙ empty)
       (λ q. written-sum q ∙ ap (λ (o : Option Sum). cond (is_at (leaf_cmp leaf) q) o (sum_at q (slot_sums old))) e)
+
+  pub written-there : (v : Sum) → w ≡ Some v → IsSome (sum_at leaf (slot_sums new))
+  written-there v e =
+      ap is_some (written-sum leaf ∙ (ap (λ (b : Bool). cond b w (sum_at leaf (slot_sums old))) (ap is_eq (tied_itself leaf_total leaf)) ∙ e))
+
+  -- what is written as it was changes nothing
+  pub written-same : w ≡ slot → new ≡ old
+  written-same e = is ∙ set_value_same (is_at (leaf_cmp leaf)) old w (found ∙ ap Some (sym e))
 
 -- nothing happens to a leaf that has no sum
 pub nothing-at : (event : Event) (leaf : Leaf) (sums : Sums) → sum_at leaf sums ≡ None → HappenedAt event leaf sums sums

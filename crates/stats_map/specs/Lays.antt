@@ -18,7 +18,8 @@ IsDrawn place o = HasKey place_cmp place o.live.entries
 -- each leaf of a place's cookie has a slot
 abbrev pub NamesAreDrawn : Place → Overlay → Type 0
 NamesAreDrawn place o =
-    (c : Cookie) → slot_or (value_at place_cmp place o.live.entries) (value_at place_cmp place o.base.now.live) ≡ Some c → HaveSlots c.ancestry o.sums.entries
+    (c : Cookie) → slot_or (value_at place_cmp place o.live.entries) (value_at place_cmp place o.base.now.live) ≡ Some c
+    → HaveSlots c.ancestry o.sums.entries
 
 -- each cookie of the switch has a slot
 abbrev pub SwitchIsDrawn : ℕ → Overlay → Type 0

@@ -28,9 +28,11 @@ slot_or None value = value
 slot_or (Some slot) value = slot
 
 -- more slots, each with the value that stands
-pub record AreDrawn {K V : Type 0} (cmp : K → K → Ordering) (base : List (K × V)) (old new : List (K × Option V)) : Type 0 where
+pub record AreDrawn {K V : Type 0} (cmp : K → K → Ordering) (base : List (K × V)) (old new : List (K × Option V))
+    : Type 0 where
   pub kept : (q : K) (slot : Option V) → value_at cmp q old ≡ Some slot → value_at cmp q new ≡ Some slot
-  pub fresh : (q : K) (slot : Option V) → value_at cmp q new ≡ Some slot → value_at cmp q old ≡ None → slot ≡ value_at cmp q base
+  pub fresh : (q : K) (slot : Option V) → value_at cmp q new ≡ Some slot → value_at cmp q old ≡ None
+      → slot ≡ value_at cmp q base
 
 -- keys other than one have what they had
 abbrev pub IsSameBut : {K V : Type 0} → (K → K → Ordering) → K → List (K × V) → List (K × V) → Type 0
@@ -46,5 +48,6 @@ abbrev pub HasRoom : {K V : Type 0} → (K → K → Ordering) → List (K × Op
 HasRoom {K} {V} cmp slots es = (q : K) (v : V) → value_at cmp q slots ≡ Some (Some v) → HasKey cmp q es
 
 -- keys that have no slot have what they had
-abbrev pub IsSameElsewhere : {K V : Type 0} → (K → K → Ordering) → List (K × Option V) → List (K × V) → List (K × V) → Type 0
+abbrev pub IsSameElsewhere : {K V : Type 0}
+    → (K → K → Ordering) → List (K × Option V) → List (K × V) → List (K × V) → Type 0
 IsSameElsewhere {K} cmp slots old new = (q : K) → value_at cmp q slots ≡ None → value_at cmp q new ≡ value_at cmp q old

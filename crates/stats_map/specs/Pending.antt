@@ -23,7 +23,8 @@ ended_now place s = ended_if (cookie_at place s) place s
 
 -- a last report of the numbers that a cookie has ends it as it is
 abbrev pub LastReportEnds : Type 0
-LastReportEnds = (place : Place) (c : Cookie) (s : CountsOf) → cookie_at place s ≡ Some c → reported place c.numbers true s ≡ ended_now place s
+LastReportEnds =
+    (place : Place) (c : Cookie) (s : CountsOf) → cookie_at place s ≡ Some c → reported place c.numbers true s ≡ ended_now place s
 
 -- other numbers, and then the old ones again, leave what stood
 abbrev pub OldNumbersRestore : Type 0
@@ -48,7 +49,8 @@ HaveSlots leaves slots = (leaf : Leaf) → list_any (same_leaf leaf) leaves ≡ 
 
 -- each leaf of a cookie that has a slot has one too
 abbrev pub LeavesHaveSlots : PlaceSlots → LeafSlots → Type 0
-LeavesHaveSlots places leaves = (place : Place) (c : Cookie) → value_at place_cmp place places ≡ Some (Some c) → HaveSlots c.ancestry leaves
+LeavesHaveSlots places leaves =
+    (place : Place) (c : Cookie) → value_at place_cmp place places ≡ Some (Some c) → HaveSlots c.ancestry leaves
 
 -- the sums that have slots
 abbrev pub slot_sums : LeafSlots → Sums
@@ -57,7 +59,8 @@ slot_sums slots = overlaid leaf_cmp slots []
 -- it happened to the sum of a leaf, and to no other
 abbrev pub HappenedAt : Event → Leaf → Sums → Sums → Type 0
 HappenedAt event leaf old new =
-    (q : Leaf) → sum_at q new ≡ (if same_leaf leaf q then option_and_then (changed_by event) (sum_at leaf old) else sum_at q old)
+    (q : Leaf) → sum_at q new
+    ≡ (if same_leaf leaf q then option_and_then (changed_by event) (sum_at leaf old) else sum_at q old)
 
 -- the keys of what is held rise
 pub record IsOrdered (h : HeldOf) : Type 0 where

@@ -61,8 +61,10 @@ fn add_all_rooms(
     places: &mut Vec<(u32, u64)>,
     leaves: &mut Vec<Leaf>,
 ) -> Result<(), Memory>
-    ensures live { without place_cmp places.new.items live.new.entries ≡ without place_cmp places.old.items live.old.entries }
-    ensures sums { without leaf_cmp leaves.new.items sums.new.entries ≡ without leaf_cmp leaves.old.items sums.old.entries }
+    ensures live { without place_cmp places.new.items live.new.entries
+        ≡ without place_cmp places.old.items live.old.entries }
+    ensures sums { without leaf_cmp leaves.new.items sums.new.entries
+        ≡ without leaf_cmp leaves.old.items sums.old.entries }
     ensures live_room { OnOk result (HasRoom place_cmp changes.now.live.entries live.new.entries) }
     ensures sums_room { OnOk result (HasRoom leaf_cmp changes.now.sums.entries sums.new.entries) }
     ensures live_else { IsSameElsewhere place_cmp changes.now.live.entries live.old.entries live.new.entries }

@@ -123,7 +123,8 @@ impl Counts {
 
     /// The packets and bytes of a cookie that matters.
     pub fn numbers(&self, switch: u32, cookie: u64) -> Option<(u64, u64)>
-        ensures { result ≡ option_map (λ c. (c.numbers.packets, c.numbers.bytes)) (cookie_at (switch, cookie) (told self.now)) }
+        ensures { result
+            ≡ option_map (λ c. (c.numbers.packets, c.numbers.bytes)) (cookie_at (switch, cookie) (told self.now)) }
     {
         match self.live.get(&(switch, cookie)) {
             Some(row) => Some(row.packets_and_bytes()),

@@ -152,6 +152,8 @@ impl<'a> Overlay<'a> {
         ensures memory { OnErr result (now_of self.new ≡ now_of self.old) }
     {
         self.draw_switch(switch)?;
+        // The proof learns that the places rise.
+        let _slots = self.live.len();
         let places = places_of(self.base.allocator(), &self.live, switch)?;
         for place in &places {
             self.end_drawn(place);
@@ -167,14 +169,14 @@ impl<'a> Overlay<'a> {
         ensures begun { OnOk result (told (now_of self.new) ≡ installed place ancestry.now (told (now_of self.old))) }
         ensures memory { OnErr result (now_of self.new ≡ now_of self.old) }
     {
-        if value_of(self.base.live(), &self.live, &place).is_some() {
+        if let Some(_standing) = value_of(self.base.live(), &self.live, &place) {
             return Ok(());
         }
         // The proof learns that there are fewer than 2^63 of each.
         let _standing = self.base.live().len();
         let _changed = self.live.len();
-        let row = Row::new(ancestry.copy()?);
         draw_leaves(self.base.sums(), &mut self.sums, ancestry.as_slice())?;
+        let row = Row::new(ancestry.copy()?);
         self.live.insert(place, Some(row))?;
         open_slots(&mut self.sums, ancestry.as_slice());
         change_slots(&mut self.sums, ancestry.as_slice(), &Event::Begun);

@@ -64,7 +64,8 @@ impl<'a> Pending<'a> {
     /// A cookie is written to a switch. One that was written already stays as it is.
     pub fn write(&mut self, switch: u32, written: &Written) -> Result<(), Memory>
         ensures base { self.new.base ≡ self.old.base }
-        ensures installed { OnOk result (told self.new.now ≡ installed (switch, written.now.cookie) written.now.entry.ancestry (told self.old.now)) }
+        ensures installed { OnOk result (told self.new.now 
+            ≡ installed (switch, written.now.cookie) written.now.entry.ancestry (told self.old.now)) }
         ensures memory { OnErr result (self.new ≡ self.old) }
     {
         self.over
@@ -84,7 +85,8 @@ impl<'a> Pending<'a> {
 
     /// The packets and bytes of all cookies that named the leaf.
     pub fn count(&self, leaf: &Leaf) -> (u64, u64)
-        ensures { result ≡ ((count_of (told self.now.now) leaf.now).packets, (count_of (told self.now.now) leaf.now).bytes) }
+        ensures { result
+            ≡ ((count_of (told self.now.now) leaf.now).packets, (count_of (told self.now.now) leaf.now).bytes) }
     {
         match value_of(self.over.base.sums(), &self.over.sums, leaf) {
             Some(sum) => sum.count(),

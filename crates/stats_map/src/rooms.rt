@@ -78,7 +78,8 @@ pub fn fill<K: Ord + Copy + Drop, V: Drop>(
     requires { HasRoom K.cmp slots.entries map.old.entries }
     ensures { map.new.entries ≡ overlaid K.cmp slots.entries map.old.entries }
 {
-    while let Some((key, slot)) = slots.pop_last() {
+    while let Some(last) = slots.pop_last() {
+        let (key, slot) = last;
         put(map, key, slot);
     }
 }

@@ -33,7 +33,8 @@ pub fn draw_leaves(
 fn open_slot(slots: &mut BTreeMap<Leaf, Option<Sum>>, leaf: &Leaf)
     ensures more { HaveMore (slot_sums slots.old.entries) (slot_sums slots.new.entries) }
     ensures keys { keys_of slots.new.entries ≡ keys_of slots.old.entries }
-    ensures there { HasKey leaf_cmp leaf.now slots.old.entries → IsSome (sum_at leaf.now (slot_sums slots.new.entries)) }
+    ensures there { HasKey leaf_cmp leaf.now slots.old.entries
+        → IsSome (sum_at leaf.now (slot_sums slots.new.entries)) }
 {
     let Some(slot) = slots.get_mut(leaf) else {
         return;
@@ -48,7 +49,8 @@ pub fn open_slots(slots: &mut BTreeMap<Leaf, Option<Sum>>, leaves: &[Leaf])
     requires { HaveSlots leaves.now slots.old.entries }
     ensures more { HaveMore (slot_sums slots.old.entries) (slot_sums slots.new.entries) }
     ensures keys { keys_of slots.new.entries ≡ keys_of slots.old.entries }
-    ensures there { (leaf : LeafOf) → list_any (same_leaf leaf) leaves.now ≡ true → IsSome (sum_at leaf (slot_sums slots.new.entries)) }
+    ensures there { (leaf : LeafOf) → list_any (same_leaf leaf) leaves.now ≡ true
+        → IsSome (sum_at leaf (slot_sums slots.new.entries)) }
 {
     for leaf in leaves {
         open_slot(slots, leaf);

@@ -13,7 +13,8 @@ pub fn value_of<'a, K: Ord, V>(
     slots: &'a BTreeMap<K, Option<V>>,
     key: &K,
 ) -> Option<&'a V>
-    ensures { option_copied result ≡ slot_or (value_at K.cmp key.now slots.now.entries) (value_at K.cmp key.now base.now.entries) }
+    ensures { option_copied result
+        ≡ slot_or (value_at K.cmp key.now slots.now.entries) (value_at K.cmp key.now base.now.entries) }
 {
     match slots.get(key) {
         Some(slot) => slot.as_ref(),
