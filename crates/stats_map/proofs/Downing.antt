@@ -12,8 +12,8 @@ use Rattle.std.proofs.lemmas.Map.{lookup-none}
 use Rattle.std.proofs.lemmas.Map.Entries.{lookup-filter-keys, none_below_head}
 use Rattle.switch_meaning.specs.Counts.{Cookie}
 use Rattle.stats_map.specs.Counting.{Cookies, CountsOf, Place, all_ended, cookie_at, downed, ended, of_switch, place_cmp}
-use Rattle.stats_map.specs.Overlay.{HasKey, slot_or, value_at}
-use Rattle.stats_map.specs.Lays.{IsDrawn, SwitchIsDrawn, now_of}
+use Rattle.stats_map.specs.Slots.{HasKey, slot_or, value_at}
+use Rattle.stats_map.specs.Overlay.{IsDrawn, SwitchIsDrawn, now_of}
 use Rattle.stats_map.specs.Pending.{ended_if, ended_now}
 use Rattle.stats_map.specs.Told.{told}
 use Rattle.stats_map.specs.declared.overlay.Overlay.{Overlay}
@@ -223,8 +223,8 @@ switch-drawn switch o places base is b r all q own h = by (value_at place_cmp q 
     by (Some slot) e t = ap is_some e
     by None e t =
         let stands : HasKey place_cmp q base =
-            ap (λ (cookies : Cookies). is_some (value_at place_cmp q cookies)) b
-            ∙ (sym (ap (λ (z : Option (Option Cookie)). is_some (slot_or z (value_at place_cmp q o.base.now.live))) e) ∙ t) in
+        ap (λ (cookies : Cookies). is_some (value_at place_cmp q cookies)) b
+        ∙ (sym (ap (λ (z : Option (Option Cookie)). is_some (slot_or z (value_at place_cmp q o.base.now.live))) e) ∙ t) in
         all q (has-listed switch base places is q (same-is q.0 switch own) stands)
 
 -- a place that stands in a list

@@ -5,8 +5,8 @@ use Rattle.cv_io.specs.Leaves.{leaf_cmp}
 use Rattle.cv_io.specs.declared.leaf.Leaf.{Leaf}
 use Rattle.switch_meaning.specs.Counts.{Cookie}
 use Rattle.stats_map.specs.Counting.{Cookies, Place, place_cmp}
-use Rattle.stats_map.specs.Lays.{IsLaid, NamesAreDrawn, now_of}
-use Rattle.stats_map.specs.Overlay.{AreDrawn, IsSameBut, slot_or, value_at}
+use Rattle.stats_map.specs.Overlay.{IsLaid, NamesAreDrawn, now_of}
+use Rattle.stats_map.specs.Slots.{AreDrawn, IsSameBut, slot_or, value_at}
 use Rattle.stats_map.specs.Pending.{HaveSlots, IsOrdered, IsSummed, LeavesHaveSlots, PlaceSlots, laid}
 use Rattle.stats_map.specs.Told.{HeldOf}
 use Rattle.stats_map.specs.declared.overlay.Overlay.{Overlay}

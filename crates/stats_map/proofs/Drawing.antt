@@ -1,11 +1,11 @@
 -- Keys get slots, and room is made for what slots have.
-use Rattle.std.proofs.Common.{◌≡◌, Bool, true, false, cond, List, [], ◌∷◌, ◌++◌, refl, sym, ap, ◌∙◌, true≢false}
+use Rattle.std.proofs.Common.{◌≡◌, Bool, true, false, List, [], ◌∷◌, ◌++◌, refl, sym, ap, ◌∙◌, true≢false}
 use Rattle.std.specs.Prelude.{IsSome, Option, Some, None, is_some, unwrap_or}
 use Rattle.std.specs.BTreeMap.{insert_entry, is_at}
 use Rattle.std.specs.Map.{lookup}
 use Rattle.std.specs.declared.cmp.Ordering.{Ordering}
 use Rattle.std.specs.Cmp.{IsTotalOrder}
-use Rattle.stats_map.specs.Overlay.{AreDrawn, HasKey, HasRoom, IsSameBut, value_at, with_slot, without}
+use Rattle.stats_map.specs.Slots.{AreDrawn, HasKey, value_at, with_slot, without}
 use Rattle.stats_map.proofs.Overlays.{none-removed, put-removed, same-key, without-last}
 
 -- nothing was found
@@ -19,19 +19,6 @@ module _ {K : Type 0} {cmp : K → K → Ordering} (total : IsTotalOrder cmp) wh
   same-value k q es e = ap (λ (test : K → Bool). lookup test es) (λ i x. same-key total k q x e i)
 
   module _ {V : Type 0} where
-    abbrev pub Written : K → Option V → List (K × V) → List (K × V) → Type 0
-    Written k w old new = (q : K) → value_at cmp q new ≡ cond (is_at (cmp k) q) w (value_at cmp q old)
-
-    pub written-but : (k : K) (w : Option V) (old new : List (K × V)) → Written k w old new → IsSameBut cmp k old new
-    written-but k w old new h q f = h q ∙ ap (λ b. cond b w (value_at cmp q old)) f
-
-    pub written-stay : (k : K) (v : V) (old new : List (K × V)) → Written k (Some v) old new → (q : K) → HasKey cmp q old → HasKey cmp q new
-    written-stay k v old new h q t = ap is_some (h q) ∙ by (is_at (cmp k) q)
-      where
-        by : (b : Bool) → is_some (cond b (Some v) (value_at cmp q old)) ≡ true
-        by true = refl
-        by false = t
-
     pub same-drawn : (base : List (K × V)) (slots : List (K × Option V)) → AreDrawn cmp base slots slots
     same-drawn base slots = record { kept = λ q slot e. e; fresh = λ q slot e n. absurd (true≢false (ap is_some (sym e ∙ n))) }
 
@@ -52,26 +39,6 @@ module _ {K : Type 0} {cmp : K → K → Ordering} (total : IsTotalOrder cmp) wh
         by : (o : Option (Option V)) → value_at cmp q old ≡ o → IsSome o → HasKey cmp q new
         by None e u = absurd (true≢false (sym u))
         by (Some slot) e u = ap is_some (d.kept q slot e)
-
-    -- a key that had no slot gets one with its value
-    module _ (base : List (K × V)) (k : K) (slot : Option V) (old new : List (K × Option V)) (none : value_at cmp k old ≡ None) (is : slot ≡ value_at cmp k base)
-        (written : (q : K) → value_at cmp q new ≡ cond (is_at (cmp k) q) (Some slot) (value_at cmp q old)) where
-      pub one-drawn : AreDrawn cmp base old new
-      one-drawn = record { kept = λ q s e. kept q s e (is_at (cmp k) q) refl; fresh = λ q s e n. fresh q s e n (is_at (cmp k) q) refl }
-        where
-          to : (q : K) (b : Bool) → is_at (cmp k) q ≡ b → value_at cmp q new ≡ cond b (Some slot) (value_at cmp q old)
-          to q b t = written q ∙ ap (λ b. cond b (Some slot) (value_at cmp q old)) t
-
-          kept : (q : K) (s : Option V) → value_at cmp q old ≡ Some s → (b : Bool) → is_at (cmp k) q ≡ b → value_at cmp q new ≡ Some s
-          kept q s e true t = absurd (true≢false (ap is_some (sym e ∙ (sym (same-value k q old t) ∙ none))))
-          kept q s e false t = to q false t ∙ e
-
-          same : (s t : Option V) → Some s ≡ Some t → s ≡ t
-          same s t e = ap (λ (o : Option (Option V)). unwrap_or o s) e
-
-          fresh : (q : K) (s : Option V) → value_at cmp q new ≡ Some s → value_at cmp q old ≡ None → (b : Bool) → is_at (cmp k) q ≡ b → s ≡ value_at cmp q base
-          fresh q s e n true t = same s slot (sym e ∙ to q true t) ∙ (is ∙ same-value k q base t)
-          fresh q s e n false t = absurd (true≢false (ap is_some (sym e ∙ (to q false t ∙ n))))
 
     -- what is put in is taken out again
     pub put-undone : (made made' : List K) (k : K) (v : V) (old new : List (K × V)) → made' ≡ made ++ k ∷ [] → new ≡ insert_entry cmp old k v → value_at cmp k old ≡ None

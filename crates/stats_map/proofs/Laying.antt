@@ -18,7 +18,7 @@ use Rattle.switch_meaning.specs.Counts.{Cookie, names}
 use Rattle.switch_meaning.proofs.Alike.{leaf_decides}
 use Rattle.stats_map.specs.Counting.{Cookies, CountsOf, Place, cookie_at, ended, forgot, installed, place_cmp}
 use Rattle.stats_map.specs.InsideSums.{Allows, AllowsEach, AreSums, HappenedTo, HaveMore, Sums, sum_at}
-use Rattle.stats_map.specs.Overlay.{AreDrawn, HasKey, IsSameBut, overlaid, slot_or, value_at, with_slot}
+use Rattle.stats_map.specs.Slots.{AreDrawn, HasKey, IsSameBut, overlaid, slot_or, value_at, with_slot}
 use Rattle.stats_map.specs.Pending.{HaveSlots, IsSummed, LeafSlots, LeavesHaveSlots, PlaceSlots, ended_if, ended_now, laid, slot_sums}
 use Rattle.stats_map.specs.Told.{HeldOf, told}
 use Rattle.stats_map.specs.declared.sum.Event.TheVariants.{Begun, Ended, Forgotten}
@@ -142,9 +142,9 @@ module _ (base : Cookies) (r : Rise place_total base) (place : Place) (places pl
       by true t =
           let key : value_at place_cmp place places' ≡ Some (Some d) = same-value place_total place q places' t ∙ e in
           let laid-same : value_at place_cmp place (overlaid place_cmp places' base) ≡ value_at place_cmp place (overlaid place_cmp places base) =
-              ap (value_at place_cmp place) (drawn-same place_total place_exact base r places places' drawn) in
+          ap (value_at place_cmp place) (drawn-same place_total place_exact base r places places' drawn) in
           let new : value_at place_cmp place (overlaid place_cmp places' base) ≡ Some d =
-              at-laid place_total places' base r place ∙ ap (λ (z : Option (Option Cookie)). slot_or z (value_at place_cmp place base)) key in
+          at-laid place_total places' base r place ∙ ap (λ (z : Option (Option Cookie)). slot_or z (value_at place_cmp place base)) key in
           named d (sym (at-laid place_total places base r place) ∙ (sym laid-same ∙ new))
 
 pub laid-drawn : (h : HeldOf) → Rise place_total h.live → Rise leaf_total h.sums → (places places' : PlaceSlots) (leaves leaves' : LeafSlots) → AreDrawn place_cmp h.live places places' → AreDrawn leaf_cmp h.sums leaves leaves'

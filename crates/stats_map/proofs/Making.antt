@@ -11,7 +11,7 @@ use Rattle.std.proofs.lemmas.Map.{lookup-none}
 use Rattle.std.proofs.lemmas.Cmp.{eq_by_cmp_equiv, tied_itself}
 use Rattle.std.proofs.lemmas.Map.Keys.{IsDistinct-from_sorted, sorted_tail}
 use Rattle.std.specs.Ordering.{is_eq}
-use Rattle.stats_map.specs.Overlay.{HasKey, HasRoom, IsSameBut, IsSameElsewhere, overlaid, value_at, with_slot, without}
+use Rattle.stats_map.specs.Slots.{HasKey, HasRoom, IsSameBut, IsSameElsewhere, overlaid, value_at, with_slot, without}
 use Rattle.stats_map.proofs.Drawing.{same-value}
 use Rattle.stats_map.proofs.Overlays.{Rise, laid-last, same-turned, slot-other, without-last}
 

@@ -14,7 +14,7 @@ use Rattle.std.proofs.lemmas.Map.{lookup-none, lookup-remove_entry}
 use Rattle.std.proofs.lemmas.Map.Entries.{lookup_head, lookup_tail, none_below_head, none_past_head}
 use Rattle.std.proofs.lemmas.Map.Keys.{IsDistinct-from_sorted, sorted_tail}
 use Rattle.std.proofs.lemmas.Map.Lookups.{CmpEqualImpliesEq}
-use Rattle.stats_map.specs.Overlay.{AreDrawn, IsSameElsewhere, overlaid, slot_or, value_at, with_slot, without}
+use Rattle.stats_map.specs.Slots.{AreDrawn, IsSameElsewhere, overlaid, slot_or, value_at, with_slot, without}
 
 some-none : {V : Type 0} (v : V) → Some v ≡ None → ⊥
 some-none v e = absurd (true≢false (ap is_some e))

@@ -15,7 +15,7 @@ use Rattle.cv_io.specs.Leaves.{leaf_cmp, same_leaf}
 use Rattle.cv_io.specs.declared.leaf.Leaf.{Leaf}
 use Rattle.switch_meaning.proofs.Alike.{leaf_decides}
 use Rattle.stats_map.specs.InsideSums.{Allows, AllowsEach, HappenedTo, HaveMore, Sums, changed_by, no_sum, sum_at}
-use Rattle.stats_map.specs.Overlay.{HasKey, overlaid, slot_or, value_at}
+use Rattle.stats_map.specs.Slots.{HasKey, overlaid, slot_or, value_at}
 use Rattle.stats_map.specs.Pending.{HappenedAt, HaveSlots, LeafSlots, slot_sums}
 use Rattle.stats_map.specs.declared.sum.Event.{Event}
 use Rattle.stats_map.specs.declared.sum.Sum.{Sum}

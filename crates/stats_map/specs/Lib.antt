@@ -2,7 +2,7 @@ pub mod Counting
 pub mod InsideSums
 pub mod Histories
 pub mod Told
-pub mod Overlay
+pub mod Slots
 pub mod Pending
 pub mod Changes
-pub mod Lays
+pub mod Overlay

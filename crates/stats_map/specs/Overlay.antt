@@ -1,53 +1,32 @@
--- A map, and slots: what is to be changed of it. A slot has the value that its key gets, or none.
-use Rattle.std.specs.Prelude.{◌≡◌, false, Option, Some, None, IsSome, List, [], ◌∷◌}
-use Rattle.std.specs.BTreeMap.{insert_entry, is_at}
-use Rattle.std.specs.Map.{lookup, remove_entry}
-use Rattle.std.specs.declared.cmp.Ordering.{Ordering}
+-- Counts, and what is changed of them.
+use Rattle.std.specs.Prelude.{◌≡◌, ℕ, Some}
+use Rattle.switch_meaning.specs.Counts.{Cookie}
+use Rattle.stats_map.specs.Counting.{Place, place_cmp}
+use Rattle.stats_map.specs.Slots.{HasKey, slot_or, value_at}
+use Rattle.stats_map.specs.Pending.{HaveSlots, IsOrdered, IsSummed, LeavesHaveSlots, laid}
+use Rattle.stats_map.specs.Told.{HeldOf}
+use Rattle.stats_map.specs.declared.overlay.Overlay.{Overlay}
 
--- the value of a key
-abbrev pub value_at : {K V : Type 0} → (K → K → Ordering) → K → List (K × V) → Option V
-value_at cmp k es = lookup (is_at (cmp k)) es
+-- the counts with the changes
+abbrev pub now_of : Overlay → HeldOf
+now_of o = laid o.live.entries o.sums.entries o.base.now
 
--- a key has a value
-abbrev pub HasKey : {K V : Type 0} → (K → K → Ordering) → K → List (K × V) → Type 0
-HasKey cmp k es = IsSome (value_at cmp k es)
+-- the place has a slot
+abbrev pub IsDrawn : Place → Overlay → Type 0
+IsDrawn place o = HasKey place_cmp place o.live.entries
 
--- the entries with another value at a key, or with none
-abbrev pub with_slot : {K V : Type 0} → (K → K → Ordering) → K → Option V → List (K × V) → List (K × V)
-with_slot cmp k None es = remove_entry (is_at (cmp k)) es
-with_slot cmp k (Some v) es = insert_entry cmp es k v
+-- each leaf of a place's cookie has a slot
+abbrev pub NamesAreDrawn : Place → Overlay → Type 0
+NamesAreDrawn place o =
+    (c : Cookie) → slot_or (value_at place_cmp place o.live.entries) (value_at place_cmp place o.base.now.live) ≡ Some c
+    → HaveSlots c.ancestry o.sums.entries
 
--- the entries with the values of all slots
-abbrev pub overlaid : {K V : Type 0} → (K → K → Ordering) → List (K × Option V) → List (K × V) → List (K × V)
-overlaid cmp [] es = es
-overlaid cmp (x ∷ xs) es = with_slot cmp x.0 x.1 (overlaid cmp xs es)
+-- each cookie of the switch has a slot
+abbrev pub SwitchIsDrawn : ℕ → Overlay → Type 0
+SwitchIsDrawn switch o = (place : Place) → place.0 ≡ switch → HasKey place_cmp place (now_of o).live → IsDrawn place o
 
--- what a slot has, or else what stands
-abbrev pub slot_or : {V : Type 0} → Option (Option V) → Option V → Option V
-slot_or None value = value
-slot_or (Some slot) value = slot
-
--- more slots, each with the value that stands
-pub record AreDrawn {K V : Type 0} (cmp : K → K → Ordering) (base : List (K × V)) (old new : List (K × Option V))
-    : Type 0 where
-  pub kept : (q : K) (slot : Option V) → value_at cmp q old ≡ Some slot → value_at cmp q new ≡ Some slot
-  pub fresh : (q : K) (slot : Option V) → value_at cmp q new ≡ Some slot → value_at cmp q old ≡ None
-      → slot ≡ value_at cmp q base
-
--- keys other than one have what they had
-abbrev pub IsSameBut : {K V : Type 0} → (K → K → Ordering) → K → List (K × V) → List (K × V) → Type 0
-IsSameBut {K} cmp k old new = (q : K) → is_at (cmp k) q ≡ false → value_at cmp q new ≡ value_at cmp q old
-
--- the entries without some keys
-abbrev pub without : {K V : Type 0} → (K → K → Ordering) → List K → List (K × V) → List (K × V)
-without cmp [] es = es
-without cmp (k ∷ ks) es = remove_entry (is_at (cmp k)) (without cmp ks es)
-
--- each key that gets a value has one
-abbrev pub HasRoom : {K V : Type 0} → (K → K → Ordering) → List (K × Option V) → List (K × V) → Type 0
-HasRoom {K} {V} cmp slots es = (q : K) (v : V) → value_at cmp q slots ≡ Some (Some v) → HasKey cmp q es
-
--- keys that have no slot have what they had
-abbrev pub IsSameElsewhere : {K V : Type 0}
-    → (K → K → Ordering) → List (K × Option V) → List (K × V) → List (K × V) → Type 0
-IsSameElsewhere {K} cmp slots old new = (q : K) → value_at cmp q slots ≡ None → value_at cmp q new ≡ value_at cmp q old
+-- the sums with the changes are those of the cookies with them, and leaves of cookies that have slots have slots
+pub record IsLaid (o : Overlay) : Type 0 where
+  pub ordered : IsOrdered o.base.now
+  pub summed : IsSummed (now_of o)
+  pub slots : LeavesHaveSlots o.live.entries o.sums.entries

@@ -8,7 +8,7 @@ use Rattle.cv_io.specs.declared.leaf.Leaf.{Leaf}
 use Rattle.switch_meaning.specs.Counts.{Cookie, Numbers}
 use Rattle.stats_map.specs.Counting.{CountsOf, Place, cookie_at, ended, place_cmp, reported}
 use Rattle.stats_map.specs.InsideSums.{AreSums, Sums, changed_by, sum_at}
-use Rattle.stats_map.specs.Overlay.{HasKey, overlaid, value_at}
+use Rattle.stats_map.specs.Slots.{HasKey, overlaid, value_at}
 use Rattle.stats_map.specs.Told.{HeldOf}
 use Rattle.stats_map.specs.declared.sum.Event.{Event}
 use Rattle.stats_map.specs.declared.sum.Sum.{Sum}

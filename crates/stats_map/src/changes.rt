@@ -2,7 +2,7 @@
 ghost use Rattle.std.specs.Prelude.{◌≡◌, OnErr, OnOk};
 ghost use Rattle.cv_io.specs.Leaves.{leaf_cmp};
 ghost use Rattle.stats_map.specs.Counting.{place_cmp};
-ghost use Rattle.stats_map.specs.Overlay.{HasRoom, IsSameElsewhere, overlaid, without};
+ghost use Rattle.stats_map.specs.Slots.{HasRoom, IsSameElsewhere, overlaid, without};
 
 use crate::rooms::{add_rooms, fill, take_out};
 use crate::row::Row;

@@ -4,8 +4,8 @@ ghost use Rattle.std.specs.Prelude.{◌≡◌, IfOk, Option, OnErr, OnOk, filter
 ghost use Rattle.std.specs.Map.{keys_of};
 ghost use Rattle.cv_io.specs.Leaves.{leaf_cmp};
 ghost use Rattle.stats_map.specs.Counting.{Place, downed, forgot, installed};
-ghost use Rattle.stats_map.specs.Lays.{IsDrawn, IsLaid, NamesAreDrawn, SwitchIsDrawn, now_of};
-ghost use Rattle.stats_map.specs.Overlay.{AreDrawn};
+ghost use Rattle.stats_map.specs.Overlay.{IsDrawn, IsLaid, NamesAreDrawn, SwitchIsDrawn, now_of};
+ghost use Rattle.stats_map.specs.Slots.{AreDrawn};
 ghost use Rattle.stats_map.specs.Pending.{ended_now};
 ghost use Rattle.stats_map.specs.Told.{told};
 
@@ -74,11 +74,7 @@ impl<'a> Overlay<'a> {
         let Some(row) = value_of(self.base.live(), &self.live, place) else {
             return Ok(());
         };
-        draw_leaves(
-            self.base.sums(),
-            &mut self.sums,
-            row.ancestry().as_slice(),
-        )?;
+        draw_leaves(self.base.sums(), &mut self.sums, row.ancestry().as_slice())?;
         Ok(())
     }
 

@@ -20,7 +20,7 @@ pub struct Pending<'a> {
 }
 
 impl<'a> Model for Pending<'a> {
-    ghost use Rattle.stats_map.specs.Lays.{IsLaid, now_of};
+    ghost use Rattle.stats_map.specs.Overlay.{IsLaid, now_of};
     ghost use Rattle.stats_map.specs.Pending.{PendingOf};
 
     ghost Value = { PendingOf };
@@ -64,7 +64,7 @@ impl<'a> Pending<'a> {
     /// A cookie is written to a switch. One that was written already stays as it is.
     pub fn write(&mut self, switch: u32, written: &Written) -> Result<(), Memory>
         ensures base { self.new.base ≡ self.old.base }
-        ensures installed { OnOk result (told self.new.now 
+        ensures installed { OnOk result (told self.new.now
             ≡ installed (switch, written.now.cookie) written.now.entry.ancestry (told self.old.now)) }
         ensures memory { OnErr result (self.new ≡ self.old) }
     {
@@ -110,7 +110,11 @@ impl<'a> Pending<'a> {
         ensures can { CanMake result self.entry.base }
     {
         let Pending { over } = self;
-        let Overlay { base: _, live, sums } = over;
+        let Overlay {
+            base: _,
+            live,
+            sums,
+        } = over;
         Changes { live, sums }
     }
 }

@@ -1,7 +1,7 @@
 //! Slots are made what a map has. All memory is taken first: a key that gets a value and has none is put in, and
 //! taken out again where memory runs out. What is then left to do takes none.
 ghost use Rattle.std.specs.Prelude.{◌≡◌, OnOk, Option, Some};
-ghost use Rattle.stats_map.specs.Overlay.{HasKey, HasRoom, IsSameBut, IsSameElsewhere, overlaid, with_slot, without};
+ghost use Rattle.stats_map.specs.Slots.{HasKey, HasRoom, IsSameBut, IsSameElsewhere, overlaid, with_slot, without};
 
 use cv_io::{Duplicate, Memory};
 use std::collections::BTreeMap;

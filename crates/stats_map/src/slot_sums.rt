@@ -5,7 +5,7 @@ ghost use Rattle.std.specs.Map.{keys_of};
 ghost use Rattle.cv_io.specs.Leaves.{leaf_cmp, same_leaf};
 ghost use Rattle.cv_io.specs.declared.leaf.Leaf.{Leaf as LeafOf};
 ghost use Rattle.stats_map.specs.InsideSums.{Allows, AllowsEach, HappenedTo, HaveMore, sum_at};
-ghost use Rattle.stats_map.specs.Overlay.{AreDrawn, HasKey};
+ghost use Rattle.stats_map.specs.Slots.{AreDrawn, HasKey};
 ghost use Rattle.stats_map.specs.Pending.{HappenedAt, HaveSlots, slot_sums};
 
 use crate::slots::draw;

@@ -2,7 +2,7 @@
 //! what has a slot is changed without memory.
 ghost use Rattle.std.specs.Prelude.{◌≡◌, OnOk, Option};
 ghost use Rattle.std.specs.Option.{option_copied};
-ghost use Rattle.stats_map.specs.Overlay.{AreDrawn, HasKey, IsSameBut, slot_or, value_at};
+ghost use Rattle.stats_map.specs.Slots.{AreDrawn, HasKey, IsSameBut, slot_or, value_at};
 
 use cv_io::{Duplicate, Memory};
 use std::collections::BTreeMap;

@@ -1,4 +1,4 @@
-use Rattle.stats_map.specs.Overlay.{value_at}
+use Rattle.stats_map.specs.Slots.{value_at}
 use Rattle.stats_map.proofs.Drawing.{none-undone, not-there, put-undone}
 use Rattle.stats_map.proofs.rooms.add_room.Goals as goal
 

@@ -1,5 +1,5 @@
 use Rattle.std.proofs.Common.{◌≡◌}
-use Rattle.stats_map.specs.Overlay.{IsSameElsewhere, without}
+use Rattle.stats_map.specs.Slots.{IsSameElsewhere, without}
 use Rattle.stats_map.proofs.Making.{HasRoomBut}
 use Rattle.stats_map.proofs.rooms.add_rooms.Given as goal
 

@@ -1,5 +1,5 @@
 use Rattle.std.proofs.Common.{◌≡◌, length}
-use Rattle.stats_map.specs.Overlay.{HasRoom, overlaid}
+use Rattle.stats_map.specs.Slots.{HasRoom, overlaid}
 use Rattle.stats_map.proofs.rooms.fill.Given as goal
 
 abbrev pub invariant-loop-last : goal.invariant-loop-last

@@ -1,5 +1,5 @@
 use Rattle.std.proofs.Common.{◌≡◌}
-use Rattle.stats_map.specs.Overlay.{without}
+use Rattle.stats_map.specs.Slots.{without}
 use Rattle.stats_map.proofs.rooms.take_out.Given as goal
 
 abbrev pub invariant-loop-key : goal.invariant-loop-key

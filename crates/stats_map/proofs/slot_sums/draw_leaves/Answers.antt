@@ -2,7 +2,7 @@ use Rattle.std.proofs.Common.{get_or}
 use Rattle.std.proofs.lemmas.List.{get_or_default}
 use Rattle.cv_io.specs.Leaves.{leaf_cmp}
 use Rattle.cv_io.specs.declared.leaf.Leaf.{Leaf}
-use Rattle.stats_map.specs.Overlay.{HasKey}
+use Rattle.stats_map.specs.Slots.{HasKey}
 use Rattle.stats_map.proofs.Drawing.{more-drawn}
 use Rattle.stats_map.proofs.Happening.{one-more-have}
 use Rattle.stats_map.proofs.Laying.{drawn-has}

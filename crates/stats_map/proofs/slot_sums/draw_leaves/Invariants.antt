@@ -1,6 +1,6 @@
 use Rattle.std.proofs.Common.{take}
 use Rattle.cv_io.specs.Leaves.{leaf_cmp}
-use Rattle.stats_map.specs.Overlay.{AreDrawn}
+use Rattle.stats_map.specs.Slots.{AreDrawn}
 use Rattle.stats_map.specs.Pending.{HaveSlots}
 use Rattle.stats_map.proofs.slot_sums.draw_leaves.Given as goal
 

@@ -6,8 +6,8 @@ use Rattle.cv_io.specs.declared.leaf.Leaf.{Leaf}
 use Rattle.switch_meaning.specs.Counts.{Cookie}
 use Rattle.stats_map.specs.Counting.{Cookies, place_cmp}
 use Rattle.stats_map.specs.InsideSums.{Sums}
-use Rattle.stats_map.specs.Lays.{now_of}
-use Rattle.stats_map.specs.Overlay.{AreDrawn, slot_or, value_at}
+use Rattle.stats_map.specs.Overlay.{now_of}
+use Rattle.stats_map.specs.Slots.{AreDrawn, slot_or, value_at}
 use Rattle.stats_map.specs.Pending.{HaveSlots}
 use Rattle.stats_map.specs.Told.{told}
 use Rattle.stats_map.proofs.Adding.{on-err}
@@ -90,11 +90,11 @@ returns-clause-laid c =
     record {
       ordered = c.requires.ordered;
       summed = begun-summed o.base.now c.requires.ordered.places c.requires.ordered.leaves o.live.entries o.sums.entries c.requires.summed c.requires.slots c.args.place c.args.ancestry.now slice c.as_slice-3.ensures none
-    c.draw_leaves.new.slots.entries drawn slots c.open_slots.new.slots.entries c.open_slots.ensures.more c.open_slots.ensures.keys
-    there c.new-row.result fresh c.insert.new.self.entries c.in_ok-insert.ensures.updates.0 c.change_slots.new.slots.entries c.change_slots.ensures.keys c.change_slots.ensures.sums;
+          c.draw_leaves.new.slots.entries drawn slots c.open_slots.new.slots.entries c.open_slots.ensures.more c.open_slots.ensures.keys
+          there c.new-row.result fresh c.insert.new.self.entries c.in_ok-insert.ensures.updates.0 c.change_slots.new.slots.entries c.change_slots.ensures.keys c.change_slots.ensures.sums;
       slots = begun-have o.base.now c.requires.ordered.places c.requires.ordered.leaves o.live.entries o.sums.entries c.requires.summed c.requires.slots c.args.place c.args.ancestry.now slice c.as_slice-3.ensures none
-    c.draw_leaves.new.slots.entries drawn slots c.open_slots.new.slots.entries c.open_slots.ensures.more c.open_slots.ensures.keys
-    there c.new-row.result fresh c.insert.new.self.entries c.in_ok-insert.ensures.updates.0 c.change_slots.new.slots.entries c.change_slots.ensures.keys c.change_slots.ensures.sums;
+          c.draw_leaves.new.slots.entries drawn slots c.open_slots.new.slots.entries c.open_slots.ensures.more c.open_slots.ensures.keys
+          there c.new-row.result fresh c.insert.new.self.entries c.in_ok-insert.ensures.updates.0 c.change_slots.new.slots.entries c.change_slots.ensures.keys c.change_slots.ensures.sums;
     }
 
 pub returns-clause-begun : goal.returns-clause-begun

@@ -1,6 +1,6 @@
 use Rattle.std.proofs.Common.{refl, sym, subst, ◌∙◌}
 use Rattle.stats_map.specs.Counting.{place_cmp}
-use Rattle.stats_map.specs.Overlay.{HasKey}
+use Rattle.stats_map.specs.Slots.{HasKey}
 use Rattle.stats_map.specs.Pending.{PlaceSlots}
 use Rattle.stats_map.proofs.Drafting.{named-laid, named-same, place-laid, place-same}
 use Rattle.stats_map.proofs.Drawing.{drawn-key}

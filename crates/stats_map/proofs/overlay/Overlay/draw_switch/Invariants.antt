@@ -1,7 +1,7 @@
 use Rattle.std.proofs.Common.{◌≡◌, true, take}
 use Rattle.std.specs.List.{list_any}
 use Rattle.stats_map.specs.Counting.{Place}
-use Rattle.stats_map.specs.Lays.{IsDrawn, IsLaid, now_of}
+use Rattle.stats_map.specs.Overlay.{IsDrawn, IsLaid, now_of}
 use Rattle.stats_map.proofs.Rows.{at}
 use Rattle.stats_map.proofs.overlay.Overlay.draw_switch.Given as goal
 

@@ -1,6 +1,6 @@
 use Rattle.std.proofs.Common.{◌≡◌, drop}
 use Rattle.std.specs.Map.{keys_of}
-use Rattle.stats_map.specs.Lays.{IsLaid, now_of}
+use Rattle.stats_map.specs.Overlay.{IsLaid, now_of}
 use Rattle.stats_map.specs.Told.{told}
 use Rattle.stats_map.proofs.Downing.{AreLeft}
 use Rattle.stats_map.proofs.overlay.Overlay.end_all.Given as goal

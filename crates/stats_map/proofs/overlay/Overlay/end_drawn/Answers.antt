@@ -2,7 +2,7 @@ use Rattle.std.proofs.Common.{rules, ◌≡◌, refl, sym, ap, subst, ◌∙◌}
 use Rattle.std.specs.Prelude.{Some, None}
 use Rattle.std.specs.Map.{set_value}
 use Rattle.std.proofs.lemmas.Map.Steps.{set_value_same}
-use Rattle.stats_map.specs.Overlay.{value_at}
+use Rattle.stats_map.specs.Slots.{value_at}
 use Rattle.stats_map.specs.Counting.{place_cmp}
 use Rattle.stats_map.specs.Told.{HeldOf, told}
 use Rattle.stats_map.proofs.Drafting.{kept-laid, kept-same}

@@ -1,7 +1,7 @@
 use Rattle.std.proofs.Common.{◌≡◌, refl, subst}
 use Rattle.cv_io.specs.Leaves.{leaf_cmp}
 use Rattle.stats_map.specs.InsideSums.{Sums}
-use Rattle.stats_map.specs.Overlay.{AreDrawn}
+use Rattle.stats_map.specs.Slots.{AreDrawn}
 use Rattle.stats_map.proofs.Adding.{on-err}
 use Rattle.stats_map.proofs.Drafting.{named-laid, named-same}
 use Rattle.stats_map.proofs.Laying.{drawn-all-have, forgotten-summed, forgotten-told, one-slot-has, slots-all-kept}

@@ -1,7 +1,7 @@
 use Rattle.std.proofs.Common.{◌≡◌, false, nat_lt, sym, subst}
 use Rattle.std.specs.Prelude.{Some, None}
 use Rattle.stats_map.specs.Counting.{is_named}
-use Rattle.stats_map.specs.Lays.{now_of}
+use Rattle.stats_map.specs.Overlay.{now_of}
 use Rattle.stats_map.specs.Pending.{PendingOf}
 use Rattle.stats_map.specs.Told.{told}
 use Rattle.stats_map.proofs.Laying.{sum-found}
