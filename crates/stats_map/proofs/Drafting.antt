@@ -1,6 +1,6 @@
 -- What is drawn changes nothing.
-use Rattle.std.proofs.Common.{◌≡◌, Bool, true, false, List, refl, sym, ap, subst, ◌∙◌}
-use Rattle.std.specs.Prelude.{Option, Some}
+use Rattle.std.proofs.Common.{◌≡◌, List, sym, ap, subst, ◌∙◌}
+use Rattle.std.specs.Prelude.{Some}
 use Rattle.cv_io.specs.Leaves.{leaf_cmp}
 use Rattle.cv_io.specs.declared.leaf.Leaf.{Leaf}
 use Rattle.switch_meaning.specs.Counts.{Cookie}

@@ -1,5 +1,5 @@
 -- Cookies end and begin in slots.
-use Rattle.std.proofs.Common.{◌≡◌, ℕ, ◌+◌, ◌<◌, ◌≤◌, ◌^◌, Bool, true, false, cond, ◌||◌, List, [], ◌∷◌, length, refl, sym, ap, subst, ◌∙◌, arith, true≢false}
+use Rattle.std.proofs.Common.{◌≡◌, ◌+◌, ◌<◌, ◌≤◌, ◌^◌, Bool, true, false, cond, ◌||◌, List, [], ◌∷◌, length, refl, sym, ap, subst, ◌∙◌, arith, true≢false}
 use Rattle.std.specs.Prelude.{IfSome, IsSome, Option, Some, None, is_some, unwrap_or}
 use Rattle.std.specs.BTreeMap.{insert_entry, is_at}
 use Rattle.std.specs.List.{list_any}
@@ -9,14 +9,14 @@ use Rattle.std.specs.declared.cmp.Ordering.{Ordering}
 use Rattle.std.specs.declared.cmp.Ordering.TheVariants.{Less, Equal, Greater}
 use Rattle.std.proofs.lemmas.Cmp.{eq_by_cmp_equiv}
 use Rattle.std.proofs.lemmas.List.Sums.{count_by-le-length}
-use Rattle.std.proofs.lemmas.Map.{keys-set_value, lookup-set_value}
+use Rattle.std.proofs.lemmas.Map.{lookup-set_value}
 use Rattle.std.proofs.lemmas.Map.Entries.{length-values_of}
 use Rattle.std.proofs.lemmas.Map.Lookups.{CmpEqualImpliesEq, exact_pairs, exact_unsigned}
 use Rattle.cv_io.specs.Leaves.{leaf_cmp, same_leaf}
 use Rattle.cv_io.specs.declared.leaf.Leaf.{Leaf}
 use Rattle.switch_meaning.specs.Counts.{Cookie, names}
 use Rattle.switch_meaning.proofs.Alike.{leaf_decides}
-use Rattle.stats_map.specs.Counting.{Cookies, CountsOf, Place, cookie_at, ended, forgot, installed, place_cmp}
+use Rattle.stats_map.specs.Counting.{Cookies, Place, cookie_at, forgot, installed, place_cmp}
 use Rattle.stats_map.specs.InsideSums.{Allows, AllowsEach, AreSums, HappenedTo, HaveMore, Sums, sum_at}
 use Rattle.stats_map.specs.Slots.{AreDrawn, HasKey, IsSameBut, overlaid, slot_or, value_at, with_slot}
 use Rattle.stats_map.specs.Pending.{HaveSlots, IsSummed, LeafSlots, LeavesHaveSlots, PlaceSlots, ended_if, ended_now, laid, slot_sums}

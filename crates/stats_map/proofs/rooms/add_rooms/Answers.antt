@@ -1,5 +1,5 @@
-use Rattle.std.proofs.Common.{refl, ◌∙◌}
-use Rattle.stats_map.proofs.Making.{else-next, room-all, room-first, room-next}
+use Rattle.std.proofs.Common.{◌∙◌}
+use Rattle.stats_map.proofs.Making.{else-next, room-next}
 use Rattle.stats_map.proofs.rooms.add_rooms.Goals as goal
 
 pub loop-key-preserved : goal.loop-key-preserved

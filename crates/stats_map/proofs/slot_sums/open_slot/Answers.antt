@@ -1,4 +1,4 @@
-use Rattle.std.proofs.Common.{rules, ◌≡◌, refl, Bool, true, false, sym, ap, subst, ◌∙◌, true≢false}
+use Rattle.std.proofs.Common.{rules, ◌≡◌, refl, Bool, true, sym, ap, subst, ◌∙◌, true≢false}
 use Rattle.std.specs.Prelude.{Option, Some, None, is_some, not}
 use Rattle.std.specs.BTreeMap.{is_at}
 use Rattle.std.specs.Map.{set_value}

@@ -1,4 +1,4 @@
-use Rattle.std.proofs.Common.{◌≡◌, refl, Bool, true, false, get_or, take, sym, ◌∙◌}
+use Rattle.std.proofs.Common.{get_or, take, sym, ◌∙◌}
 use Rattle.std.specs.List.{list_any}
 use Rattle.std.proofs.lemmas.List.{get_or_default}
 use Rattle.cv_io.specs.Leaves.{same_leaf}

@@ -1,5 +1,5 @@
 use Rattle.std.proofs.Common.{◌≡◌, ◌<◌, ◌^◌, true, List, length, refl, sym, ap, subst, ◌∙◌}
-use Rattle.std.specs.Prelude.{None, Option, Some, is_some}
+use Rattle.std.specs.Prelude.{is_some}
 use Rattle.std.specs.List.{list_any}
 use Rattle.cv_io.specs.Leaves.{leaf_cmp, same_leaf}
 use Rattle.cv_io.specs.declared.leaf.Leaf.{Leaf}

@@ -1,10 +1,10 @@
-use Rattle.std.proofs.Common.{rules, ◌≡◌, refl, sym, ap, subst, ◌∙◌}
+use Rattle.std.proofs.Common.{rules, ◌≡◌, refl, sym, ap, ◌∙◌}
 use Rattle.std.specs.Prelude.{Some, None}
 use Rattle.std.specs.Map.{set_value}
 use Rattle.std.proofs.lemmas.Map.Steps.{set_value_same}
 use Rattle.stats_map.specs.Slots.{value_at}
 use Rattle.stats_map.specs.Counting.{place_cmp}
-use Rattle.stats_map.specs.Told.{HeldOf, told}
+use Rattle.stats_map.specs.Told.{told}
 use Rattle.stats_map.proofs.Drafting.{kept-laid, kept-same}
 use Rattle.stats_map.proofs.Laying.{ended-allowed, ended-have, ended-summed, ended-told, none-ends}
 use Rattle.stats_map.proofs.Rows.{at}

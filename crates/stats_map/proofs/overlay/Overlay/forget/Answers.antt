@@ -1,4 +1,4 @@
-use Rattle.std.proofs.Common.{◌≡◌, refl, subst}
+use Rattle.std.proofs.Common.{refl, subst}
 use Rattle.cv_io.specs.Leaves.{leaf_cmp}
 use Rattle.stats_map.specs.InsideSums.{Sums}
 use Rattle.stats_map.specs.Slots.{AreDrawn}

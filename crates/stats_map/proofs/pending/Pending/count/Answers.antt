@@ -1,4 +1,4 @@
-use Rattle.std.proofs.Common.{◌≡◌, ℕ, refl, sym, subst, ◌∙◌}
+use Rattle.std.proofs.Common.{◌≡◌, ℕ, subst, ◌∙◌}
 use Rattle.std.specs.Prelude.{Some, None}
 use Rattle.stats_map.specs.Counting.{count}
 use Rattle.stats_map.specs.Overlay.{now_of}
