@@ -1,6 +1,6 @@
 //! Counts of members' entries: the packets and bytes of all entries that were ever made of them, as the
 //! switches reported. What stands on switches is held, and what is deleted and not yet reported; of all
-//! else only totals.
+//! else only totals. What an event makes of them is drafted apart, in `Pending`, and then made at once.
 #![tactic(auto)]
 
 pub mod changes;
