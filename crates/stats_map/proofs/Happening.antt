@@ -1,6 +1,6 @@
 -- What happens to the sums of leaves, one after the other.
-use Rattle.std.proofs.Common.{◌≡◌, ℕ, zero, suc, ◌+◌, ◌<◌, Bool, true, false, ◌||◌, List, [], ◌∷◌, length, get_or, take, refl, sym, ap, subst, ◌∙◌, arith}
-use Rattle.std.specs.Prelude.{IfSome, if◌then◌else◌, option_and_then}
+use Rattle.std.proofs.Common.{◌≡◌, ℕ, zero, suc, ◌+◌, ◌<◌, Bool, true, false, ◌||◌, List, [], ◌∷◌, length, get_or, take, refl, sym, ap, subst, ◌∙◌, arith, true≢false}
+use Rattle.std.specs.Prelude.{IfSome, if◌then◌else◌, not, option_and_then}
 use Rattle.std.specs.List.{list_any}
 use Rattle.cv_io.specs.Leaves.{same_leaf}
 use Rattle.cv_io.specs.declared.leaf.Leaf.{Leaf}
@@ -8,23 +8,27 @@ use Rattle.switch_meaning.proofs.Alike.{leaf_decides}
 use Rattle.stats_map.specs.InsideSums.{Allows, AllowsEach, HappenedTo, Sums, changed_by, sum_at}
 use Rattle.stats_map.specs.declared.sum.Event.{Event}
 
--- one leaf more
-pub any-more : (q : Leaf) (xs : List Leaf) (i : ℕ) (x : Leaf) → i < length xs → x ≡ get_or xs i x → list_any (same_leaf q) (take (i + 1) xs) ≡ (list_any (same_leaf q) (take i xs) || same_leaf q x)
-any-more q [] i x lt e = absurd (omega arith)
-any-more q (y ∷ ys) zero x lt e =
+-- one more of a list
+pub any-next : {X : Type 0} (test : X → Bool) (xs : List X) (i : ℕ) (x : X) → i < length xs → x ≡ get_or xs i x → list_any test (take (i + 1) xs) ≡ (list_any test (take i xs) || test x)
+any-next test [] i x lt e = absurd (omega arith)
+any-next test (y ∷ ys) zero x lt e =
     let one : 0 + 1 ≡ suc 0 = omega arith in
-    ap (λ n. list_any (same_leaf q) (take n (y ∷ ys))) one ∙ (no-more (same_leaf q y) ∙ ap (same_leaf q) (sym e))
+    ap (λ n. list_any test (take n (y ∷ ys))) one ∙ (no-more (test y) ∙ ap test (sym e))
   where
     no-more : (b : Bool) → (b || false) ≡ b
     no-more true = refl
     no-more false = refl
-any-more q (y ∷ ys) (suc i) x lt e =
+any-next test (y ∷ ys) (suc i) x lt e =
     let next : suc i + 1 ≡ suc (i + 1) = omega arith in
-    ap (λ n. list_any (same_leaf q) (take n (y ∷ ys))) next ∙ (ap (λ b. same_leaf q y || b) (any-more q ys i x (omega arith) e) ∙ grouped (same_leaf q y) (list_any (same_leaf q) (take i ys)) (same_leaf q x))
+    ap (λ n. list_any test (take n (y ∷ ys))) next ∙ (ap (λ b. test y || b) (any-next test ys i x (omega arith) e) ∙ grouped (test y) (list_any test (take i ys)) (test x))
   where
     grouped : (a b c : Bool) → (a || (b || c)) ≡ ((a || b) || c)
     grouped true b c = refl
     grouped false b c = refl
+
+-- one leaf more
+pub any-more : (q : Leaf) (xs : List Leaf) (i : ℕ) (x : Leaf) → i < length xs → x ≡ get_or xs i x → list_any (same_leaf q) (take (i + 1) xs) ≡ (list_any (same_leaf q) (take i xs) || same_leaf q x)
+any-more q xs i x lt e = any-next (same_leaf q) xs i x lt e
 
 -- a leaf of the list
 pub any-at : (xs : List Leaf) (i : ℕ) (x : Leaf) → i < length xs → x ≡ get_or xs i x → list_any (same_leaf x) xs ≡ true
@@ -93,3 +97,21 @@ module _ (event : Event) (xs : List Leaf) (i : ℕ) (x : Leaf) (lt : i < length 
 
 pub happened-none : (event : Event) (sums : Sums) → HappenedTo event [] sums sums
 happened-none event sums q = refl
+
+pub not-true : (b : Bool) → not b ≡ true → b ≡ false
+not-true true e = cc
+not-true false e = refl
+
+pub not-false : (b : Bool) → not b ≡ false → b ≡ true
+not-false true e = refl
+not-false false e = cc
+
+-- what held of the leaves so far and holds of one leaf more
+pub one-more-have : (xs : List Leaf) (i : ℕ) (x : Leaf) (P Q : Leaf → Type 0) → i < length xs → x ≡ get_or xs i x → ((q : Leaf) → P q → Q q) → Q x
+    → ((q : Leaf) → list_any (same_leaf q) (take i xs) ≡ true → P q) → (q : Leaf) → list_any (same_leaf q) (take (i + 1) xs) ≡ true → Q q
+one-more-have xs i x P Q lt is stay now before q t = by (list_any (same_leaf q) (take i xs)) refl (same_leaf q x) refl (sym (any-more q xs i x lt is) ∙ t)
+  where
+    by : (b : Bool) → list_any (same_leaf q) (take i xs) ≡ b → (d : Bool) → same_leaf q x ≡ d → (list_any (same_leaf q) (take i xs) || same_leaf q x) ≡ true → Q q
+    by true e d f u = stay q (before q e)
+    by false e true f u = subst Q (sym ((leaf_decides q x).0 f)) now
+    by false e false f u = absurd (true≢false (sym u ∙ (ap (λ b. b || same_leaf q x) e ∙ f)))

@@ -9,3 +9,11 @@ pub mod Acts
 pub mod Switches
 pub mod Reporting
 pub mod Beginning
+pub mod Overlays
+pub mod SlotSums
+pub mod Drawing
+pub mod Making
+pub mod Listing
+pub mod Laying
+pub mod Downing
+pub mod Drafting

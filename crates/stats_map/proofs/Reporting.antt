@@ -3,6 +3,7 @@ use Rattle.std.proofs.Common.{◌≡◌, ℕ, ◌+◌, Bool, true, false, cond, 
 use Rattle.std.specs.Prelude.{IfSome, MatchOption, Option, Some, None, is_some}
 use Rattle.std.specs.List.{list_any}
 use Rattle.std.specs.Map.{lookup, remove_entry, set_value, values_of}
+use Rattle.std.proofs.lemmas.Map.Steps.{set_value_same}
 use Rattle.cv_io.specs.declared.leaf.Leaf.{Leaf}
 use Rattle.switch_meaning.specs.Counts.{Cookie, Numbers, bytes_for, capped, folded_in, names, packets_for}
 use Rattle.stats_map.specs.Counting.{Cookies, CountsOf, Place, cookie_at, count, ended, forgot, is_named, known, renumbered, reported, reported_on, swept, with_numbers}
@@ -74,7 +75,7 @@ module _ (live : Cookies) (sums : Sums) (leaf : Leaf) (a : AreSums (values_of li
 -- a written value is found
 
 module _ (p : Place → Bool) where
-  found-written : (w : Cookie) (es : Cookies) → is_some (lookup p es) ≡ true → lookup p (set_value p es w) ≡ Some w
+  pub found-written : (w : Cookie) (es : Cookies) → is_some (lookup p es) ≡ true → lookup p (set_value p es w) ≡ Some w
   found-written w [] t = absurd (true≢false (sym t))
   found-written w (e ∷ es) t = by (p e.0) refl (λ u. found-written w es u)
     where
@@ -96,6 +97,31 @@ module _ (p : Place → Bool) where
       by false f rest =
           ap (λ b. remove_entry p (cond b ((e.0, w) ∷ es) (e ∷ set_value p es w))) f
           ∙ (ap (λ b. cond b (set_value p es w) (e ∷ remove_entry p (set_value p es w))) f ∙ (ap (λ zs. e ∷ zs) rest ∙ sym (ap (λ b. cond b es (e ∷ remove_entry p es)) f)))
+
+  -- a value that is written over another
+  written-twice : (w v : Cookie) (es : Cookies) → set_value p (set_value p es w) v ≡ set_value p es v
+  written-twice w v [] = refl
+  written-twice w v (e ∷ es) = by (p e.0) refl (written-twice w v es)
+    where
+      by : (b : Bool) → p e.0 ≡ b → set_value p (set_value p es w) v ≡ set_value p es v → set_value p (set_value p (e ∷ es) w) v ≡ set_value p (e ∷ es) v
+      by true f rest =
+          ap (λ b. set_value p (cond b ((e.0, w) ∷ es) (e ∷ set_value p es w)) v) f
+          ∙ (ap (λ b. cond b ((e.0, v) ∷ es) ((e.0, w) ∷ set_value p es v)) f ∙ sym (ap (λ b. cond b ((e.0, v) ∷ es) (e ∷ set_value p es v)) f))
+      by false f rest =
+          ap (λ b. set_value p (cond b ((e.0, w) ∷ es) (e ∷ set_value p es w)) v) f
+          ∙ (ap (λ b. cond b ((e.0, v) ∷ set_value p es w) (e ∷ set_value p (set_value p es w) v)) f
+          ∙ (ap (λ zs. e ∷ zs) rest ∙ sym (ap (λ b. cond b ((e.0, v) ∷ es) (e ∷ set_value p es v)) f)))
+
+-- other numbers, and then the old ones
+pub told-back : (place : Place) (c : Cookie) (n : Numbers) (s : CountsOf) → cookie_at place s ≡ Some c → reported place c.numbers false (reported place n false s) ≡ s
+told-back place c n s e =
+    let w : Cookie = with_numbers n c in
+    let s1 : CountsOf = renumbered place w s in
+    let first : reported place n false s ≡ s1 = ap (λ (o : Option Cookie). reported_on o place n false s) e in
+    let there : cookie_at place s1 ≡ Some w = found-written (at place) w s.live (ap is_some e) in
+    let second : reported place c.numbers false s1 ≡ renumbered place c s1 = ap (λ (o : Option Cookie). reported_on o place c.numbers false s1) there in
+    let same : set_value (at place) (set_value (at place) s.live w) c ≡ s.live = written-twice (at place) w c s.live ∙ set_value_same (at place) s.live c e in
+    ap (reported place c.numbers false) first ∙ (second ∙ ap (λ (es : Cookies). record { live = es; totals = s.totals; forgotten = s.forgotten }) same)
 
 -- a report
 

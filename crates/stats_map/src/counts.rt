@@ -2,6 +2,7 @@
 ghost use Rattle.std.specs.Prelude.{◌≡◌, OnErr, OnOk};
 ghost use Rattle.stats_map.specs.Counting.{known};
 
+use crate::changes::{Changes, make_in};
 use crate::cookies::{begin_at, end_all, end_at, renumber_at};
 use crate::copies::{copied_cookies, copied_sums};
 use crate::row::Row;
@@ -44,8 +45,14 @@ impl Model for Counts {
 }
 
 impl Counts {
+    ghost use Rattle.std.specs.List.Sorted.{IsStrictlySortedBy};
+    ghost use Rattle.std.specs.Map.{keys_of};
+    ghost use Rattle.std.specs.Prelude.{option_map};
+    ghost use Rattle.cv_io.specs.Leaves.{leaf_cmp};
+    ghost use Rattle.stats_map.specs.Changes.{CanMake, made};
+    ghost use Rattle.stats_map.specs.Pending.{IsSummed};
     ghost use Rattle.stats_map.specs.Told.{told};
-    ghost use Rattle.stats_map.specs.Counting.{cookie_at, count as count_of, downed, forgot, installed, is_named as is_named_of, nothing, reported};
+    ghost use Rattle.stats_map.specs.Counting.{cookie_at, count as count_of, downed, forgot, installed, is_named as is_named_of, nothing, place_cmp, reported};
 
     /// Nothing was written. It takes no memory.
     pub fn new(alloc: Global) -> Counts
@@ -114,6 +121,17 @@ impl Counts {
         }
     }
 
+    /// The packets and bytes of a cookie that matters.
+    pub fn numbers(&self, switch: u32, cookie: u64) -> Option<(u64, u64)>
+        ensures { result
+            ≡ option_map (λ c. (c.numbers.packets, c.numbers.bytes)) (cookie_at (switch, cookie) (told self.now)) }
+    {
+        match self.live.get(&(switch, cookie)) {
+            Some(row) => Some(row.packets_and_bytes()),
+            None => None,
+        }
+    }
+
     /// A switch went down: its cookies have their last numbers.
     pub fn down(&mut self, switch: u32)
         ensures { told self.new ≡ downed switch (told self.old) }
@@ -126,6 +144,42 @@ impl Counts {
         ensures { told self.new ≡ forgot leaf.now (told self.old) }
     {
         change_each(&mut self.sums, &[*leaf], &Event::Forgotten);
+    }
+
+    /// Makes what an event makes of the counts. Where memory runs out they are as before.
+    pub fn make(&mut self, changes: Changes) -> Result<(), Memory>
+        requires { CanMake changes self.old }
+        ensures made { OnOk result (self.new ≡ made changes self.old) }
+        ensures memory { OnErr result (self.new ≡ self.old) }
+    {
+        make_in(self.alloc, &mut self.live, &mut self.sums, changes)?;
+        Ok(())
+    }
+
+    /// What the maps are made in.
+    pub(crate) fn allocator(&self) -> Global {
+        self.alloc
+    }
+
+    /// The cookies that matter.
+    pub(crate) fn live(&self) -> &BTreeMap<(u32, u64), Row>
+        ensures entries { result.now.entries ≡ self.now.live }
+        ensures rise { IsStrictlySortedBy place_cmp (keys_of self.now.live) }
+        ensures summed { IsSummed self.now }
+    {
+        // The proof learns that the places rise.
+        let _ = self.live.len();
+        &self.live
+    }
+
+    /// The sums of leaves.
+    pub(crate) fn sums(&self) -> &BTreeMap<Leaf, Sum>
+        ensures entries { result.now.entries ≡ self.now.sums }
+        ensures rise { IsStrictlySortedBy leaf_cmp (keys_of self.now.sums) }
+    {
+        // The proof learns that the leaves rise.
+        let _ = self.sums.len();
+        &self.sums
     }
 }
 

@@ -57,6 +57,13 @@ impl Row {
         }
     }
 
+    /// The same, as a pair.
+    pub fn packets_and_bytes(&self) -> (u64, u64)
+        ensures { result ≡ (self.now.numbers.packets, self.now.numbers.bytes) }
+    {
+        (self.packets, self.bytes)
+    }
+
     /// Gives it other numbers.
     pub fn renumber(&mut self, packets: u64, bytes: u64)
         ensures { self.new ≡ with_numbers (record { packets = packets; bytes = bytes }) self.old }

@@ -3,6 +3,8 @@ ghost use Rattle.std.specs.Prelude.{◌≡◌, ◌+◌};
 ghost use Rattle.switch_meaning.specs.Counts.{capped};
 ghost use Rattle.stats_map.specs.InsideSums.{Allows, changed_by, left_of, no_sum};
 
+use cv_io::{Duplicate, Memory};
+
 /// Packets and bytes.
 #[derive(Clone, Copy, PartialEq, Eq, Debug)]
 pub struct Tally {
@@ -35,6 +37,12 @@ pub enum Event {
     Ended { numbers: Tally },
     /// The leaf isn't counted any more, as soon as no cookie names it.
     Forgotten,
+}
+
+impl Duplicate for Sum {
+    fn copy(&self) -> Result<Sum, Memory> {
+        Ok(*self)
+    }
 }
 
 /// A sum of two numbers, which stands still at the greatest one of 64 bits.

@@ -33,7 +33,7 @@ pub fn add_leaves(sums: &mut BTreeMap<Leaf, Sum>, ancestry: &List<Leaf>) -> Resu
 }
 
 /// Whether the leaf at a place stands at no earlier one.
-fn is_first(ancestry: &[Leaf], place: usize) -> bool
+pub fn is_first(ancestry: &[Leaf], place: usize) -> bool
     requires { place < length ancestry.now }
     ensures { (d : LeafOf) → result ≡ not (list_any (same_leaf (slice_index_or ancestry.now place d)) (take place ancestry.now)) }
 {

@@ -1,5 +1,5 @@
 use super::*;
-use cv_io::{Leaf, List};
+use cv_io::{Duplicate, Leaf, List};
 use install_plan::Written;
 use of10_match::Match;
 use std::alloc::Global;
@@ -63,5 +63,43 @@ fn a_leaf_goes_with_its_last_cookie(rt: HostRuntime) -> Result<(), Fail> {
     counts.down(0);
     assert_eq!(rt; counts.count(&leaf(3)), (0, 0));
     assert_eq!(rt; counts.count(&leaf(4)), (3, 300));
+    Ok(())
+}
+
+/// Two cookies, of which one ends and another is written, in a draft that is then made.
+fn drafted(alloc: Global, counts: &mut Counts) -> Result<(), Fail> {
+    let new = written(alloc, 7, &[3])?;
+    let mut pending = Pending::of(counts);
+    pending.end(0, 6)?;
+    pending.forget(&leaf(4))?;
+    pending.write(0, &new)?;
+    pending.down(1)?;
+    let changes = pending.into_changes();
+    counts.make(changes)?;
+    Ok(())
+}
+
+#[test]
+fn a_draft_is_made(rt: HostRuntime) -> Result<(), Fail> {
+    let alloc = rt.alloc();
+    let mut counts = replaced(alloc)?;
+    counts.install(1, &written(alloc, 8, &[5])?)?;
+    let before = counts.copy()?;
+    match drafted(alloc, &mut counts) {
+        Ok(()) => {
+            assert_eq!(rt; counts.numbers(0, 6), None);
+            assert_eq!(rt; counts.numbers(0, 7), Some((0, 0)));
+            assert_eq!(rt; counts.numbers(1, 8), None);
+            assert_eq!(rt; counts.count(&leaf(3)), (10, 1000));
+            assert_eq!(rt; counts.count(&leaf(4)), (0, 0));
+        }
+        Err(fail) => {
+            assert_eq!(rt; counts.numbers(0, 6), before.numbers(0, 6));
+            assert_eq!(rt; counts.numbers(0, 7), None);
+            assert_eq!(rt; counts.numbers(1, 8), Some((0, 0)));
+            assert_eq!(rt; counts.count(&leaf(4)), (3, 300));
+            return Err(fail);
+        }
+    }
     Ok(())
 }

@@ -1,20 +1,11 @@
-use Rattle.std.proofs.Common.{◌≡◌, refl, Bool, true, false, get_or, take, sym, ◌∙◌}
-use Rattle.std.specs.Prelude.{not}
+use Rattle.std.proofs.Common.{get_or, take, sym, ◌∙◌}
 use Rattle.std.specs.List.{list_any}
 use Rattle.std.proofs.lemmas.List.{get_or_default}
 use Rattle.cv_io.specs.Leaves.{same_leaf}
 use Rattle.cv_io.specs.declared.leaf.Leaf.{Leaf}
-use Rattle.stats_map.proofs.Happening.{happened-again, happened-first, is-allowed}
+use Rattle.stats_map.proofs.Happening.{happened-again, happened-first, is-allowed, not-false, not-true}
 use Rattle.stats_map.proofs.sums.change_each.Goals as goal
 use Rattle.stats_map.proofs.sums.change_each.Goals.{then-is_first, else-is_first}
-
-not-true : (b : Bool) → not b ≡ true → b ≡ false
-not-true true e = cc
-not-true false e = refl
-
-not-false : (b : Bool) → not b ≡ false → b ≡ true
-not-false true e = refl
-not-false false e = cc
 
 abbrev no_leaf : Leaf
 no_leaf = record { member = 0; kind = 0 }
