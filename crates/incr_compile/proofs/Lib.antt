@@ -5,3 +5,4 @@ pub mod Whole
 pub mod Finding
 pub mod Enough
 pub mod Bridge
+mod Showings

@@ -1,3 +1,5 @@
 pub mod Ways
 pub mod Candidates
 pub mod Sound
+pub mod Showing
+pub mod Nodes

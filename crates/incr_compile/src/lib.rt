@@ -4,9 +4,17 @@
 #![tactic(auto)]
 
 mod candidates;
+pub mod compiled;
 pub mod joining;
 pub mod laws;
 pub mod making;
+pub mod node;
+mod showing;
+pub mod tree;
 
+pub use compiled::{Compiled, LeafDelta};
 pub use joining::{left_rule, right_rule};
 pub use making::{made_by_left, made_by_right};
+
+#[cfg(test)]
+mod tests;
