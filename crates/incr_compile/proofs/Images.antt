@@ -21,7 +21,7 @@ use Rattle.policy_meaning.specs.Hops.{without_port}
 use Rattle.policy_meaning.proofs.Normality.{normal-without_port}
 
 -- a pull asks for no other values than the match
-in-range : (r : RewriteOf) (n : MatchOf) → IsMatch n → IsMatch (pulled r n)
+pub in-range : (r : RewriteOf) (n : MatchOf) → IsMatch n → IsMatch (pulled r n)
 in-range r n i = record {
   in_port = i.in_port;
   dl_src = kept _ true r.dl_src n.dl_src i.dl_src;

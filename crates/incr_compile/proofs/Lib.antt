@@ -6,3 +6,7 @@ pub mod Finding
 pub mod Enough
 pub mod Bridge
 mod Showings
+mod Fits
+mod Carrying
+mod TreeLemmas
+mod Scratch

@@ -83,7 +83,7 @@ other-ids : (id : ℕ) (x : Item) (old new : List Item) → has_id id x ≡ true
 other-ids id x old new h d p =
     let one : IsDistinct ◌==◌ (x.id ∷ map (λ (e : Item). e.id) new) = IsDistinct-IsPermutation ◌==◌ flips _ _ (IsPermutation-map (λ (e : Item). e.id) old (x ∷ new) p) d in
     let same : id ≡ x.id = elim (cases_eq x.id id) [
-      | inl e ↦ e
+      | inl e ↦ sym e
       | inr n ↦ absurd (let z : false ≡ true = sym (eq-other id x.id n) ∙ h in cc)
     ] in
     unmapped id new (subst (λ (j : ℕ). AllByRecursion (λ k. (j == k) ≡ false) (map (λ (e : Item). e.id) new)) (sym same) (IsDistinct-head ◌==◌ x.id (map (λ (e : Item). e.id) new) one))

@@ -3,3 +3,5 @@ pub mod Candidates
 pub mod Sound
 pub mod Showing
 pub mod Nodes
+pub mod Trees
+pub mod Compiling

@@ -61,7 +61,8 @@ AreFit size rules = AllByRecursion (λ (h : Held Rule). IsFit size h.item) rules
 -- the levels of what is made of operands with so many levels are below 2^64
 pub record SizesFit (n : NodeOf) (left right : ℕ) : Type 0 where
   pub size : n.size ≡ right
-  pub positive : 0 < right
+  pub left_positive : 0 < left
+  pub right_positive : 0 < right
   pub whole : whole_size n.op left right < 2 ^ 64
 
 -- a node of operands of which the left one's change is ready: its rules will be `after`
@@ -97,3 +98,14 @@ pub record IsCarried (before now after : List (Held Made)) (change : ChangeOf) (
   pub ready : IsReady before now lost fresh change
   pub after_is : after ≡ settled ready
   pub made_are : IsPermutation (map item_of after) makes
+
+-- operands with so many levels, whose rules fit
+pub record CanJoin (op : Op) (size : ℕ) (lefts rights : List (Held Made)) : Type 0 where
+  pub left_size : ℕ
+  pub right_size : ℕ
+  pub size_is : size ≡ right_size
+  pub left_positive : 0 < left_size
+  pub right_positive : 0 < right_size
+  pub whole : whole_size op left_size right_size < 2 ^ 64
+  pub lefts_fit : AreFit left_size (rules_in lefts)
+  pub rights_fit : AreFit right_size (rules_in rights)

@@ -1,13 +1,14 @@
-//! A compiled expression: its rules, kept under changes of its members' tables.
-use crate::node::Node;
-use crate::tree::{MemberChange, Tree};
+//! A compiled expression: its rules, kept under changes of its members' rules.
+use crate::building::build_tree;
+use crate::member::asked_of;
+use crate::telling::{all_rules, rules_in_room, tell};
+use crate::tree::Tree;
 use cv_io::{Duplicate, Leaf, List, Memory, Steps};
-use made_rules::{Change, Made, Origin};
-use op_compose::{Op, RuleDelta};
+use op_compose::RuleDelta;
 use policy_expr::Expr;
-use policy_meaning::{LeafTable, Rule, expression_size, listed};
-use rule_ancestry::Store;
+use policy_meaning::{LeafTable, Rule, listed};
 use std::alloc::Global;
+use std::marker::Model;
 use std::sync::ledger::Ledger;
 
 /// A change of a member's rules: all rules of some leaves go, and some rules come.
@@ -25,142 +26,74 @@ pub struct Compiled {
     tree: Tree,
 }
 
-/// A rule of a member, found by its leaves.
-fn member_rule(alloc: Global, rule: Rule) -> Result<Made, Memory> {
-    let mut origins = List::with_capacity(alloc, rule.ancestry.len())?;
-    for leaf in rule.ancestry.as_slice() {
-        origins.push(Origin::Leaf(*leaf))?;
-    }
-    Ok(Made { rule, origins })
-}
+impl Model for Compiled {
+    ghost use Rattle.incr_compile.specs.Trees.{IsOnce, IsTree, TreeOf, tree_of};
 
-/// What a change of a member asks of the tree.
-fn asked_of(alloc: Global, delta: LeafDelta) -> Result<MemberChange, Memory> {
-    let LeafDelta { member, gone, come } = delta;
-    let mut origins = Vec::with_capacity(alloc, gone.len())?;
-    for leaf in gone.as_slice() {
-        origins.push(Origin::Leaf(*leaf))?;
-    }
-    let mut fresh = Vec::with_capacity(alloc, come.len())?;
-    for rule in come.into_vec() {
-        fresh.push(member_rule(alloc, rule)?)?;
-    }
-    Ok(MemberChange {
-        member,
-        gone: origins,
-        come: fresh,
-    })
-}
+    ghost Value = { TreeOf };
 
-/// Copies of the rules of these ids.
-fn copies_of(alloc: Global, store: &Store<Made>, ids: &[usize]) -> Result<Vec<Rule>, Memory> {
-    let mut rules = Vec::with_capacity(alloc, ids.len())?;
-    for id in ids {
-        if let Some(made) = store.get(*id) {
-            rules.push(made.rule.copy()?)?;
-        }
-    }
-    Ok(rules)
-}
+    ghost view = { λ c. tree_of c.tree };
 
-/// How many levels the rules of a member have.
-fn member_size(tables: &List<LeafTable>, index: u32) -> u64 {
-    match tables.get(index as usize) {
-        Some(table) => table.size,
-        None => 1,
-    }
-}
-
-/// A node over two trees.
-fn joined_trees(alloc: Global, op: Op, size: u64, left: Tree, right: Tree) -> Result<Tree, Memory> {
-    Ok(Tree::Operator {
-        node: Node::new(alloc, op, size),
-        left: Box::new(alloc, left)?,
-        right: Box::new(alloc, right)?,
-    })
-}
-
-/// The tree of an expression, of which no member has rules.
-fn empty_tree(alloc: Global, tables: &List<LeafTable>, expr: &Expr) -> Result<Tree, Memory> {
-    match expr {
-        Expr::Member { index } => Ok(Tree::Member {
-            member: *index,
-            size: member_size(tables, *index),
-            made: Store::new(alloc),
-        }),
-        Expr::Par { left, right } => {
-            let size = expression_size(tables, right);
-            let first = empty_tree(alloc, tables, left)?;
-            let second = empty_tree(alloc, tables, right)?;
-            joined_trees(alloc, Op::Par, size, first, second)
-        }
-        Expr::Seq { left, right } => {
-            let size = expression_size(tables, right);
-            let first = empty_tree(alloc, tables, left)?;
-            let second = empty_tree(alloc, tables, right)?;
-            joined_trees(alloc, Op::Seq, size, first, second)
-        }
-        Expr::Over { left, right } => {
-            let size = expression_size(tables, right);
-            let first = empty_tree(alloc, tables, left)?;
-            let second = empty_tree(alloc, tables, right)?;
-            joined_trees(alloc, Op::Over, size, first, second)
-        }
-    }
+    ghost invariant = { λ c. IsTree (tree_of c.tree) × IsOnce (tree_of c.tree) };
 }
 
 impl Compiled {
-    /// The rules of an expression over these tables.
+    ghost use Rattle.std.specs.Prelude.{◌≡◌, ◌≢◌, ◌<◌, ◌^◌, ℕ, All, IfOk, IsPermutation, List, OnErr, OnOk, true};
+    ghost use Rattle.std.specs.List.{AllByRecursion};
+    ghost use Rattle.list_change.specs.Changes.{Apart, Changed};
+    ghost use Rattle.policy_expr.specs.Policy.{members_of, policy_of};
+    ghost use Rattle.policy_meaning.specs.Fitting.{IsFittingTable, levels_of};
+    ghost use Rattle.policy_meaning.specs.LeafFact.{EachPair, IsSoundTable};
+    ghost use Rattle.policy_meaning.specs.Order.{IsListing};
+    ghost use Rattle.policy_meaning.specs.Rules.{rules_of};
+    ghost use Rattle.policy_meaning.specs.declared.rule.Rule.{Rule};
+    ghost use Rattle.incr_compile.specs.Compiling.{IsMemberDelta, IsOf, IsOfTables, MemberChanges, policy_in, rules_at};
+    ghost use Rattle.incr_compile.specs.Trees.{has_member};
+
+    /// The rules of an expression over these tables, from scratch.
     pub fn build<G: Ledger>(
         alloc: Global,
         expr: &Expr,
         tables: &List<LeafTable>,
         ports: &List<u16>,
         steps: &mut Steps<G>,
-    ) -> Result<Compiled, Memory> {
-        let mut compiled = Compiled {
+    ) -> Result<Compiled, Memory>
+        requires tables { All IsFittingTable tables.now }
+        requires sound { AllByRecursion IsSoundTable tables.now }
+        requires size { levels_of tables.now (policy_of expr.now) < 2 ^ 64 }
+        requires once { EachPair (λ i j. i ≢ j) (members_of (policy_of expr.now)) }
+        ensures policy { IfOk result (λ compiled. policy_in compiled ≡ policy_of expr.now) }
+        ensures tables { IfOk result (IsOfTables tables.now ports.now) }
+    {
+        Ok(Compiled {
             alloc,
-            tree: empty_tree(alloc, tables, expr)?,
-        };
-        for place in 0..tables.len() {
-            compiled.add_table(place as u32, tables, ports, steps)?;
-        }
-        Ok(compiled)
+            tree: build_tree(alloc, tables, ports, expr, steps)?,
+        })
     }
 
-    /// The rules of a table come, if its member is one of the expression.
-    fn add_table<G: Ledger>(
-        &mut self,
-        member: u32,
-        tables: &List<LeafTable>,
-        ports: &List<u16>,
-        steps: &mut Steps<G>,
-    ) -> Result<(), Memory> {
-        if !self.tree.has(member) {
-            return Ok(());
-        }
-        if let Some(table) = tables.get(member as usize) {
-            let come = table.rules(self.alloc, ports)?;
-            let gone = List::new(self.alloc);
-            self.apply(LeafDelta { member, gone, come }, steps)?;
-        }
-        Ok(())
-    }
-
-    /// The rules after a change of a member's rules, and how they changed.
+    /// Changes the rules of a member, and tells how the rules of the expression changed.
     pub fn apply<G: Ledger>(
         &mut self,
         delta: LeafDelta,
         steps: &mut Steps<G>,
-    ) -> Result<RuleDelta, Memory> {
+    ) -> Result<RuleDelta, Memory>
+        requires member { has_member delta.member self.old ≡ true }
+        requires come { IsMemberDelta delta self.old }
+        // The rules of the member are changed so, and no others.
+        ensures members { (sizes : ℕ → ℕ) → (before after : ℕ → List Rule) → MemberChanges delta before after → IsOf sizes before self.old → OnOk result (IsOf sizes after self.new) }
+        ensures policy { OnOk result (policy_in self.new ≡ policy_in self.old) }
+        // What is told is what changed, and no rule is in both lists.
+        ensures told { IfOk result (λ told. Changed (rules_at self.old) (rules_at self.new) told.gone told.come) }
+        ensures apart { IfOk result (λ told. Apart told.gone told.come) }
+        ensures memory { OnErr result (self.new ≡ self.old) }
+    {
         let asked = asked_of(self.alloc, delta)?;
         let change = self.tree.ready(self.alloc, asked, steps)?;
-        match told(self.alloc, self.tree.made(), &change) {
-            Ok(Told { come, gone }) => {
-                let left = self.tree.settle(change);
+        match tell(self.alloc, self.tree.made(), &change) {
+            Ok(told) => {
+                let gone = self.tree.settle(change);
                 Ok(RuleDelta {
-                    gone: List::from_vec(rules_of(left, gone)),
-                    come: List::from_vec(come),
+                    gone: List::from_vec(rules_in_room(gone, told.gone)),
+                    come: List::from_vec(told.come),
                 })
             }
             Err(wanted) => {
@@ -170,34 +103,14 @@ impl Compiled {
         }
     }
 
-    /// The rules, in their order.
-    pub fn rules(&self) -> Result<List<Rule>, Memory> {
-        let ids = self.tree.made().ids()?;
-        let rules = copies_of(self.alloc, self.tree.made(), &ids)?;
+    /// The rules, in their order. They are those from scratch.
+    pub fn rules(&self) -> Result<List<Rule>, Memory>
+        ensures listed { IfOk result (IsListing (rules_at self.now)) }
+        ensures scratch { (sizes : ℕ → ℕ) → (rules : ℕ → List Rule) → IsOf sizes rules self.now → IfOk result (IsPermutation (rules_of sizes rules (policy_in self.now))) }
+    {
+        let rules = all_rules(self.alloc, self.tree.made())?;
         listed(List::from_vec(rules))
     }
-}
-
-/// Copies of the rules that come, and room for those that go.
-struct Told {
-    come: Vec<Rule>,
-    gone: Vec<Rule>,
-}
-
-/// What is told of a change that is ready.
-fn told(alloc: Global, store: &Store<Made>, change: &Change) -> Result<Told, Memory> {
-    let gone = Vec::with_capacity(alloc, change.gone().len())?;
-    let come = copies_of(alloc, store, change.come())?;
-    Ok(Told { come, gone })
-}
-
-/// The rules alone, in a vector that has room for them.
-fn rules_of(left: Vec<Made>, gone: Vec<Rule>) -> Vec<Rule> {
-    let mut gone = gone;
-    for made in left {
-        gone.push_reserved(made.rule);
-    }
-    gone
 }
 
 impl Duplicate for Compiled {

@@ -3,13 +3,16 @@
 //! joined is one step.
 #![tactic(auto)]
 
+mod building;
 mod candidates;
 pub mod compiled;
 pub mod joining;
 pub mod laws;
 pub mod making;
+mod member;
 pub mod node;
 mod showing;
+mod telling;
 pub mod tree;
 
 pub use compiled::{Compiled, LeafDelta};

@@ -1,5 +1,5 @@
 //! The rules of an operand in the index of a node.
-ghost use Rattle.std.specs.Prelude.{◌≡◌, ◌==◌, ◌+◌, ◌<◌, ◌≤◌, ◌++◌, ◌∷◌, [], false, IsPermutation, List, filter, filter_map, length, map, option_map, option_to_list};
+ghost use Rattle.std.specs.Prelude.{◌≡◌, ◌==◌, ◌+◌, ◌<◌, ◌≤◌, ◌++◌, ◌∷◌, [], false, IsPermutation, List, OnOk, filter, filter_map, length, map, option_map, option_to_list};
 ghost use Rattle.std.specs.List.{IsDistinct, list_any};
 ghost use Rattle.match_index.specs.Items.{has_id};
 ghost use Rattle.rule_ancestry.specs.Holding.{Held, id_of};
@@ -10,6 +10,7 @@ ghost use Rattle.incr_compile.specs.Candidates.{item_for, shown};
 ghost use Rattle.incr_compile.specs.Showing.{AreClear, is_clear_of, rule_at, shown_as};
 
 use crate::candidates::{asked, reach};
+use cv_io::Memory;
 use made_rules::{Change, Made};
 use match_index::Index;
 use of10_match::Match;
@@ -63,6 +64,24 @@ fn show(index: &mut Index, op: Op, side: Side, store: &Store<Made>, ids: &[usize
     for id in ids {
         show_one(index, op, side, store, *id);
     }
+}
+
+/// Shows all rules of an operand in an index that shows nothing yet.
+pub(crate) fn show_all(
+    index: &mut Index,
+    op: Op,
+    side: Side,
+    store: &Store<Made>,
+) -> Result<(), Memory>
+    requires { index.old.items ≡ [] }
+    ensures { OnOk result (index.new.items ≡ filter_map (shown (shown_as op side)) (rules_in store.now)) }
+{
+    // That no two are held under one id.
+    let _count = store.len();
+    let ids = store.ids()?;
+    index.reserve(ids.len())?;
+    show(index, op, side, store, &ids);
+    Ok(())
 }
 
 /// Shows the rule of an id no longer.

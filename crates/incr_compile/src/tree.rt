@@ -1,6 +1,15 @@
 //! A tree of operators over the rules of members.
+ghost use Rattle.std.specs.Prelude.{◌≡◌, ◌≤◌, IfOk, IsPermutation, List, OnErr, OnOk, Some, length, map};
+ghost use Rattle.op_compose.specs.declared.op.Side.TheVariants.{Left, Right};
+ghost use Rattle.rule_ancestry.specs.Holding.{Held, item_of};
+ghost use Rattle.made_rules.specs.Changing.{IsReady};
+ghost use Rattle.made_rules.specs.Rules.{rules_in};
+ghost use Rattle.made_rules.specs.declared.made.Made.{Made};
+ghost use Rattle.incr_compile.specs.Nodes.{IsCarried, LeftChanges, RightChanges, made_by, node_of};
+ghost use Rattle.incr_compile.specs.Trees.{CanCarryLeft, CanCarryRight, CanChange, IsReadyIn, IsSettled, IsUnderWay, TreeOf, has_member, made_in, tree_of};
+ghost use Rattle.incr_compile.specs.declared.tree.MemberChange.{MemberChange};
+
 use crate::node::{Below, Node};
-use crate::showing::show_change;
 use cv_io::{Duplicate, Memory, Steps};
 use made_rules::{Change, Made, Origin, made_of};
 use op_compose::Side;
@@ -39,7 +48,16 @@ fn carry_left<G: Ledger>(
     right: &Tree,
     below: Change,
     steps: &mut Steps<G>,
-) -> Result<Change, Memory> {
+) -> Result<Change, Memory>
+    requires { CanCarryLeft (node_of node.old) left.old (tree_of right.now) below }
+    ensures carried { (before mid : List (Held Made)) → LeftChanges (node_of node.old) before (made_in (tree_of left.old)) mid (made_in (tree_of right.now)) below → IfOk result (λ change. (after : List (Held Made)) × IsCarried node.old.made node.new.made after change (made_by (node_of node.old) (rules_in mid) (rules_in (made_in (tree_of right.now))))) }
+    ensures below { OnOk result (node.new.below ≡ Some (record { side = Left; change = below })) }
+    ensures room { OnOk result (length below.come ≤ node.new.lefts.room) }
+    ensures rest { node_of node.new ≡ record (node_of node.old) { made = node.new.made } }
+    ensures left { OnOk result (left.new ≡ left.old) }
+    ensures memory { OnErr result (node.new.made ≡ node.old.made) }
+    ensures undone { (asked : MemberChange) → (before : TreeOf) → (mid : List (Held Made)) → IsReadyIn asked before left.old below mid → OnErr result (tree_of left.new ≡ before) }
+{
     match node.ready_left(alloc, left.made(), right.made(), &below, steps) {
         Ok(change) => {
             node.below = Some(Below {
@@ -63,7 +81,16 @@ fn carry_right<G: Ledger>(
     right: &mut Tree,
     below: Change,
     steps: &mut Steps<G>,
-) -> Result<Change, Memory> {
+) -> Result<Change, Memory>
+    requires { CanCarryRight (node_of node.old) (tree_of left.now) right.old below }
+    ensures carried { (before mid : List (Held Made)) → RightChanges (node_of node.old) before (made_in (tree_of right.old)) mid (made_in (tree_of left.now)) below → IfOk result (λ change. (after : List (Held Made)) × IsCarried node.old.made node.new.made after change (made_by (node_of node.old) (rules_in (made_in (tree_of left.now))) (rules_in mid))) }
+    ensures below { OnOk result (node.new.below ≡ Some (record { side = Right; change = below })) }
+    ensures room { OnOk result (length below.come ≤ node.new.rights.room) }
+    ensures rest { node_of node.new ≡ record (node_of node.old) { made = node.new.made } }
+    ensures right { OnOk result (right.new ≡ right.old) }
+    ensures memory { OnErr result (node.new.made ≡ node.old.made) }
+    ensures undone { (asked : MemberChange) → (before : TreeOf) → (mid : List (Held Made)) → IsReadyIn asked before right.old below mid → OnErr result (tree_of right.new ≡ before) }
+{
     match node.ready_right(alloc, left.made(), right.made(), &below, steps) {
         Ok(change) => {
             node.below = Some(Below {
@@ -79,35 +106,11 @@ fn carry_right<G: Ledger>(
     }
 }
 
-/// Settles what is under way below a node, whose indexes then show it.
-fn settle_below(node: &mut Node, left: &mut Tree, right: &mut Tree) {
-    if let Some(Below { side, change }) = node.below.take() {
-        match side {
-            Side::Left => {
-                show_change(&mut node.lefts, node.op, side, left.made(), &change);
-                left.settle(change);
-            }
-            Side::Right => {
-                show_change(&mut node.rights, node.op, side, right.made(), &change);
-                right.settle(change);
-            }
-        }
-    }
-}
-
-/// Takes back what is under way below a node.
-fn undo_below(node: &mut Node, left: &mut Tree, right: &mut Tree) {
-    if let Some(Below { side, change }) = node.below.take() {
-        match side {
-            Side::Left => left.undo(change),
-            Side::Right => right.undo(change),
-        }
-    }
-}
-
 impl Tree {
     /// The rules at the root.
-    pub fn made(&self) -> &Store<Made> {
+    pub fn made(&self) -> &Store<Made>
+        ensures { result.now ≡ made_in (tree_of self.now) }
+    {
         match self {
             Tree::Member { made, .. } => made,
             Tree::Operator { node, .. } => &node.made,
@@ -115,7 +118,9 @@ impl Tree {
     }
 
     /// Whether a member is one of the tree's.
-    pub fn has(&self, wanted: u32) -> bool {
+    pub fn has(&self, wanted: u32) -> bool
+        ensures { result ≡ has_member wanted (tree_of self.now) }
+    {
         match self {
             Tree::Member { member, .. } => wanted == *member,
             Tree::Operator { left, right, .. } => left.has(wanted) || right.has(wanted),
@@ -128,7 +133,11 @@ impl Tree {
         alloc: Global,
         asked: MemberChange,
         steps: &mut Steps<G>,
-    ) -> Result<Change, Memory> {
+    ) -> Result<Change, Memory>
+        requires { CanChange asked (tree_of self.old) }
+        ensures ready { IfOk result (λ change. (after : List (Held Made)) × IsReadyIn asked (tree_of self.old) self.new change after) }
+        ensures memory { OnErr result (tree_of self.new ≡ tree_of self.old) }
+    {
         match self {
             Tree::Member { made, .. } => {
                 let lost = made_of(alloc, made, &asked.gone)?;
@@ -148,29 +157,54 @@ impl Tree {
 
     /// Settles a change that is ready: what goes leaves each store. This takes no memory. The rules
     /// that leave the root are handed out.
-    pub fn settle(&mut self, change: Change) -> Vec<Made> {
+    pub fn settle(&mut self, change: Change) -> Vec<Made>
+        requires { IsUnderWay self.old change }
+        ensures settled { (asked : MemberChange) → (before : TreeOf) → (after : List (Held Made)) → CanChange asked before → IsReadyIn asked before self.old change after → IsSettled asked before (tree_of self.new) after }
+        ensures left { (before : List (Held Made)) → (lost : _) → (fresh : List Made) → (r : IsReady before (made_in (tree_of self.old)) lost fresh change) → result.items ≡ map item_of r.going }
+    {
         match self {
             Tree::Member { made, .. } => change.settle(made),
-            Tree::Operator { node, left, right } => {
-                settle_below(node, left, right);
-                change.settle(&mut node.made)
-            }
+            Tree::Operator { node, left, right } => match node.below.take() {
+                Some(Below { side, change: below }) => match side {
+                    Side::Left => {
+                        let gone = node.settle_left(left.made(), &below, change);
+                        left.settle(below);
+                        gone
+                    }
+                    Side::Right => {
+                        let gone = node.settle_right(right.made(), &below, change);
+                        right.settle(below);
+                        gone
+                    }
+                },
+                None => change.settle(&mut node.made),
+            },
         }
     }
 
     /// Takes a change back that is ready. This takes no memory.
-    pub fn undo(&mut self, change: Change) {
+    pub fn undo(&mut self, change: Change)
+        requires { IsUnderWay self.old change }
+        ensures { (asked : MemberChange) → (before : TreeOf) → (after : List (Held Made)) → IsReadyIn asked before self.old change after → tree_of self.new ≡ before }
+    {
         match self {
             Tree::Member { made, .. } => change.undo(made),
             Tree::Operator { node, left, right } => {
-                undo_below(node, left, right);
                 change.undo(&mut node.made);
+                if let Some(Below { side, change: below }) = node.below.take() {
+                    match side {
+                        Side::Left => left.undo(below),
+                        Side::Right => right.undo(below),
+                    }
+                }
             }
         }
     }
 
     /// A copy of a tree of which no change is under way.
-    pub fn copy(&self, alloc: Global) -> Result<Tree, Memory> {
+    pub fn copy(&self, alloc: Global) -> Result<Tree, Memory>
+        ensures { IfOk result (λ copied. tree_of copied ≡ tree_of self.now) }
+    {
         Ok(match self {
             Tree::Member { member, size, made } => Tree::Member {
                 member: *member,

@@ -10,12 +10,12 @@ show-requires-clause-clear c =
     let s = c.requires.shown in
     let hidden = subst (λ ids. IsPermutation c.hide.new.index.items (filter (is_clear_of ids) c.args.index.now.items)) c.gone.ensures c.hide.ensures.items in
     subst (λ ids. AreClear ids c.hide.new.index.items) (sym c.come.ensures)
-    (clear-hidden s.0 c.args.store.now s.1.0 s.1.1.0 c.args.change.now s.1.1.1.0 c.len-count.ensures.rising (shown_as c.args.op c.args.side) c.args.index.now.items c.hide.new.index.items s.1.1.1.1 hidden)
+    (clear-hidden s.0 c.args.store.now s.1 s.2 c.args.change.now s.3 c.len-count.ensures.rising (shown_as c.args.op c.args.side) c.args.index.now.items c.hide.new.index.items s.4 hidden)
 
 pub show-requires-clause-once : goal.show-requires-clause-once
 show-requires-clause-once c =
     let s = c.requires.shown in
-    subst (λ ids. IsDistinct ◌==◌ ids) (sym c.come.ensures) (coming-once s.0 c.args.store.now s.1.0 s.1.1.0 c.args.change.now s.1.1.1.0 c.len-count.ensures.rising)
+    subst (λ ids. IsDistinct ◌==◌ ids) (sym c.come.ensures) (coming-once s.0 c.args.store.now s.1 s.2 c.args.change.now s.3 c.len-count.ensures.rising)
 
 pub returns : goal.returns
 returns c before lost fresh r p =

@@ -1,0 +1,26 @@
+use Rattle.std.proofs.Common.{sym, ◌∙◌}
+use Rattle.incr_compile.specs.Nodes.{node_of}
+use Rattle.incr_compile.proofs.Carrying.{found-held, right-carried, right-come-alone, right-come-levels, right-come-sound, right-others-sound}
+use Rattle.incr_compile.proofs.node.Node.ready_right.Goals as goal
+
+pub made_by_right-requires-clause-sound : goal.made_by_right-requires-clause-sound
+made_by_right-requires-clause-sound g c =
+    right-come-sound (node_of c.args.self.now) c.requires.0 c.args.right.now c.requires.1 c.args.left.now c.args.below.now c.requires.2 c.deref.result.now (λ items rest e p. c.deref.ensures.value ∙ c.in_ok-come.ensures items rest (e ∙ sym c.come.ensures) p)
+
+pub made_by_right-requires-clause-sound_lefts : goal.made_by_right-requires-clause-sound_lefts
+made_by_right-requires-clause-sound_lefts g c =
+    right-others-sound (node_of c.args.self.now) c.requires.0 c.args.right.now c.requires.1 c.args.left.now c.args.below.now c.requires.2 c.deref.result.now (λ items rest e p. c.deref.ensures.value ∙ c.in_ok-come.ensures items rest (e ∙ sym c.come.ensures) p)
+
+pub made_by_right-requires-clause-alone : goal.made_by_right-requires-clause-alone
+made_by_right-requires-clause-alone g c =
+    right-come-alone (node_of c.args.self.now) c.requires.0 c.args.right.now c.requires.1 c.args.left.now c.args.below.now c.requires.2 c.deref.result.now (λ items rest e p. c.deref.ensures.value ∙ c.in_ok-come.ensures items rest (e ∙ sym c.come.ensures) p)
+
+pub made_by_right-requires-clause-level : goal.made_by_right-requires-clause-level
+made_by_right-requires-clause-level g c =
+    right-come-levels (node_of c.args.self.now) c.requires.0 c.args.right.now c.requires.1 c.args.left.now c.args.below.now c.requires.2 c.deref.result.now (λ items rest e p. c.deref.ensures.value ∙ c.in_ok-come.ensures items rest (e ∙ sym c.come.ensures) p)
+
+pub ready-requires : goal.ready-requires
+ready-requires g c = found-held c.args.self.now.made c.in_ok-origins.origins.items _ c.in_ok-lost.ensures
+
+pub returns-clause-ready : goal.returns-clause-ready
+returns-clause-ready g c before after l = ?
