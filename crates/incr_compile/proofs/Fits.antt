@@ -167,3 +167,9 @@ node-fit n left right xs ys hs s h f g p =
     items-fit (whole_size n.op left right) hs
     (all-permuted (made_by n xs ys) (map item_of hs) (IsPermutation-sym _ _ p) (λ (m : Made). IsFit (whole_size n.op left right) m.rule)
     (made-fit left right n.size s.size s.left_positive s.right_positive n.op xs ys h f g))
+
+pub right-within : (op : Op) (n k : ℕ) → 0 < n → 0 < k → whole_size op n k < 2 ^ 64 → k < 2 ^ 64
+right-within Par n k pn pk w = omega arith
+right-within Seq n k pn pk w = let h : k ≤ n * k = product-above n k pn pk in omega arith
+right-within Over n k pn pk w = omega arith
+right-within Hop n k pn pk w = let h : k ≤ n * k = product-above n k pn pk in omega arith

@@ -10,3 +10,5 @@ mod Fits
 mod Carrying
 mod TreeLemmas
 mod Scratch
+mod Wholes
+mod Told
