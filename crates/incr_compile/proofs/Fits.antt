@@ -4,6 +4,7 @@ use Rattle.std.specs.Prelude.{IsPermutation, filter_map, flat_map, if◌then◌e
 use Rattle.std.specs.List.{All, AllByRecursion}
 use Rattle.std.proofs.lemmas.List.Elements.{All-from_recursion}
 use Rattle.std.proofs.lemmas.List.Sorted.{IsPermutation-sym}
+use Rattle.std.proofs.Math.Nat.{mul-le-mul_right}
 use Rattle.alg_priority.specs.Levels.{concat_level, shift_level}
 use Rattle.list_change.specs.Pairing.{made}
 use Rattle.of10_actions.specs.Fields.{RewriteOf}
@@ -37,7 +38,10 @@ use Rattle.incr_compile.proofs.Images.{in-range}
 
 -- ---- levels
 product-above : (n k : ℕ) → 0 < n → 0 < k → k ≤ n * k
-product-above n k p q = let h = high 0 n k 0 p q in omega arith
+product-above n k p q =
+    let one : 1 ≤ n = p in
+    let h = mul-le-mul_right k one in
+    omega arith
 
 pub joined-fits : (op : Op) (n k size a b : ℕ) → size ≡ k → 0 < k → whole_size op n k < 2 ^ 64 → a < n → b < k → joined_level op a b size < 2 ^ 64
 joined-fits Par n k size a b e pos w p q = omega arith

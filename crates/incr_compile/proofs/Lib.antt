@@ -12,3 +12,4 @@ mod TreeLemmas
 mod Scratch
 mod Wholes
 mod Told
+mod Building

@@ -30,7 +30,7 @@ use Rattle.incr_compile.specs.declared.tree.MemberChange.{MemberChange}
 use Rattle.incr_compile.proofs.Bridge.{made-chains, made-shifts, made-sums, rules-made}
 use Rattle.incr_compile.proofs.TreeLemmas.{made-left, made-right}
 
-without-held : (hs : List (Held Made)) → without_ids (rules_in hs) ≡ rules_held hs
+pub without-held : (hs : List (Held Made)) → without_ids (rules_in hs) ≡ rules_held hs
 without-held [] = refl
 without-held (h ∷ hs) = ap (λ z. h.item.rule ∷ z) (without-held hs)
 

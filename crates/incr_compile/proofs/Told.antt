@@ -89,7 +89,7 @@ present-fit asked (branch n l r) once h a =
     by true e c p q = (p e c, absent-fit asked r (once.2 asked.member e))
     by false e c p q = (absent-fit asked l e, q e c)
 
-come-rules : (size : ℕ) (made : List Made) → AllByRecursion IsByLeaves made → AllByRecursion (λ (r : Rule). IsNormal r.m) (map rule_of made) → AllByRecursion (λ (r : Rule). r.level < size) (map rule_of made) → AllByRecursion (IsMemberRule size) made
+pub come-rules : (size : ℕ) (made : List Made) → AllByRecursion IsByLeaves made → AllByRecursion (λ (r : Rule). IsNormal r.m) (map rule_of made) → AllByRecursion (λ (r : Rule). r.level < size) (map rule_of made) → AllByRecursion (IsMemberRule size) made
 come-rules size [] f n b = tt
 come-rules size (m ∷ made) f n b =
     (record { fit = record { sound = record { normal = n.0; in_range = f.0.in_range }; below = b.0 }; origins = f.0.origins }, come-rules size made f.1 n.1 b.1)

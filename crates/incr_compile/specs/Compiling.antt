@@ -15,7 +15,8 @@ use Rattle.made_rules.specs.declared.made.Made.{Made}
 use Rattle.made_rules.specs.declared.made.Origin.{Origin}
 use Rattle.made_rules.specs.declared.made.Origin.TheVariants.{Leaf as OfLeaf}
 use Rattle.of10_match.specs.Ranges.{IsMatch}
-use Rattle.incr_compile.specs.Trees.{TreeOf, branch, has_member, leaf, made_in}
+use Rattle.incr_compile.specs.Nodes.{NodeOf}
+use Rattle.incr_compile.specs.Trees.{IsBranch, IsTree, TreeOf, branch, has_member, leaf, made_in}
 use Rattle.incr_compile.specs.declared.compiled.LeafDelta.{LeafDelta}
 use Rattle.incr_compile.specs.declared.tree.MemberChange.{MemberChange}
 
@@ -88,3 +89,16 @@ pub record Asks (delta : LeafDelta) (asked : MemberChange) : Type 0 where
   pub member : asked.member ≡ delta.member
   pub gone : asked.gone.items ≡ map by_leaf delta.gone
   pub come : map rule_of asked.come.items ≡ delta.come
+
+-- the tree of an expression over these tables
+pub record IsBuilt (tables : List LeafTable) (ports : List ℕ) (e : Policy) (t : TreeOf) : Type 0 where
+  pub is_tree : IsTree t
+  pub tables_are : IsOfTables tables ports t
+  pub policy : policy_in t ≡ e
+
+-- an operator over two trees, whose rules are what it makes of theirs
+pub record IsOver (op : Op) (left right : TreeOf) (t : TreeOf) : Type 0 where
+  pub node : NodeOf
+  pub is_op : node.op ≡ op
+  pub is_branch : IsBranch node left right
+  pub over : t ≡ branch node left right

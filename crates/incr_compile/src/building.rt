@@ -1,12 +1,14 @@
 //! The tree of an expression over members' tables, from scratch.
-ghost use Rattle.std.specs.Prelude.{◌≡◌, ◌<◌, ◌^◌, All, IfOk, slice_get};
+ghost use Rattle.std.specs.Prelude.{◌≡◌, ◌≢◌, ◌<◌, ◌^◌, All, IfOk, slice_get};
 ghost use Rattle.std.specs.List.{AllByRecursion};
-ghost use Rattle.policy_expr.specs.Policy.{policy_of};
+ghost use Rattle.policy_expr.specs.Policy.{member as member_of, policy_of};
 ghost use Rattle.policy_meaning.specs.Fitting.{IsFittingTable, levels_of};
 ghost use Rattle.policy_meaning.specs.LeafFact.{IsSoundTable};
 ghost use Rattle.policy_meaning.specs.Networks.{table_rules, table_size};
-ghost use Rattle.incr_compile.specs.Compiling.{IsOfTables, policy_in};
-ghost use Rattle.incr_compile.specs.Trees.{IsTree, tree_of};
+ghost use Rattle.op_compose.specs.declared.op.Op.TheVariants.{Hop};
+ghost use Rattle.incr_compile.specs.Compiling.{IsBuilt, IsOver};
+ghost use Rattle.incr_compile.specs.Nodes.{whole_size};
+ghost use Rattle.incr_compile.specs.Trees.{IsTree, tree_of, tree_size};
 
 use crate::member::member_rules;
 use crate::node::Node;
@@ -51,7 +53,11 @@ fn member_tree(
     tables: &List<LeafTable>,
     ports: &List<u16>,
     member: u32,
-) -> Result<Tree, Memory> {
+) -> Result<Tree, Memory>
+    requires tables { All IsFittingTable tables.now }
+    requires sound { AllByRecursion IsSoundTable tables.now }
+    ensures { IfOk result (λ tree. IsBuilt tables.now ports.now (member_of member) (tree_of tree)) }
+{
     let rules = rules_of_member(alloc, tables, ports, member)?;
     let mut made = Store::new(alloc);
     made.add_all(member_rules(alloc, rules)?)?;
@@ -70,7 +76,14 @@ fn operator_tree<G: Ledger>(
     left: Tree,
     right: Tree,
     steps: &mut Steps<G>,
-) -> Result<Tree, Memory> {
+) -> Result<Tree, Memory>
+    requires op { op ≢ Hop }
+    requires left { IsTree (tree_of left) }
+    requires right { IsTree (tree_of right) }
+    requires size { size ≡ tree_size (tree_of right) }
+    requires whole { whole_size op (tree_size (tree_of left)) (tree_size (tree_of right)) < 2 ^ 64 }
+    ensures { IfOk result (λ tree. IsOver op (tree_of left) (tree_of right) (tree_of tree)) }
+{
     Ok(Tree::Operator {
         node: Node::of(alloc, op, size, left.made(), right.made(), steps)?,
         left: Box::new(alloc, left)?,
@@ -85,7 +98,12 @@ pub(crate) fn build_tree<G: Ledger>(
     ports: &List<u16>,
     expr: &Expr,
     steps: &mut Steps<G>,
-) -> Result<Tree, Memory> {
+) -> Result<Tree, Memory>
+    requires tables { All IsFittingTable tables.now }
+    requires sound { AllByRecursion IsSoundTable tables.now }
+    requires size { levels_of tables.now (policy_of expr.now) < 2 ^ 64 }
+    ensures { IfOk result (λ tree. IsBuilt tables.now ports.now (policy_of expr.now) (tree_of tree)) }
+{
     match expr {
         Expr::Member { index } => member_tree(alloc, tables, ports, *index),
         Expr::Par { left, right } => {
