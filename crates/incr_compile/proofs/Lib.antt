@@ -9,7 +9,8 @@ mod Showings
 mod Fits
 mod Carrying
 mod TreeLemmas
+mod TreeSteps
 mod Scratch
 mod Wholes
 mod Told
-mod Building
+mod Built
