@@ -1,6 +1,6 @@
 -- A change that is under way in a tree: it is made ready, settled or taken back node by node.
-use Rattle.std.proofs.Common.{◌≡◌, ◌≢◌, ℕ, ◌==◌, ◌<◌, ◌≤◌, Bool, true, false, not, cond, inl, inr, ◌||◌, List, [], ◌∷◌, ◌++◌, Option, Some, None, length, map, refl, sym, ap, subst, ◌∙◌}
-use Rattle.std.specs.Prelude.{IsPermutation, filter, filter_map}
+use Rattle.std.proofs.Common.{◌≡◌, ◌≢◌, ℕ, ◌==◌, ◌<◌, ◌≤◌, Bool, true, false, not, cond, inl, inr, ◌||◌, List, [], ◌∷◌, ◌++◌, Option, Some, None, Result, Ok, Err, length, map, refl, sym, ap, subst, ◌∙◌}
+use Rattle.std.specs.Prelude.{IfOk, IsPermutation, OnOk, filter, filter_map}
 use Rattle.std.proofs.lemmas.Bool.{cases_eq}
 use Rattle.match_index.specs.declared.item.Item.{Item}
 use Rattle.op_compose.specs.declared.op.Op.{Op}
@@ -13,14 +13,14 @@ use Rattle.made_rules.specs.Rules.{is_held_of, is_made_of, rules_in}
 use Rattle.made_rules.specs.declared.made.Made.{Made}
 use Rattle.made_rules.specs.declared.made.Origin.{Origin}
 use Rattle.incr_compile.specs.Candidates.{asked as asks, reach, shown}
-use Rattle.incr_compile.specs.Nodes.{IsCarried, NodeOf, made_by, node_of}
-use Rattle.incr_compile.specs.Trees.{CanChange, FollowsLeft, FollowsRight, IsReadyIn, IsSettled, IsUnderWay, TreeOf, branch, changed_by, has_member, leaf, made_in, tree_of}
+use Rattle.incr_compile.specs.Nodes.{IsCarried, LeftChanges, NodeOf, RightChanges, made_by, node_of}
+use Rattle.incr_compile.specs.Trees.{CanCarryLeft, CanCarryRight, CanChange, Follows, FollowsLeft, FollowsRight, IsReadyIn, IsSettled, IsUnderWay, TreeOf, branch, changed_by, has_member, leaf, made_in, tree_of}
 use Rattle.incr_compile.specs.declared.node.Below.{Below}
 use Rattle.incr_compile.specs.declared.node.Node.{Node}
 use Rattle.incr_compile.specs.declared.tree.MemberChange.{MemberChange}
 use Rattle.incr_compile.specs.declared.tree.Tree.{Tree}
 use Rattle.incr_compile.specs.declared.tree.Tree.TheVariants.{Member, Operator'}
-use Rattle.incr_compile.proofs.TreeLemmas.{as-left, as-none, as-right, can-left, can-right, root-ready, root-wide, settle-leaf, settle-left, settle-right}
+use Rattle.incr_compile.proofs.TreeLemmas.{as-left, as-none, as-right, can-left, can-right, follow-left, follow-right, left-absent, left-changes, right-changes, root-ready, root-wide, settle-leaf, settle-left, settle-right}
 use Rattle.incr_compile.proofs.Whole.{settled-items}
 
 or-right : (a b : Bool) → (a || b) ≡ true → b ≡ false → a ≡ true
@@ -170,3 +170,67 @@ ready-member asked i s before now lost origins fresh change can r c o e =
       after_is = refl;
       made_are = subst (λ (z : List Made). IsPermutation (map item_of (settled r)) (z ++ filter (λ m. not (p m)) (map item_of before))) c (settled-items before now lost fresh change r p e');
     }))
+
+-- ---- what is read of a place
+pub read-at : (below : ChangeOf) (P Q : List (Held Made) → Type 0) (y z : List (Held Made)) → y ≡ z →
+    ((b : List (Held Made)) (lost : List ℕ) (fresh : List Made) (r : IsReady b y lost fresh below) → P b → Q (settled r)) → (b : List (Held Made)) (lost : List ℕ) (fresh : List Made) (r : IsReady b z lost fresh below) → P b → Q (settled r)
+read-at below P Q y z e f = subst (λ (w : List (Held Made)). (b : List (Held Made)) (lost : List ℕ) (fresh : List Made) (r : IsReady b w lost fresh below) → P b → Q (settled r)) e f
+
+pub left-at : (t u : Tree) (change : ChangeOf) (left : List Made) → t ≡ u → ((b : List (Held Made)) (lost : List ℕ) (fresh : List Made) (r : IsReady b (made_in (tree_of u)) lost fresh change) → left ≡ map item_of r.going) →
+    (b : List (Held Made)) (lost : List ℕ) (fresh : List Made) (r : IsReady b (made_in (tree_of t)) lost fresh change) → left ≡ map item_of r.going
+left-at t u change left e f = subst (λ (x : Tree). (b : List (Held Made)) (lost : List ℕ) (fresh : List Made) (r : IsReady b (made_in (tree_of x)) lost fresh change) → left ≡ map item_of r.going) (sym e) f
+
+-- nothing is under way below a node only where nothing is ready there
+pub none-below : (asked : MemberChange) (before : TreeOf) (node : Node) (l' r' : Tree) (p q : _) (change : ChangeOf) (after : List (Held Made)) → IsReadyIn asked before (Operator' node p l' q r') change after → node.below ≡ None → ⊥
+none-below asked (leaf i s b) node l' r' p q change after f e = f
+none-below asked (branch n l r) node l' r' p q change after f e =
+    as-none (IsReadyIn asked l l') (IsReadyIn asked r r') asked n node l r (tree_of l') (tree_of r') node.below Left change change after f e
+
+-- ---- a node can carry on what is ready
+pub carry-left-can : (asked : MemberChange) (n : NodeOf) (l r r' : TreeOf) (old now : Tree) (below : ChangeOf) → CanChange asked (branch n l r) → has_member asked.member l ≡ true → tree_of old ≡ l → r' ≡ r →
+    (mid : List (Held Made)) → IsReadyIn asked (tree_of old) now below mid → CanCarryLeft n now r' below
+carry-left-can asked n l r r' old now below can m o e mid f =
+    let g = subst (λ (z : TreeOf). IsReadyIn asked z now below mid) o f in
+    record {
+      asked = asked;
+      before = l;
+      mid = mid;
+      can = can-left asked n l r can m;
+      ready = g;
+      changes = subst (λ (z : TreeOf). LeftChanges n (made_in l) (made_in (tree_of now)) mid (made_in z) below) (sym e) (left-changes asked n l r now below mid can g);
+    }
+
+pub carry-right-can : (asked : MemberChange) (n : NodeOf) (l r l' : TreeOf) (old now : Tree) (below : ChangeOf) → CanChange asked (branch n l r) → has_member asked.member l ≡ false → tree_of old ≡ r → l' ≡ l →
+    (mid : List (Held Made)) → IsReadyIn asked (tree_of old) now below mid → CanCarryRight n l' now below
+carry-right-can asked n l r l' old now below can m o e mid f =
+    let g = subst (λ (z : TreeOf). IsReadyIn asked z now below mid) o f in
+    record {
+      asked = asked;
+      before = r;
+      mid = mid;
+      can = can-right asked n l r can m;
+      ready = g;
+      changes = subst (λ (z : TreeOf). RightChanges n (made_in r) (made_in (tree_of now)) mid (made_in z) below) (sym e) (right-changes asked n l r now below mid can g);
+    }
+
+-- ---- what a call gives and leaves
+pub all-ok : {X E : Type 0} (r : Result X E) (P R : X → Type 0) (A B C : Type 0) → IfOk r P → OnOk r A → OnOk r B → OnOk r C → ((x : X) → A → B → C → P x → R x) → IfOk r R
+all-ok (Ok x) P R A B C p a b c f = f x a b c p
+all-ok (Err e) P R A B C p a b c f = tt
+
+-- the tree that a change began with, spelled otherwise
+pub at-tree : (asked : MemberChange) (t u : TreeOf) (now : Tree) (change : ChangeOf) (after : List (Held Made)) → t ≡ u → IsReadyIn asked u now change after → IsReadyIn asked t now change after
+at-tree asked t u now change after e f = subst (λ (z : TreeOf). IsReadyIn asked z now change after) (sym e) f
+
+module _ (asked : MemberChange) (node node' : Node) (l r now : Tree) (below change : ChangeOf) (mid : List (Held Made)) (can : CanChange asked (branch (node_of node) (tree_of l) (tree_of r))) where
+  pub ready-left-all : has_member asked.member (tree_of l) ≡ true → IsReadyIn asked (tree_of l) now below mid → node'.below ≡ Some (record { side = Left; change = below }) → length below.come ≤ node'.lefts.room →
+      node_of node' ≡ record (node_of node) { made = node'.made } → (c : (after : List (Held Made)) × IsCarried node.made node'.made after change (made_by (node_of node) (rules_in mid) (rules_in (made_in (tree_of r))))) →
+      (after : List (Held Made)) × Follows (IsReadyIn asked (tree_of l) now) (IsReadyIn asked (tree_of r) r) asked (node_of node) node' (tree_of l) (tree_of r) (tree_of now) (tree_of r) node'.below change after
+  ready-left-all m g b room rest c =
+      (c.0, follow-left asked (node_of node) (tree_of l) (tree_of r) now r node' below change mid c.0 b g refl (left-absent asked (node_of node) (tree_of l) (tree_of r) can m) rest room c.1)
+
+  pub ready-right-all : has_member asked.member (tree_of l) ≡ false → IsReadyIn asked (tree_of r) now below mid → node'.below ≡ Some (record { side = Right; change = below }) → length below.come ≤ node'.rights.room →
+      node_of node' ≡ record (node_of node) { made = node'.made } → (c : (after : List (Held Made)) × IsCarried node.made node'.made after change (made_by (node_of node) (rules_in (made_in (tree_of l))) (rules_in mid))) →
+      (after : List (Held Made)) × Follows (IsReadyIn asked (tree_of l) l) (IsReadyIn asked (tree_of r) now) asked (node_of node) node' (tree_of l) (tree_of r) (tree_of l) (tree_of now) node'.below change after
+  ready-right-all m g b room rest c =
+      (c.0, follow-right asked (node_of node) (tree_of l) (tree_of r) l now node' below change mid c.0 b g refl m rest room c.1)

@@ -191,11 +191,12 @@ impl Tree {
             Tree::Member { made, .. } => change.undo(made),
             Tree::Operator { node, left, right } => {
                 change.undo(&mut node.made);
-                if let Some(Below { side, change: below }) = node.below.take() {
-                    match side {
+                match node.below.take() {
+                    Some(Below { side, change: below }) => match side {
                         Side::Left => left.undo(below),
                         Side::Right => right.undo(below),
-                    }
+                    },
+                    None => {}
                 }
             }
         }
