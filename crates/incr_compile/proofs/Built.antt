@@ -1,7 +1,8 @@
 -- The tree of an expression over tables.
-use Rattle.std.proofs.Common.{◌≡◌, ◌≢◌, ℕ, zero, suc, ◌+◌, ◌*◌, ◌-◌, ◌<◌, ◌≤◌, ◌^◌, List, [], ◌∷◌, Option, Some, None, map, refl, sym, ap, subst, ◌∙◌, arith}
+use Rattle.std.proofs.Common.{◌≡◌, ◌≢◌, ℕ, zero, suc, ◌==◌, ◌+◌, ◌*◌, ◌-◌, ◌<◌, ◌≤◌, ◌^◌, Bool, true, false, ◌||◌, inl, inr, List, [], ◌∷◌, ◌++◌, Option, Some, None, map, refl, sym, ap, subst, ◌∙◌, arith}
 use Rattle.std.specs.Prelude.{IsPermutation, min, slice_get}
-use Rattle.std.specs.List.{All, AllByRecursion}
+use Rattle.std.specs.List.{All, AllByRecursion, list_any}
+use Rattle.std.proofs.lemmas.Bool.{cases_eq}
 use Rattle.std.proofs.lemmas.List.Elements.{All-from_recursion}
 use Rattle.std.proofs.lemmas.List.Sorted.{IsPermutation-map, IsPermutation-sym, IsPermutation-trans}
 use Rattle.alg_priority.specs.Levels.{capped}
@@ -9,10 +10,10 @@ use Rattle.list_change.proofs.Permute.{by-equation}
 use Rattle.of10_match.specs.Normal.{IsNormal}
 use Rattle.op_compose.specs.declared.op.Op.{Op}
 use Rattle.op_compose.specs.declared.op.Op.TheVariants.{Par, Seq, Over, Hop}
-use Rattle.policy_expr.specs.Policy.{Policy, member, parallel, sequential, override}
+use Rattle.policy_expr.specs.Policy.{Policy, member, members_of, parallel, sequential, override}
 use Rattle.policy_meaning.specs.Best.{Below, IsSound as IsSoundRule}
 use Rattle.policy_meaning.specs.Fitting.{IsFittingTable, levels_of}
-use Rattle.policy_meaning.specs.LeafFact.{IsSoundTable}
+use Rattle.policy_meaning.specs.LeafFact.{EachPair, IsSoundTable}
 use Rattle.policy_meaning.specs.Networks.{table_rules, table_size}
 use Rattle.policy_meaning.specs.declared.leaf.LeafTable.{LeafTable}
 use Rattle.policy_meaning.specs.declared.rule.Rule.{Rule}
@@ -22,11 +23,12 @@ use Rattle.policy_meaning.proofs.LevelsBelow.{levels-positive, rules-below}
 use Rattle.policy_meaning.proofs.Lists.{all-map}
 use Rattle.policy_meaning.proofs.Rising.{all-permuted}
 use Rattle.rule_ancestry.specs.Holding.{Held, item_of}
+use Rattle.rule_ancestry.proofs.StoreLemmas.{eq-other}
 use Rattle.made_rules.specs.Rules.{rule_of, rules_in}
 use Rattle.made_rules.specs.declared.made.Made.{Made}
 use Rattle.incr_compile.specs.Compiling.{IsBuilt, IsByLeaves, IsOfTables, IsOver, composed_by, policy_in}
 use Rattle.incr_compile.specs.Nodes.{CanJoin, IsNode, NodeOf, SizesFit, whole_size}
-use Rattle.incr_compile.specs.Trees.{IsBranch, IsMemberRule, IsTree, TreeOf, branch, leaf, made_in, tree_size}
+use Rattle.incr_compile.specs.Trees.{IsBranch, IsMemberRule, IsOnce, IsTree, TreeOf, branch, has_member, leaf, made_in, tree_size}
 use Rattle.incr_compile.proofs.Scratch.{size-is}
 use Rattle.incr_compile.proofs.Told.{come-rules}
 use Rattle.incr_compile.proofs.TreeLemmas.{of-items, tree-fit}
@@ -118,3 +120,74 @@ built-size tables ports e t b = size-is _ _ t b.tables_are ∙ ap (λ z. levels_
 
 pub capped-same : (n : ℕ) → n < 2 ^ 64 → capped n ≡ n
 capped-same n p = omega arith
+
+pub built-whole : (tables : List LeafTable) (ports : List ℕ) (op : Op) (a b : Policy) (l r : TreeOf) → IsBuilt tables ports a l → IsBuilt tables ports b r → whole_size op (levels_of tables a) (levels_of tables b) < 2 ^ 64 →
+    whole_size op (tree_size l) (tree_size r) < 2 ^ 64
+built-whole tables ports op a b l r p q w =
+    subst (λ (k : ℕ). whole_size op k (tree_size r) < 2 ^ 64) (sym (built-size tables ports a l p))
+    (subst (λ (k : ℕ). whole_size op (levels_of tables a) k < 2 ^ 64) (sym (built-size tables ports b r q)) w)
+
+pub built-level : (tables : List LeafTable) (ports : List ℕ) (e : Policy) (t : TreeOf) (size : ℕ) → IsBuilt tables ports e t → levels_of tables e < 2 ^ 64 → size ≡ capped (levels_of tables e) → size ≡ tree_size t
+built-level tables ports e t size b w s = s ∙ capped-same (levels_of tables e) w ∙ sym (built-size tables ports e t b)
+
+-- ---- each member once
+members-by : (op : Op) (a b : Policy) → members_of (composed_by op a b) ≡ members_of a ++ members_of b
+members-by Par a b = refl
+members-by Seq a b = refl
+members-by Over a b = refl
+members-by Hop a b = refl
+
+named-by : (op : Op) (i : ℕ) (a b : Policy) → list_any (λ j. i == j) (members_of (composed_by op a b)) ≡ (list_any (λ j. i == j) (members_of a) || list_any (λ j. i == j) (members_of b))
+named-by op i a b = ap (list_any (λ j. i == j)) (members-by op a b) ∙ both (members_of a) (members_of b)
+  where
+    either : (x y z : Bool) → (x || (y || z)) ≡ ((x || y) || z)
+    either true y z = refl
+    either false y z = refl
+    both : (xs ys : List ℕ) → list_any (λ j. i == j) (xs ++ ys) ≡ (list_any (λ j. i == j) xs || list_any (λ j. i == j) ys)
+    both [] ys = refl
+    both (x ∷ xs) ys = ap (λ z. (i == x) || z) (both xs ys) ∙ either (i == x) (list_any (λ j. i == j) xs) (list_any (λ j. i == j) ys)
+
+named : (i : ℕ) (t : TreeOf) → has_member i t ≡ list_any (λ j. i == j) (members_of (policy_in t))
+named i (leaf j s made) = by (i == j)
+  where
+    by : (b : Bool) → b ≡ (b || false)
+    by true = refl
+    by false = refl
+named i (branch n l r) =
+    ap (λ b. b || has_member i r) (named i l) ∙ ap (λ b. list_any (λ j. i == j) (members_of (policy_in l)) || b) (named i r) ∙ sym (named-by n.op i (policy_in l) (policy_in r))
+
+once-front : (xs ys : List ℕ) → EachPair (λ i j. i ≢ j) (xs ++ ys) → EachPair (λ i j. i ≢ j) xs
+once-front [] ys p = tt
+once-front (x ∷ xs) ys p = (front xs p.0, once-front xs ys p.1)
+  where
+    front : (zs : List ℕ) → AllByRecursion (λ y. x ≢ y) (zs ++ ys) → AllByRecursion (λ y. x ≢ y) zs
+    front [] q = tt
+    front (z ∷ zs) q = (q.0, front zs q.1)
+
+once-back : (xs ys : List ℕ) → EachPair (λ i j. i ≢ j) (xs ++ ys) → EachPair (λ i j. i ≢ j) ys
+once-back [] ys p = p
+once-back (x ∷ xs) ys p = once-back xs ys p.1
+
+not-among : (i : ℕ) (ys : List ℕ) → AllByRecursion (λ y. i ≢ y) ys → list_any (λ j. i == j) ys ≡ false
+not-among i [] q = refl
+not-among i (y ∷ ys) q = ap (λ b. b || list_any (λ j. i == j) ys) (eq-other i y (λ e. q.0 (sym e))) ∙ not-among i ys q.1
+
+later : (P : ℕ → Type 0) (xs ys : List ℕ) → AllByRecursion P (xs ++ ys) → AllByRecursion P ys
+later P [] ys q = q
+later P (x ∷ xs) ys q = later P xs ys q.1
+
+apart-lists : (i : ℕ) (xs ys : List ℕ) → EachPair (λ x y. x ≢ y) (xs ++ ys) → list_any (λ j. i == j) xs ≡ true → list_any (λ j. i == j) ys ≡ false
+apart-lists i [] ys p e = absurd (cc)
+apart-lists i (x ∷ xs) ys p e = elim (cases_eq i x) [
+  | inl s ↦ not-among i ys (subst (λ (k : ℕ). AllByRecursion (λ y. k ≢ y) ys) (sym s) (later (λ y. x ≢ y) xs ys p.0))
+  | inr n ↦ apart-lists i xs ys p.1 (sym (ap (λ b. b || list_any (λ j. i == j) xs) (eq-other i x (λ s. n (sym s)))) ∙ e)
+]
+
+-- a tree of a policy that names no member twice has none on both sides of an operator
+pub once-tree : (t : TreeOf) → EachPair (λ i j. i ≢ j) (members_of (policy_in t)) → IsOnce t
+once-tree (leaf i s made) p = tt
+once-tree (branch n l r) p =
+    let xs = members_of (policy_in l) in
+    let ys = members_of (policy_in r) in
+    let q = subst (EachPair (λ (i j : ℕ). i ≢ j)) (members-by n.op (policy_in l) (policy_in r)) p in
+    (once-tree l (once-front xs ys q), once-tree r (once-back xs ys q), λ i e. named i r ∙ apart-lists i xs ys q (sym (named i l) ∙ e))

@@ -14,3 +14,4 @@ mod Scratch
 mod Wholes
 mod Told
 mod Built
+mod Applied
