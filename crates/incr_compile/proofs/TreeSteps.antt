@@ -1,5 +1,5 @@
 -- A change that is under way in a tree: it is made ready, settled or taken back node by node.
-use Rattle.std.proofs.Common.{◌≡◌, ◌≢◌, ℕ, ◌==◌, ◌<◌, ◌≤◌, Bool, true, false, not, cond, inl, inr, ◌||◌, List, [], ◌∷◌, ◌++◌, Option, Some, None, Result, Ok, Err, length, map, refl, sym, ap, subst, ◌∙◌}
+use Rattle.std.proofs.Common.{◌≡◌, ◌≢◌, ℕ, ◌==◌, ◌+◌, ◌<◌, ◌≤◌, Bool, true, false, not, cond, inl, inr, ◌||◌, List, [], ◌∷◌, ◌++◌, Option, Some, None, Result, Ok, Err, length, map, refl, sym, ap, subst, ◌∙◌, arith}
 use Rattle.std.specs.Prelude.{IfOk, IsPermutation, OnOk, filter, filter_map}
 use Rattle.std.proofs.lemmas.Bool.{cases_eq}
 use Rattle.match_index.specs.declared.item.Item.{Item}
@@ -212,6 +212,27 @@ carry-right-can asked n l r l' old now below can m o e mid f =
       ready = g;
       changes = subst (λ (z : TreeOf). RightChanges n (made_in r) (made_in (tree_of now)) mid (made_in z) below) (sym e) (right-changes asked n l r now below mid can g);
     }
+
+pub left-changes-at : (asked : MemberChange) (n : NodeOf) (l r r' : TreeOf) (old now : Tree) (below : ChangeOf) → CanChange asked (branch n l r) → tree_of old ≡ l → r' ≡ r → (mid : List (Held Made)) → IsReadyIn asked (tree_of old) now below mid →
+    LeftChanges n (made_in l) (made_in (tree_of now)) mid (made_in r') below
+left-changes-at asked n l r r' old now below can o e mid f =
+    subst (λ (z : TreeOf). LeftChanges n (made_in l) (made_in (tree_of now)) mid (made_in z) below) (sym e) (left-changes asked n l r now below mid can (subst (λ (z : TreeOf). IsReadyIn asked z now below mid) o f))
+
+pub right-changes-at : (asked : MemberChange) (n : NodeOf) (l r l' : TreeOf) (old now : Tree) (below : ChangeOf) → CanChange asked (branch n l r) → tree_of old ≡ r → l' ≡ l → (mid : List (Held Made)) → IsReadyIn asked (tree_of old) now below mid →
+    RightChanges n (made_in r) (made_in (tree_of now)) mid (made_in l') below
+right-changes-at asked n l r l' old now below can o e mid f =
+    subst (λ (z : TreeOf). RightChanges n (made_in r) (made_in (tree_of now)) mid (made_in z) below) (sym e) (right-changes asked n l r now below mid can (subst (λ (z : TreeOf). IsReadyIn asked z now below mid) o f))
+
+-- ---- an operand has fewer operators
+abbrev pub branches : TreeOf → ℕ
+branches (leaf i s made) = 0
+branches (branch n l r) = branches l + branches r + 1
+
+pub left-smaller : (t u : TreeOf) (n : NodeOf) (l r : TreeOf) → t ≡ branch n l r → u ≡ l → branches u < branches t
+left-smaller t u n l r e s = subst (λ (z : TreeOf). branches u < branches z) (sym e) (subst (λ (z : TreeOf). branches z < branches l + branches r + 1) (sym s) (omega arith))
+
+pub right-smaller : (t u : TreeOf) (n : NodeOf) (l r : TreeOf) → t ≡ branch n l r → u ≡ r → branches u < branches t
+right-smaller t u n l r e s = subst (λ (z : TreeOf). branches u < branches z) (sym e) (subst (λ (z : TreeOf). branches z < branches l + branches r + 1) (sym s) (omega arith))
 
 -- ---- what a call gives and leaves
 pub all-ok : {X E : Type 0} (r : Result X E) (P R : X → Type 0) (A B C : Type 0) → IfOk r P → OnOk r A → OnOk r B → OnOk r C → ((x : X) → A → B → C → P x → R x) → IfOk r R

@@ -5,9 +5,10 @@ use Rattle.made_rules.specs.Changing.{IsReady}
 use Rattle.made_rules.specs.Rules.{rules_in}
 use Rattle.made_rules.specs.declared.made.Made.{Made}
 use Rattle.incr_compile.specs.Candidates.{asked as asks, reach, shown}
+use Rattle.incr_compile.specs.Nodes.{node_of}
 use Rattle.incr_compile.specs.Trees.{IsReadyIn, IsUnderWay, made_in, tree_of}
 use Rattle.incr_compile.specs.declared.tree.Tree.TheVariants.{Member}
-use Rattle.incr_compile.proofs.TreeSteps.{left-at, left-by, none-below, read-at, right-by, settled-left-by, settled-member, settled-right-by, under-wide}
+use Rattle.incr_compile.proofs.TreeSteps.{left-smaller, right-smaller, left-at, left-by, none-below, read-at, right-by, settled-left-by, settled-member, settled-right-by, under-wide}
 use Rattle.incr_compile.proofs.tree.Tree.+settle.Goals as goal
 
 pub settle-requires : goal.settle-requires
@@ -39,6 +40,7 @@ pub settle-requires-in-Left : goal.settle-requires-in-Left
 settle-requires-in-Left t c =
     let u = (subst (λ z. IsUnderWay z c.args.change) c.in-Operator.is c.requires) in
     let o = left-by c.in-Operator.node c.in-Operator.left.value c.in-Operator.right.value c.in-Some.field-0.side c.in-Some.field-0.change c.args.change (sym c.take.ensures.value ∙ c.in-Some.is) u.asked u.before u.after _ _ u.can u.ready c.in-Left.is in
+    let smaller = left-smaller (tree_of c.args.self.now) (tree_of c.deref_mut.result.now) (node_of c.in-Operator.node) (tree_of c.in-Operator.left.value) (tree_of c.in-Operator.right.value) (ap tree_of c.in-Operator.is) (ap tree_of c.deref_mut.ensures.value) in
     (search rules, subst (λ z. IsUnderWay z c.in-Some.field-0.change) (sym c.deref_mut.ensures.value) o.operand)
 
 pub returns-in-Left-clause-settled : goal.returns-in-Left-clause-settled
@@ -71,6 +73,7 @@ pub settle-requires-in-Right : goal.settle-requires-in-Right
 settle-requires-in-Right t c =
     let u = (subst (λ z. IsUnderWay z c.args.change) c.in-Operator.is c.requires) in
     let o = right-by c.in-Operator.node c.in-Operator.left.value c.in-Operator.right.value c.in-Some.field-0.side c.in-Some.field-0.change c.args.change (sym c.take.ensures.value ∙ c.in-Some.is) u.asked u.before u.after _ _ u.can u.ready c.in-Right.is in
+    let smaller = right-smaller (tree_of c.args.self.now) (tree_of c.deref_mut-in-Right.result.now) (node_of c.in-Operator.node) (tree_of c.in-Operator.left.value) (tree_of c.in-Operator.right.value) (ap tree_of c.in-Operator.is) (ap tree_of c.deref_mut-in-Right.ensures.value) in
     (search rules, subst (λ z. IsUnderWay z c.in-Some.field-0.change) (sym c.deref_mut-in-Right.ensures.value) o.operand)
 
 pub returns-in-Right-clause-settled : goal.returns-in-Right-clause-settled
