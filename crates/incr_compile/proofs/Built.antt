@@ -26,7 +26,7 @@ use Rattle.rule_ancestry.specs.Holding.{Held, item_of}
 use Rattle.rule_ancestry.proofs.StoreLemmas.{eq-other}
 use Rattle.made_rules.specs.Rules.{rule_of, rules_in}
 use Rattle.made_rules.specs.declared.made.Made.{Made}
-use Rattle.incr_compile.specs.Compiling.{IsBuilt, IsByLeaves, IsOfTables, IsOver, composed_by, policy_in}
+use Rattle.incr_compile.specs.Compiling.{CanBeOver, IsBuilt, IsByLeaves, IsOfTables, IsOver, composed_by, policy_in}
 use Rattle.incr_compile.specs.Nodes.{CanJoin, IsNode, NodeOf, SizesFit, whole_size}
 use Rattle.incr_compile.specs.Trees.{IsBranch, IsMemberRule, IsOnce, IsTree, TreeOf, branch, has_member, leaf, made_in, tree_size}
 use Rattle.incr_compile.proofs.Scratch.{size-is}
@@ -129,6 +129,22 @@ built-whole tables ports op a b l r p q w =
 
 pub built-level : (tables : List LeafTable) (ports : List ℕ) (e : Policy) (t : TreeOf) (size : ℕ) → IsBuilt tables ports e t → levels_of tables e < 2 ^ 64 → size ≡ capped (levels_of tables e) → size ≡ tree_size t
 built-level tables ports e t size b w s = s ∙ capped-same (levels_of tables e) w ∙ sym (built-size tables ports e t b)
+
+pub built-can : (tables : List LeafTable) (ports : List ℕ) (op : Op) (a b : Policy) (l r : TreeOf) (size : ℕ) → op ≢ Hop → IsBuilt tables ports a l → IsBuilt tables ports b r → whole_size op (levels_of tables a) (levels_of tables b) < 2 ^ 64 →
+    levels_of tables b < 2 ^ 64 → size ≡ capped (levels_of tables b) → CanBeOver op size l r
+built-can tables ports op a b l r size h p q w k s = record {
+  operator = h;
+  left_tree = p.is_tree;
+  right_tree = q.is_tree;
+  size_is = built-level tables ports b r size q k s;
+  whole = built-whole tables ports op a b l r p q w;
+}
+
+pub over-can : (op : Op) (size : ℕ) (l r : TreeOf) → CanBeOver op size l r → CanJoin op size (made_in l) (made_in r)
+over-can op size l r c = can-join op size l r c.left_tree c.right_tree c.size_is c.whole
+
+pub over-is : (op : Op) (size : ℕ) (l r : TreeOf) (n : NodeOf) (t : TreeOf) → CanBeOver op size l r → n.op ≡ op → n.size ≡ size → IsNode n (rules_in (made_in l)) (rules_in (made_in r)) → t ≡ branch n l r → IsOver op l r t
+over-is op size l r n t c o s k is = over-two op size l r c.left_tree c.right_tree c.size_is c.whole n t c.operator o s k is
 
 -- ---- each member once
 members-by : (op : Op) (a b : Policy) → members_of (composed_by op a b) ≡ members_of a ++ members_of b

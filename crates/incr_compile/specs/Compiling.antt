@@ -1,5 +1,5 @@
 -- A compiled expression: which rules it holds, and how they change with those of a member.
-use Rattle.std.specs.Prelude.{◌≡◌, ◌≢◌, ℕ, Bool, not, ◌==◌, ◌&&◌, ◌<◌, ◌++◌, List, IsPermutation, filter, if◌then◌else◌, map, slice_get}
+use Rattle.std.specs.Prelude.{◌≡◌, ◌≢◌, ℕ, Bool, not, ◌==◌, ◌&&◌, ◌<◌, ◌^◌, ◌++◌, List, IsPermutation, filter, if◌then◌else◌, map, slice_get}
 use Rattle.std.specs.List.{AllByRecursion, list_any}
 use Rattle.cv_io.specs.declared.leaf.Leaf.{Leaf}
 use Rattle.of10_match.specs.Normal.{IsNormal}
@@ -15,8 +15,8 @@ use Rattle.made_rules.specs.declared.made.Made.{Made}
 use Rattle.made_rules.specs.declared.made.Origin.{Origin}
 use Rattle.made_rules.specs.declared.made.Origin.TheVariants.{Leaf as OfLeaf}
 use Rattle.of10_match.specs.Ranges.{IsMatch}
-use Rattle.incr_compile.specs.Nodes.{NodeOf}
-use Rattle.incr_compile.specs.Trees.{IsBranch, IsTree, TreeOf, branch, has_member, leaf, made_in}
+use Rattle.incr_compile.specs.Nodes.{NodeOf, whole_size}
+use Rattle.incr_compile.specs.Trees.{IsBranch, IsTree, TreeOf, branch, has_member, leaf, made_in, tree_size}
 use Rattle.incr_compile.specs.declared.compiled.LeafDelta.{LeafDelta}
 use Rattle.incr_compile.specs.declared.tree.MemberChange.{MemberChange}
 
@@ -95,6 +95,14 @@ pub record IsBuilt (tables : List LeafTable) (ports : List ℕ) (e : Policy) (t 
   pub is_tree : IsTree t
   pub tables_are : IsOfTables tables ports t
   pub policy : policy_in t ≡ e
+
+-- an operator can stand over two trees, of which the right one has `size` levels
+pub record CanBeOver (op : Op) (size : ℕ) (left right : TreeOf) : Type 0 where
+  pub operator : op ≢ Hop
+  pub left_tree : IsTree left
+  pub right_tree : IsTree right
+  pub size_is : size ≡ tree_size right
+  pub whole : whole_size op (tree_size left) (tree_size right) < 2 ^ 64
 
 -- an operator over two trees, whose rules are what it makes of theirs
 pub record IsOver (op : Op) (left right : TreeOf) (t : TreeOf) : Type 0 where

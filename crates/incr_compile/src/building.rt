@@ -1,14 +1,12 @@
 //! The tree of an expression over members' tables, from scratch.
-ghost use Rattle.std.specs.Prelude.{◌≡◌, ◌≢◌, ◌<◌, ◌^◌, All, IfOk, slice_get};
+ghost use Rattle.std.specs.Prelude.{◌≡◌, ◌<◌, ◌^◌, All, IfOk, slice_get};
 ghost use Rattle.std.specs.List.{AllByRecursion};
 ghost use Rattle.policy_expr.specs.Policy.{member as member_of, policy_of};
 ghost use Rattle.policy_meaning.specs.Fitting.{IsFittingTable, levels_of};
 ghost use Rattle.policy_meaning.specs.LeafFact.{IsSoundTable};
 ghost use Rattle.policy_meaning.specs.Networks.{table_rules, table_size};
-ghost use Rattle.op_compose.specs.declared.op.Op.TheVariants.{Hop};
-ghost use Rattle.incr_compile.specs.Compiling.{IsBuilt, IsOver};
-ghost use Rattle.incr_compile.specs.Nodes.{whole_size};
-ghost use Rattle.incr_compile.specs.Trees.{IsTree, tree_of, tree_size};
+ghost use Rattle.incr_compile.specs.Compiling.{CanBeOver, IsBuilt, IsOver};
+ghost use Rattle.incr_compile.specs.Trees.{tree_of};
 
 use crate::member::member_rules;
 use crate::node::Node;
@@ -77,11 +75,7 @@ fn operator_tree<G: Ledger>(
     right: Tree,
     steps: &mut Steps<G>,
 ) -> Result<Tree, Memory>
-    requires op { op ≢ Hop }
-    requires left { IsTree (tree_of left) }
-    requires right { IsTree (tree_of right) }
-    requires size { size ≡ tree_size (tree_of right) }
-    requires whole { whole_size op (tree_size (tree_of left)) (tree_size (tree_of right)) < 2 ^ 64 }
+    requires { CanBeOver op size (tree_of left) (tree_of right) }
     ensures { IfOk result (λ tree. IsOver op (tree_of left) (tree_of right) (tree_of tree)) }
 {
     Ok(Tree::Operator {
