@@ -3,7 +3,7 @@ use crate::building::build_tree;
 use crate::member::asked_of;
 use crate::telling::{all_rules, rules_in_room, tell};
 use crate::tree::Tree;
-use cv_io::{Duplicate, Leaf, List, Memory, Steps};
+use cv_io::{Leaf, List, Memory, Steps};
 use op_compose::RuleDelta;
 use policy_expr::Expr;
 use policy_meaning::{LeafTable, Rule, listed};
@@ -27,11 +27,16 @@ pub struct Compiled {
 }
 
 impl Model for Compiled {
-    ghost use Rattle.incr_compile.specs.Trees.{IsOnce, IsTree, TreeOf, tree_of};
+    ghost use Rattle.incr_compile.specs.Trees.{IsOnce, IsTree, tree_of};
+    ghost use Rattle.incr_compile.specs.declared.tree.Tree.{Tree};
+    ghost use Rattle.incr_compile.specs.contracts.tree.Tree as tree;
+    ghost use Rattle.std.specs.Coded.{codes};
 
-    ghost Value = { TreeOf };
+    ghost Value = { Tree };
 
-    ghost view = { λ c. tree_of c.tree };
+    ghost coded = { Prim.hlevel (codes, tree.the_row.coded) };
+
+    ghost view = { λ c. c.tree };
 
     ghost invariant = { λ c. IsTree (tree_of c.tree) × IsOnce (tree_of c.tree) };
 }
@@ -47,7 +52,7 @@ impl Compiled {
     ghost use Rattle.policy_meaning.specs.Rules.{rules_of};
     ghost use Rattle.policy_meaning.specs.declared.rule.Rule.{Rule};
     ghost use Rattle.incr_compile.specs.Compiling.{IsMemberDelta, IsOf, IsOfTables, MemberChanges, policy_in, rules_at};
-    ghost use Rattle.incr_compile.specs.Trees.{has_member};
+    ghost use Rattle.incr_compile.specs.Trees.{has_member, tree_of};
 
     /// The rules of an expression over these tables, from scratch.
     pub fn build<G: Ledger>(
@@ -61,8 +66,8 @@ impl Compiled {
         requires sound { AllByRecursion IsSoundTable tables.now }
         requires size { levels_of tables.now (policy_of expr.now) < 2 ^ 64 }
         requires once { EachPair (λ i j. i ≢ j) (members_of (policy_of expr.now)) }
-        ensures policy { IfOk result (λ compiled. policy_in compiled ≡ policy_of expr.now) }
-        ensures tables { IfOk result (IsOfTables tables.now ports.now) }
+        ensures policy { IfOk result (λ compiled. policy_in (tree_of compiled) ≡ policy_of expr.now) }
+        ensures tables { IfOk result (λ compiled. IsOfTables tables.now ports.now (tree_of compiled)) }
     {
         Ok(Compiled {
             alloc,
@@ -76,15 +81,15 @@ impl Compiled {
         delta: LeafDelta,
         steps: &mut Steps<G>,
     ) -> Result<RuleDelta, Memory>
-        requires member { has_member delta.member self.old ≡ true }
-        requires come { IsMemberDelta delta self.old }
+        requires member { has_member delta.member (tree_of self.old) ≡ true }
+        requires come { IsMemberDelta delta (tree_of self.old) }
         // The rules of the member are changed so, and no others.
-        ensures members { (sizes : ℕ → ℕ) → (before after : ℕ → List Rule) → MemberChanges delta before after → IsOf sizes before self.old → OnOk result (IsOf sizes after self.new) }
-        ensures policy { OnOk result (policy_in self.new ≡ policy_in self.old) }
+        ensures members { (sizes : ℕ → ℕ) → (before after : ℕ → List Rule) → MemberChanges delta before after → IsOf sizes before (tree_of self.old) → OnOk result (IsOf sizes after (tree_of self.new)) }
+        ensures policy { OnOk result (policy_in (tree_of self.new) ≡ policy_in (tree_of self.old)) }
         // What is told is what changed, and no rule is in both lists.
-        ensures told { IfOk result (λ told. Changed (rules_at self.old) (rules_at self.new) told.gone told.come) }
+        ensures told { IfOk result (λ told. Changed (rules_at (tree_of self.old)) (rules_at (tree_of self.new)) told.gone told.come) }
         ensures apart { IfOk result (λ told. Apart told.gone told.come) }
-        ensures memory { OnErr result (self.new ≡ self.old) }
+        ensures memory { OnErr result (tree_of self.new ≡ tree_of self.old) }
     {
         let asked = asked_of(self.alloc, delta)?;
         let change = self.tree.ready(self.alloc, asked, steps)?;
@@ -105,16 +110,17 @@ impl Compiled {
 
     /// The rules, in their order. They are those from scratch.
     pub fn rules(&self) -> Result<List<Rule>, Memory>
-        ensures listed { IfOk result (IsListing (rules_at self.now)) }
-        ensures scratch { (sizes : ℕ → ℕ) → (rules : ℕ → List Rule) → IsOf sizes rules self.now → IfOk result (IsPermutation (rules_of sizes rules (policy_in self.now))) }
+        ensures listed { IfOk result (IsListing (rules_at (tree_of self.now))) }
+        ensures scratch { (sizes : ℕ → ℕ) → (rules : ℕ → List Rule) → IsOf sizes rules (tree_of self.now) → IfOk result (IsPermutation (rules_of sizes rules (policy_in (tree_of self.now)))) }
     {
         let rules = all_rules(self.alloc, self.tree.made())?;
         listed(List::from_vec(rules))
     }
-}
 
-impl Duplicate for Compiled {
-    fn copy(&self) -> Result<Compiled, Memory> {
+    /// A copy, with the same rules at each node.
+    pub fn copy(&self) -> Result<Compiled, Memory>
+        ensures { IfOk result (λ copied. tree_of copied ≡ tree_of self.now) }
+    {
         Ok(Compiled {
             alloc: self.alloc,
             tree: self.tree.copy(self.alloc)?,
