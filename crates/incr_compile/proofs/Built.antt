@@ -34,7 +34,7 @@ use Rattle.incr_compile.proofs.Told.{come-rules}
 use Rattle.incr_compile.proofs.TreeLemmas.{of-items, tree-fit}
 
 -- ---- a member
-SoundAt : Option LeafTable → Type 0
+abbrev SoundAt : Option LeafTable → Type 0
 SoundAt None = Unit {0}
 SoundAt (Some t) = IsSoundTable t
 

@@ -86,7 +86,7 @@ or-second : (a b : Bool) → (a || b) ≡ false → b ≡ false
 or-second true b e = absurd (cc)
 or-second false b e = e
 
-or-left : (a b : Bool) → (a || b) ≡ true → a ≡ false → b ≡ true
+pub or-left : (a b : Bool) → (a || b) ≡ true → a ≡ false → b ≡ true
 or-left true b e f = absurd (cc)
 or-left false b e f = e
 
@@ -123,7 +123,7 @@ changed-all P asked made c a = all-append P asked.come.items _ c (kept made a)
     kept [] b = tt
     kept (m ∷ ms) b = at (is_not_of asked.gone.items m) m _ b.0 (kept ms b.1)
 
-of-items : (P : Made → Type 0) (hs : List (Held Made)) → AllByRecursion P (map item_of hs) → AllByRecursion (λ (h : Held Made). P h.item) hs
+pub of-items : (P : Made → Type 0) (hs : List (Held Made)) → AllByRecursion P (map item_of hs) → AllByRecursion (λ (h : Held Made). P h.item) hs
 of-items P [] a = tt
 of-items P (h ∷ hs) a = (a.0, of-items P hs a.1)
 

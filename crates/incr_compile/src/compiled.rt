@@ -29,12 +29,12 @@ pub struct Compiled {
 impl Model for Compiled {
     ghost use Rattle.incr_compile.specs.Trees.{IsOnce, IsTree, tree_of};
     ghost use Rattle.incr_compile.specs.declared.tree.Tree.{Tree};
-    ghost use Rattle.incr_compile.specs.contracts.tree.Tree as tree;
+    ghost use Rattle.incr_compile.specs.contracts.tree.Tree as e;
     ghost use Rattle.std.specs.Coded.{codes};
 
     ghost Value = { Tree };
 
-    ghost coded = { Prim.hlevel (codes, tree.the_row.coded) };
+    ghost coded = { Prim.hlevel (codes, e.the_row.coded) };
 
     ghost view = { λ c. c.tree };
 

@@ -3,7 +3,7 @@ use Rattle.alg_priority.specs.Levels.{capped}
 use Rattle.op_compose.specs.declared.op.Op.TheVariants.{Par, Seq, Over}
 use Rattle.policy_expr.specs.Policy.{override, parallel, policy_of, sequential}
 use Rattle.policy_meaning.specs.Fitting.{levels_of}
-use Rattle.policy_meaning.proofs.LevelsBelow.{parallel-parts, sequential-parts}
+use Rattle.policy_meaning.proofs.LevelsBelow.{operators, parallel-parts, sequential-parts}
 use Rattle.incr_compile.specs.Trees.{tree_of}
 use Rattle.incr_compile.proofs.Built.{built-can}
 use Rattle.incr_compile.proofs.building.+build_tree.Goals as goal
@@ -12,12 +12,16 @@ pub build_tree-requires : goal.build_tree-requires
 build_tree-requires g t c κs within =
     let whole : policy_of c.args.expr.now ≡ parallel (policy_of c.in-Par.left.value) (policy_of c.in-Par.right.value) = ap policy_of c.in-Par.is in
     let fit : levels_of c.args.tables.now (parallel (policy_of c.in-Par.left.value) (policy_of c.in-Par.right.value)) < 2 ^ 64 = subst (λ z. levels_of c.args.tables.now z < 2 ^ 64) whole c.requires.size in
+    let smaller : operators (policy_of c.deref.result.now) < operators (policy_of c.args.expr.now) = subst (λ z. operators (policy_of c.deref.result.now) < operators z) (sym whole)
+    (subst (λ z. operators (policy_of z) < operators (parallel (policy_of c.in-Par.left.value) (policy_of c.in-Par.right.value))) (sym c.deref.ensures) (omega arith)) in
     (search rules, (within, (c.requires.tables, (c.requires.sound, subst (λ z. levels_of c.args.tables.now (policy_of z) < 2 ^ 64) (sym c.deref.ensures) (parallel-parts c.args.tables.now c.requires.tables (policy_of c.in-Par.left.value) (policy_of c.in-Par.right.value) fit).0))))
 
 pub build_tree-requires-in-Par : goal.build_tree-requires-in-Par
 build_tree-requires-in-Par g t c κs within =
     let whole : policy_of c.args.expr.now ≡ parallel (policy_of c.in-Par.left.value) (policy_of c.in-Par.right.value) = ap policy_of c.in-Par.is in
     let fit : levels_of c.args.tables.now (parallel (policy_of c.in-Par.left.value) (policy_of c.in-Par.right.value)) < 2 ^ 64 = subst (λ z. levels_of c.args.tables.now z < 2 ^ 64) whole c.requires.size in
+    let smaller : operators (policy_of c.deref-in-Par.result.now) < operators (policy_of c.args.expr.now) = subst (λ z. operators (policy_of c.deref-in-Par.result.now) < operators z) (sym whole)
+    (subst (λ z. operators (policy_of z) < operators (parallel (policy_of c.in-Par.left.value) (policy_of c.in-Par.right.value))) (sym c.deref-in-Par.ensures) (omega arith)) in
     (search rules, (within, (c.requires.tables, (c.requires.sound, subst (λ z. levels_of c.args.tables.now (policy_of z) < 2 ^ 64) (sym c.deref-in-Par.ensures) (parallel-parts c.args.tables.now c.requires.tables (policy_of c.in-Par.left.value) (policy_of c.in-Par.right.value) fit).1))))
 
 pub operator_tree-requires : goal.operator_tree-requires
@@ -36,12 +40,16 @@ pub build_tree-requires-in-Seq : goal.build_tree-requires-in-Seq
 build_tree-requires-in-Seq g t c κs within =
     let whole : policy_of c.args.expr.now ≡ sequential (policy_of c.in-Seq.left.value) (policy_of c.in-Seq.right.value) = ap policy_of c.in-Seq.is in
     let fit : levels_of c.args.tables.now (sequential (policy_of c.in-Seq.left.value) (policy_of c.in-Seq.right.value)) < 2 ^ 64 = subst (λ z. levels_of c.args.tables.now z < 2 ^ 64) whole c.requires.size in
+    let smaller : operators (policy_of c.deref-in-Seq.result.now) < operators (policy_of c.args.expr.now) = subst (λ z. operators (policy_of c.deref-in-Seq.result.now) < operators z) (sym whole)
+    (subst (λ z. operators (policy_of z) < operators (sequential (policy_of c.in-Seq.left.value) (policy_of c.in-Seq.right.value))) (sym c.deref-in-Seq.ensures) (omega arith)) in
     (search rules, (within, (c.requires.tables, (c.requires.sound, subst (λ z. levels_of c.args.tables.now (policy_of z) < 2 ^ 64) (sym c.deref-in-Seq.ensures) (sequential-parts c.args.tables.now c.requires.tables (policy_of c.in-Seq.left.value) (policy_of c.in-Seq.right.value) fit).0))))
 
 pub build_tree-requires-in-Seq-2 : goal.build_tree-requires-in-Seq-2
 build_tree-requires-in-Seq-2 g t c κs within =
     let whole : policy_of c.args.expr.now ≡ sequential (policy_of c.in-Seq.left.value) (policy_of c.in-Seq.right.value) = ap policy_of c.in-Seq.is in
     let fit : levels_of c.args.tables.now (sequential (policy_of c.in-Seq.left.value) (policy_of c.in-Seq.right.value)) < 2 ^ 64 = subst (λ z. levels_of c.args.tables.now z < 2 ^ 64) whole c.requires.size in
+    let smaller : operators (policy_of c.deref-in-Seq-2.result.now) < operators (policy_of c.args.expr.now) = subst (λ z. operators (policy_of c.deref-in-Seq-2.result.now) < operators z) (sym whole)
+    (subst (λ z. operators (policy_of z) < operators (sequential (policy_of c.in-Seq.left.value) (policy_of c.in-Seq.right.value))) (sym c.deref-in-Seq-2.ensures) (omega arith)) in
     (search rules, (within, (c.requires.tables, (c.requires.sound, subst (λ z. levels_of c.args.tables.now (policy_of z) < 2 ^ 64) (sym c.deref-in-Seq-2.ensures) (sequential-parts c.args.tables.now c.requires.tables (policy_of c.in-Seq.left.value) (policy_of c.in-Seq.right.value) fit).1))))
 
 pub operator_tree-requires-in-Seq : goal.operator_tree-requires-in-Seq
