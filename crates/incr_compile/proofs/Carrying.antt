@@ -1,5 +1,5 @@
 -- A node carries a change of an operand on.
-use Rattle.std.proofs.Common.{◌≡◌, ℕ, ◌<◌, ◌≤◌, ◌^◌, Bool, true, false, not, List, [], ◌∷◌, ◌++◌, map, refl, sym, ap, subst, ◌∙◌}
+use Rattle.std.proofs.Common.{◌≡◌, ℕ, ◌+◌, ◌<◌, ◌≤◌, ◌^◌, Bool, true, false, not, List, [], ◌∷◌, ◌++◌, map, refl, sym, ap, subst, ◌∙◌}
 use Rattle.std.specs.Prelude.{IsPermutation, filter}
 use Rattle.std.specs.List.{All, AllByRecursion}
 use Rattle.std.proofs.lemmas.List.Sorted.{IsPermutation-filter_both, IsPermutation-sym, IsPermutation-trans}
@@ -14,6 +14,7 @@ use Rattle.made_rules.specs.Rules.{is_held_of, is_made_of, rules_in}
 use Rattle.made_rules.specs.declared.made.Made.{Made}
 use Rattle.made_rules.specs.declared.made.Origin.{Origin}
 use Rattle.made_rules.proofs.Changes.{second-front}
+use Rattle.incr_compile.specs.Candidates.{left_cost, right_cost}
 use Rattle.incr_compile.specs.Nodes.{AreFit, IsCarried, IsFit, LeftChanges, NodeOf, RightChanges, made_by}
 use Rattle.incr_compile.specs.Sound.{AreSound, IsSound}
 use Rattle.incr_compile.specs.Ways.{held_way, left_origin, right_origin}
@@ -79,6 +80,10 @@ module _ (n : NodeOf) (before now after rights : List (Held Made)) (below : Chan
   pub left-come-levels : All (λ (a : Held Rule). All (λ (b : Held Rule). joined_level n.op a.item.level b.item.level n.size < 2 ^ 64) (rules_in rights)) come
   left-come-levels = by-left-levels n l.left_size l.right_size l.sizes come (rules_in rights) left-come-fit l.rights_fit
 
+  -- the steps that are made for what comes
+  pub left-steps : (old new : ℕ) → new ≤ old + left_cost n.op (rules_in rights) come → new ≤ old + left_cost n.op (rules_in rights) (rules_in l.ready.coming)
+  left-steps old new s = subst (λ (z : List (Held Rule)). new ≤ old + left_cost n.op (rules_in rights) z) come-is s
+
   pub left-carried : (new : List (Held Made)) (lost : List ℕ) (fresh : List Made) (origins : List Origin) (gone : List ℕ) (up : ChangeOf) → IsReady n.made new lost fresh up → gone ≡ below.gone → origins ≡ map left_origin gone →
       lost ≡ map id_of (filter (is_held_of origins) n.made) → IsPermutation fresh (by_left (held_way n.op n.size) come (rules_in rights)) →
       (whole : List (Held Made)) × IsCarried n.made new whole up (made_by n (rules_in after) (rules_in rights))
@@ -115,6 +120,9 @@ module _ (n : NodeOf) (before now after lefts : List (Held Made)) (below : Chang
 
   pub right-come-levels : All (λ (b : Held Rule). All (λ (a : Held Rule). joined_level n.op a.item.level b.item.level n.size < 2 ^ 64) (rules_in lefts)) come
   right-come-levels = by-right-levels n l.left_size l.right_size l.sizes (rules_in lefts) come l.lefts_fit right-come-fit
+
+  pub right-steps : (old new : ℕ) → new ≤ old + right_cost n.op (rules_in lefts) come → new ≤ old + right_cost n.op (rules_in lefts) (rules_in l.ready.coming)
+  right-steps old new s = subst (λ (z : List (Held Rule)). new ≤ old + right_cost n.op (rules_in lefts) z) come-right s
 
   pub right-carried : (new : List (Held Made)) (lost : List ℕ) (fresh : List Made) (origins : List Origin) (gone : List ℕ) (up : ChangeOf) → IsReady n.made new lost fresh up → gone ≡ below.gone → origins ≡ map right_origin gone →
       lost ≡ map id_of (filter (is_held_of origins) n.made) → IsPermutation fresh (by_right (held_way n.op n.size) (rules_in lefts) come) →
