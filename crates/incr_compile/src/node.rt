@@ -1,10 +1,10 @@
 //! A node of an operator: what it made of the rules of its operands.
-ghost use Rattle.std.specs.Prelude.{◌≡◌, ◌≤◌, ◌<◌, ◌^◌, ℕ, [], IfOk, IsPermutation, List, OnErr, OnOk, filter_map, length, map};
+ghost use Rattle.std.specs.Prelude.{◌≡◌, ◌+◌, ◌≤◌, ◌<◌, ◌^◌, ℕ, [], IfOk, IsPermutation, List, OnErr, OnOk, filter_map, length, map};
 ghost use Rattle.list_change.specs.Pairing.{made};
 ghost use Rattle.rule_ancestry.specs.Holding.{Held, item_of};
 ghost use Rattle.made_rules.specs.Changing.{AreWide, IsReady, settled};
 ghost use Rattle.made_rules.specs.declared.made.Made.{Made};
-ghost use Rattle.incr_compile.specs.Candidates.{asked, reach, shown};
+ghost use Rattle.incr_compile.specs.Candidates.{asked, left_cost, reach, right_cost, shown};
 ghost use Rattle.made_rules.specs.Rules.{rules_in};
 ghost use Rattle.incr_compile.specs.Nodes.{AreFit, CanJoin, IsCarried, IsNode, LeftChanges, RightChanges, made_by, node_of};
 ghost use Rattle.incr_compile.specs.Ways.{held_way, left_origin, right_origin};
@@ -162,6 +162,7 @@ impl Node {
         ensures ready { (before after : List (Held Made)) → LeftChanges (node_of self.old) before left.now after right.now below.now → IfOk result (λ change. (new : List (Held Made)) × IsCarried self.old.made self.new.made new change (made_by (node_of self.old) (rules_in after) (rules_in right.now))) }
         ensures rest { node_of self.new ≡ record (node_of self.old) { made = self.new.made } }
         ensures room { OnOk result (length below.now.come ≤ self.new.lefts.room) }
+        ensures steps { (before after : List (Held Made)) → (l : LeftChanges (node_of self.old) before left.now after right.now below.now) → steps.new ≤ steps.old + left_cost self.old.op (rules_in right.now) (rules_in l.ready.coming) }
         ensures memory { OnErr result (self.new.made ≡ self.old.made) }
     {
         let come = olds(alloc, left, below.come())?;
@@ -185,6 +186,7 @@ impl Node {
         ensures ready { (before after : List (Held Made)) → RightChanges (node_of self.old) before right.now after left.now below.now → IfOk result (λ change. (new : List (Held Made)) × IsCarried self.old.made self.new.made new change (made_by (node_of self.old) (rules_in left.now) (rules_in after))) }
         ensures rest { node_of self.new ≡ record (node_of self.old) { made = self.new.made } }
         ensures room { OnOk result (length below.now.come ≤ self.new.rights.room) }
+        ensures steps { (before after : List (Held Made)) → (l : RightChanges (node_of self.old) before right.now after left.now below.now) → steps.new ≤ steps.old + right_cost self.old.op (rules_in left.now) (rules_in l.ready.coming) }
         ensures memory { OnErr result (self.new.made ≡ self.old.made) }
     {
         let come = olds(alloc, right, below.come())?;

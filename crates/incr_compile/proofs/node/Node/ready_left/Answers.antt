@@ -1,7 +1,7 @@
 use Rattle.std.proofs.Common.{sym, ◌∙◌}
 use Rattle.std.proofs.lemmas.Result.{IfOk-weaker}
 use Rattle.incr_compile.specs.Nodes.{node_of}
-use Rattle.incr_compile.proofs.Carrying.{found-held, left-carried, left-come-alone, left-come-levels, left-come-sound, left-others-sound}
+use Rattle.incr_compile.proofs.Carrying.{found-held, left-carried, left-come-alone, left-come-levels, left-come-sound, left-others-sound, left-steps}
 use Rattle.incr_compile.proofs.node.Node.ready_left.Goals as goal
 
 pub made_by_left-requires-clause-sound : goal.made_by_left-requires-clause-sound
@@ -29,3 +29,28 @@ returns-clause-ready g c before after l =
     left-carried (node_of c.args.self.now) before c.args.left.now after c.args.right.now c.args.below.now l c.deref.result.now (λ items rest e p. c.deref.ensures.value ∙ c.in_ok-come.ensures items rest (e ∙ sym c.come.ensures) p)
     c.ready.new.store c.deref-3.result.now c.in_ok-fresh.fresh.items c.deref-2.result.now c.gone.result.now change u c.gone.ensures (c.deref-2.ensures.value ∙ c.in_ok-origins.ensures) (c.deref-3.ensures.value ∙ c.in_ok-lost.ensures) c.in_ok-fresh.ensures.made)
     c.ready.ensures.ready
+
+pub returns-in_err-origins-clause-steps : goal.returns-in_err-origins-clause-steps
+returns-in_err-origins-clause-steps g c before after l =
+    left-steps (node_of c.args.self.now) before c.args.left.now after c.args.right.now c.args.below.now l c.deref.result.now (λ items rest e p. c.deref.ensures.value ∙ c.in_ok-come.ensures items rest (e ∙ sym c.come.ensures) p)
+    c.args.steps.now c.made_by_left.new.steps c.made_by_left.ensures.steps
+
+pub returns-in_err-lost-clause-steps : goal.returns-in_err-lost-clause-steps
+returns-in_err-lost-clause-steps g c before after l =
+    left-steps (node_of c.args.self.now) before c.args.left.now after c.args.right.now c.args.below.now l c.deref.result.now (λ items rest e p. c.deref.ensures.value ∙ c.in_ok-come.ensures items rest (e ∙ sym c.come.ensures) p)
+    c.args.steps.now c.made_by_left.new.steps c.made_by_left.ensures.steps
+
+pub returns-in_err-reserve-clause-steps : goal.returns-in_err-reserve-clause-steps
+returns-in_err-reserve-clause-steps g c before after l =
+    left-steps (node_of c.args.self.now) before c.args.left.now after c.args.right.now c.args.below.now l c.deref.result.now (λ items rest e p. c.deref.ensures.value ∙ c.in_ok-come.ensures items rest (e ∙ sym c.come.ensures) p)
+    c.args.steps.now c.made_by_left.new.steps c.made_by_left.ensures.steps
+
+pub returns-in_err-fresh-clause-steps : goal.returns-in_err-fresh-clause-steps
+returns-in_err-fresh-clause-steps g c before after l =
+    left-steps (node_of c.args.self.now) before c.args.left.now after c.args.right.now c.args.below.now l c.deref.result.now (λ items rest e p. c.deref.ensures.value ∙ c.in_ok-come.ensures items rest (e ∙ sym c.come.ensures) p)
+    c.args.steps.now c.made_by_left.new.steps c.made_by_left.ensures.steps
+
+pub returns-clause-steps : goal.returns-clause-steps
+returns-clause-steps g c before after l =
+    left-steps (node_of c.args.self.now) before c.args.left.now after c.args.right.now c.args.below.now l c.deref.result.now (λ items rest e p. c.deref.ensures.value ∙ c.in_ok-come.ensures items rest (e ∙ sym c.come.ensures) p)
+    c.args.steps.now c.made_by_left.new.steps c.made_by_left.ensures.steps
