@@ -1,12 +1,12 @@
 -- What a change of a member's rules does to a compiled expression.
-use Rattle.std.proofs.Common.{◌≡◌, ℕ, ◌+◌, ◌<◌, ◌≤◌, List, [], ◌∷◌, ◌++◌, length, map, refl, sym, ap, subst, ◌∙◌, arith}
+use Rattle.std.proofs.Common.{◌≡◌, ℕ, List, length, map, ap, subst, ◌∙◌}
 use Rattle.std.specs.Prelude.{IsPermutation}
 use Rattle.list_change.specs.Changes.{Apart, Changed}
 use Rattle.policy_meaning.specs.Order.{IsListing}
 use Rattle.policy_meaning.specs.Rules.{rules_of}
 use Rattle.policy_meaning.specs.declared.rule.Rule.{Rule}
 use Rattle.rule_ancestry.specs.Holding.{Held, item_of}
-use Rattle.made_rules.specs.Changing.{ChangeOf, IsReady, settled}
+use Rattle.made_rules.specs.Changing.{ChangeOf, IsReady}
 use Rattle.made_rules.specs.Rules.{rule_of}
 use Rattle.made_rules.specs.declared.made.Made.{Made}
 use Rattle.std.proofs.lemmas.List.Sorted.{IsPermutation-sym, IsPermutation-trans}

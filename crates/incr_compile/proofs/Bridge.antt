@@ -1,5 +1,5 @@
 -- What operands make is what the rules of an operator are from scratch.
-use Rattle.std.proofs.Common.{◌≡◌, ℕ, Bool, true, false, List, [], ◌∷◌, ◌++◌, Option, Some, None, refl, sym, ap, ◌∙◌}
+use Rattle.std.proofs.Common.{◌≡◌, ℕ, Bool, true, false, List, [], ◌∷◌, ◌++◌, Option, Some, None, refl, ap, ◌∙◌}
 use Rattle.std.specs.Prelude.{flat_map, filter_map, map, option_map, IsPermutation, if◌then◌else◌}
 use Rattle.std.specs.List.{cons_option}
 use Rattle.std.proofs.lemmas.List.{append-nil, map-append}
@@ -17,7 +17,6 @@ use Rattle.policy_meaning.specs.Rules.{sums_with, chains_with, chains_by, shifts
 use Rattle.policy_meaning.specs.declared.rule.Rule.{Rule}
 use Rattle.rule_ancestry.specs.Holding.{Held, item_of}
 use Rattle.made_rules.specs.Rules.{rule_of}
-use Rattle.made_rules.specs.declared.made.Made.{Made}
 use Rattle.incr_compile.specs.Ways.{held_way, left_origin, lone, lone_by, made_with, other, right_origin, way, without_ids}
 
 module _ {B R C : Type 0} (v : B → R) (f : C → R) (mk : B → R → C) (is : (b : B) (r : R) → f (mk b r) ≡ r) (g : R → Option R) where

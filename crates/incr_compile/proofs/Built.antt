@@ -1,17 +1,16 @@
 -- The tree of an expression over tables.
-use Rattle.std.proofs.Common.{◌≡◌, ◌≢◌, ℕ, zero, suc, ◌==◌, ◌+◌, ◌*◌, ◌-◌, ◌<◌, ◌≤◌, ◌^◌, Bool, true, false, ◌||◌, inl, inr, List, [], ◌∷◌, ◌++◌, Option, Some, None, map, refl, sym, ap, subst, ◌∙◌, arith}
-use Rattle.std.specs.Prelude.{IsPermutation, min, slice_get}
+use Rattle.std.proofs.Common.{◌≡◌, ◌≢◌, ℕ, zero, suc, ◌==◌, ◌*◌, ◌<◌, ◌^◌, Bool, true, false, ◌||◌, inl, inr, List, [], ◌∷◌, ◌++◌, Option, Some, None, map, refl, sym, ap, subst, ◌∙◌, arith}
+use Rattle.std.specs.Prelude.{IsPermutation, slice_get}
 use Rattle.std.specs.List.{All, AllByRecursion, list_any}
 use Rattle.std.proofs.lemmas.Bool.{cases_eq}
-use Rattle.std.proofs.lemmas.List.Elements.{All-from_recursion}
 use Rattle.std.proofs.lemmas.List.Sorted.{IsPermutation-map, IsPermutation-sym, IsPermutation-trans}
 use Rattle.alg_priority.specs.Levels.{capped}
 use Rattle.list_change.proofs.Permute.{by-equation}
 use Rattle.of10_match.specs.Normal.{IsNormal}
 use Rattle.op_compose.specs.declared.op.Op.{Op}
 use Rattle.op_compose.specs.declared.op.Op.TheVariants.{Par, Seq, Over, Hop}
-use Rattle.policy_expr.specs.Policy.{Policy, member, members_of, parallel, sequential, override}
-use Rattle.policy_meaning.specs.Best.{Below, IsSound as IsSoundRule}
+use Rattle.policy_expr.specs.Policy.{Policy, member, members_of}
+use Rattle.policy_meaning.specs.Best.{IsSound as IsSoundRule}
 use Rattle.policy_meaning.specs.Fitting.{IsFittingTable, levels_of}
 use Rattle.policy_meaning.specs.LeafFact.{EachPair, IsSoundTable}
 use Rattle.policy_meaning.specs.Networks.{table_rules, table_size}
@@ -26,9 +25,9 @@ use Rattle.rule_ancestry.specs.Holding.{Held, item_of}
 use Rattle.rule_ancestry.proofs.StoreLemmas.{eq-other}
 use Rattle.made_rules.specs.Rules.{rule_of, rules_in}
 use Rattle.made_rules.specs.declared.made.Made.{Made}
-use Rattle.incr_compile.specs.Compiling.{CanBeOver, IsBuilt, IsByLeaves, IsOfTables, IsOver, composed_by, policy_in}
-use Rattle.incr_compile.specs.Nodes.{CanJoin, IsNode, NodeOf, SizesFit, whole_size}
-use Rattle.incr_compile.specs.Trees.{IsBranch, IsMemberRule, IsOnce, IsTree, TreeOf, branch, has_member, leaf, made_in, tree_size}
+use Rattle.incr_compile.specs.Compiling.{CanBeOver, IsBuilt, IsByLeaves, IsOver, composed_by, policy_in}
+use Rattle.incr_compile.specs.Nodes.{CanJoin, IsNode, NodeOf, whole_size}
+use Rattle.incr_compile.specs.Trees.{IsMemberRule, IsOnce, IsTree, TreeOf, branch, has_member, leaf, made_in, tree_size}
 use Rattle.incr_compile.proofs.Scratch.{size-is}
 use Rattle.incr_compile.proofs.Told.{come-rules}
 use Rattle.incr_compile.proofs.TreeLemmas.{of-items, tree-fit}
@@ -159,6 +158,7 @@ named-by op i a b = ap (list_any (λ j. i == j)) (members-by op a b) ∙ both (m
     either : (x y z : Bool) → (x || (y || z)) ≡ ((x || y) || z)
     either true y z = refl
     either false y z = refl
+
     both : (xs ys : List ℕ) → list_any (λ j. i == j) (xs ++ ys) ≡ (list_any (λ j. i == j) xs || list_any (λ j. i == j) ys)
     both [] ys = refl
     both (x ∷ xs) ys = ap (λ z. (i == x) || z) (both xs ys) ∙ either (i == x) (list_any (λ j. i == j) xs) (list_any (λ j. i == j) ys)

@@ -1,13 +1,12 @@
 -- A node carries a change of an operand on.
-use Rattle.std.proofs.Common.{◌≡◌, ℕ, ◌+◌, ◌<◌, ◌≤◌, ◌^◌, Bool, true, false, not, List, [], ◌∷◌, ◌++◌, map, refl, sym, ap, subst, ◌∙◌}
+use Rattle.std.proofs.Common.{◌≡◌, ℕ, ◌+◌, ◌<◌, ◌≤◌, ◌^◌, not, List, [], ◌∷◌, ◌++◌, map, refl, sym, ap, subst, ◌∙◌}
 use Rattle.std.specs.Prelude.{IsPermutation, filter}
 use Rattle.std.specs.List.{All, AllByRecursion}
-use Rattle.std.proofs.lemmas.List.Sorted.{IsPermutation-filter_both, IsPermutation-sym, IsPermutation-trans}
+use Rattle.std.proofs.lemmas.List.Sorted.{IsPermutation-filter_both, IsPermutation-trans}
 use Rattle.list_change.specs.Pairing.{by_left, by_right}
 use Rattle.op_compose.specs.Composition.{alone_level, joined_level}
 use Rattle.op_compose.specs.declared.op.Side.TheVariants.{Left, Right}
 use Rattle.policy_meaning.specs.declared.rule.Rule.{Rule}
-use Rattle.policy_meaning.proofs.Lists.{all-append, all-map}
 use Rattle.rule_ancestry.specs.Holding.{Held, id_of, is_outside, item_of}
 use Rattle.made_rules.specs.Changing.{AreHeld, ChangeOf, IsReady, is_of, settled, wide_of}
 use Rattle.made_rules.specs.Rules.{is_held_of, is_made_of, rules_in}
@@ -90,16 +89,18 @@ module _ (n : NodeOf) (before now after rights : List (Held Made)) (below : Chan
   left-carried new lost fresh origins gone up u g o e f =
       let p = is_made_of (map left_origin below.gone) in
       let e' : lost ≡ map id_of (filter (λ h. p h.item) n.made) = subst (λ z. lost ≡ map id_of (filter (is_held_of z) n.made)) (o ∙ ap (map left_origin) g) e in
-      let f' = subst (λ z. IsPermutation fresh (by_left (held_way n.op n.size) z (rules_in rights))) come-is f in
-      (settled u, record {
-        lost = lost;
-        fresh = fresh;
-        ready = u;
-        after_is = refl;
-        made_are = IsPermutation-trans _ _ _ (settled-items n.made new lost fresh up u p e')
-            (whole-left n.op n.size below.gone (map item_of n.made) fresh (rules_in before) (rules_in after) (rules_in l.ready.coming) (rules_in rights) l.node.made_are f'
-            (after-rules before now after l.lost l.fresh below l.ready l.after_is));
-      })
+      let f' = subst (λ z. IsPermutation fresh (by_left (held_way n.op n.size) z (rules_in rights))) come-is f in (
+        settled u,
+        record {
+          lost = lost;
+          fresh = fresh;
+          ready = u;
+          after_is = refl;
+          made_are = IsPermutation-trans _ _ _ (settled-items n.made new lost fresh up u p e')
+              (whole-left n.op n.size below.gone (map item_of n.made) fresh (rules_in before) (rules_in after) (rules_in l.ready.coming) (rules_in rights) l.node.made_are f'
+              (after-rules before now after l.lost l.fresh below l.ready l.after_is));
+        },
+      )
 
 module _ (n : NodeOf) (before now after lefts : List (Held Made)) (below : ChangeOf) (l : RightChanges n before now after lefts below) (come : List (Held Rule))
     (c : (items rest : List (Held Made)) → map id_of items ≡ below.come → IsPermutation now (items ++ rest) → come ≡ rules_in items) where
@@ -130,13 +131,15 @@ module _ (n : NodeOf) (before now after lefts : List (Held Made)) (below : Chang
   right-carried new lost fresh origins gone up u g o e f =
       let p = is_made_of (map right_origin below.gone) in
       let e' : lost ≡ map id_of (filter (λ h. p h.item) n.made) = subst (λ z. lost ≡ map id_of (filter (is_held_of z) n.made)) (o ∙ ap (map right_origin) g) e in
-      let f' = subst (λ z. IsPermutation fresh (by_right (held_way n.op n.size) (rules_in lefts) z)) come-right f in
-      (settled u, record {
-        lost = lost;
-        fresh = fresh;
-        ready = u;
-        after_is = refl;
-        made_are = IsPermutation-trans _ _ _ (settled-items n.made new lost fresh up u p e')
-            (whole-right n.op n.size below.gone (map item_of n.made) fresh (rules_in lefts) (rules_in before) (rules_in after) (rules_in l.ready.coming) l.node.made_are f'
-            (after-rules before now after l.lost l.fresh below l.ready l.after_is));
-      })
+      let f' = subst (λ z. IsPermutation fresh (by_right (held_way n.op n.size) (rules_in lefts) z)) come-right f in (
+        settled u,
+        record {
+          lost = lost;
+          fresh = fresh;
+          ready = u;
+          after_is = refl;
+          made_are = IsPermutation-trans _ _ _ (settled-items n.made new lost fresh up u p e')
+              (whole-right n.op n.size below.gone (map item_of n.made) fresh (rules_in lefts) (rules_in before) (rules_in after) (rules_in l.ready.coming) l.node.made_are f'
+              (after-rules before now after l.lost l.fresh below l.ready l.after_is));
+        },
+      )

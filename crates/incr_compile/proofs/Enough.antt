@@ -9,7 +9,7 @@ use Rattle.std.proofs.lemmas.List.Recursion.{is_count_by}
 use Rattle.std.proofs.lemmas.List.Sums.{sum_by_more, sum_by_more_le}
 use Rattle.std.proofs.lemmas.List.Sorted.{All-permutation, IsPermutation-append_left, IsPermutation-append_right, IsPermutation-sym, IsPermutation-trans, length_permutation}
 use Rattle.of10_match.specs.Fields.{MatchOf}
-use Rattle.of10_match.specs.Matching.{both, overlaps}
+use Rattle.of10_match.specs.Matching.{both}
 use Rattle.of10_match.specs.Ranges.{IsMatch}
 use Rattle.of10_match.proofs.Commuting.{overlaps-comm}
 use Rattle.of10_actions.specs.declared.effects.Tail.{Tail}

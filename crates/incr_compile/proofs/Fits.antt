@@ -1,23 +1,19 @@
 -- Levels and matches of what operators make fit where those of their operands do.
-use Rattle.std.proofs.Common.{◌≡◌, ◌≢◌, ℕ, ◌+◌, ◌*◌, ◌<◌, ◌≤◌, ◌^◌, Bool, true, false, List, [], ◌∷◌, ◌++◌, Option, Some, None, map, refl, sym, ap, subst, ◌∙◌, arith}
-use Rattle.std.specs.Prelude.{IsPermutation, filter_map, flat_map, if◌then◌else◌, option_map}
+use Rattle.std.proofs.Common.{◌≡◌, ◌≢◌, ℕ, ◌*◌, ◌<◌, ◌≤◌, ◌^◌, Bool, true, false, List, [], ◌∷◌, Option, Some, None, map, refl, sym, subst, arith}
+use Rattle.std.specs.Prelude.{IsPermutation, filter_map, option_map}
 use Rattle.std.specs.List.{All, AllByRecursion}
 use Rattle.std.proofs.lemmas.List.Elements.{All-from_recursion}
 use Rattle.std.proofs.lemmas.List.Sorted.{IsPermutation-sym}
 use Rattle.std.proofs.Math.Nat.{mul-le-mul_right}
 use Rattle.alg_priority.specs.Levels.{concat_level, shift_level}
 use Rattle.list_change.specs.Pairing.{made}
-use Rattle.of10_actions.specs.Fields.{RewriteOf}
 use Rattle.of10_actions.specs.declared.effects.Tail.{Tail}
 use Rattle.of10_actions.specs.declared.effects.Tail.TheVariants.{Nothing, Pass, Link}
-use Rattle.of10_match.specs.Fields.{MatchOf}
-use Rattle.of10_match.specs.Matching.{both, overlaps}
 use Rattle.of10_match.proofs.Both.{IsMatch-both}
 use Rattle.of10_match.proofs.NormalMeet.{IsNormal-both}
 use Rattle.op_compose.specs.Composition.{alone_level, joined, joined_level, passed}
 use Rattle.op_compose.specs.declared.op.Op.{Op}
 use Rattle.op_compose.specs.declared.op.Op.TheVariants.{Par, Seq, Over, Hop}
-use Rattle.op_compose.specs.declared.op.Side.{Side}
 use Rattle.op_compose.specs.declared.op.Side.TheVariants.{Left, Right}
 use Rattle.policy_meaning.specs.Rules.{chained, lifted, summed}
 use Rattle.policy_meaning.specs.declared.rule.Rule.{Rule}
@@ -29,7 +25,7 @@ use Rattle.policy_meaning.proofs.Sums.{below-size}
 use Rattle.pull_back.specs.Pulling.{pulled}
 use Rattle.pull_back.proofs.Normality.{normal-pulled}
 use Rattle.rule_ancestry.specs.Holding.{Held, item_of}
-use Rattle.made_rules.specs.Rules.{rule_held, rules_in}
+use Rattle.made_rules.specs.Rules.{rules_in}
 use Rattle.made_rules.specs.declared.made.Made.{Made}
 use Rattle.incr_compile.specs.Nodes.{AreFit, IsFit, NodeOf, SizesFit, made_by, whole_size}
 use Rattle.incr_compile.specs.Sound.{AreSound, IsSound}

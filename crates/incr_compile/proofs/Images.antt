@@ -1,6 +1,6 @@
 -- Matches that a rewrite's image doesn't overlap hold no header after the rewrite.
 use Rattle.std.proofs.Common.{◌≡◌, ℕ, Bool, true, false, ◌&&◌, Option, Some, None, refl, sym, ap, ◌∙◌}
-use Rattle.std.specs.Prelude.{IfSome, if◌then◌else◌}
+use Rattle.std.specs.Prelude.{if◌then◌else◌}
 use Rattle.std.specs.Option.{option_and_then}
 use Rattle.std.proofs.lemmas.Bool.{false≢true}
 use Rattle.std.proofs.Math.Bool.{and-true}
@@ -12,13 +12,12 @@ use Rattle.of10_match.proofs.Both.{IsMatch-both}
 use Rattle.of10_match.proofs.Holding.{holds-both}
 use Rattle.of10_match.proofs.MeetSelf.{overlaps_self}
 use Rattle.of10_match.proofs.Overlapping.{overlaps_exact}
-use Rattle.of10_match.proofs.Twelve.{and-false, and-first, and-second}
+use Rattle.of10_match.proofs.Twelve.{and-first, and-second}
 use Rattle.of10_actions.specs.Fields.{RewriteOf}
 use Rattle.of10_actions.specs.Rewriting.{apply}
 use Rattle.pull_back.specs.Pulling.{can_pull, image, pull, pulled, sets_nw, sets_tp}
 use Rattle.pull_back.proofs.Exactness.{image_holds, kept, pull_is_exact}
 use Rattle.policy_meaning.specs.Hops.{without_port}
-use Rattle.policy_meaning.proofs.Normality.{normal-without_port}
 
 -- a pull asks for no other values than the match
 pub in-range : (r : RewriteOf) (n : MatchOf) → IsMatch n → IsMatch (pulled r n)

@@ -1,29 +1,28 @@
 -- The rules of a tree are those of its expression from scratch.
-use Rattle.std.proofs.Common.{◌≡◌, ◌≢◌, ℕ, ◌==◌, Bool, true, false, not, cond, ◌||◌, ◌&&◌, List, [], ◌∷◌, ◌++◌, inl, inr, map, refl, sym, ap, subst, ◌∙◌}
-use Rattle.std.specs.Prelude.{IsPermutation, filter, flat_map}
+use Rattle.std.proofs.Common.{◌≡◌, ◌≢◌, ℕ, ◌==◌, Bool, true, false, not, cond, ◌||◌, List, [], ◌∷◌, ◌++◌, inl, inr, map, refl, sym, ap, subst, ◌∙◌}
+use Rattle.std.specs.Prelude.{IsPermutation, filter}
 use Rattle.std.specs.List.{AllByRecursion, list_any}
 use Rattle.std.proofs.lemmas.Bool.{cases_eq}
 use Rattle.std.proofs.lemmas.List.{map-append}
-use Rattle.std.proofs.lemmas.List.Sorted.{IsPermutation-append_right, IsPermutation-map, IsPermutation-sym, IsPermutation-trans}
+use Rattle.std.proofs.lemmas.List.Sorted.{IsPermutation-append_right, IsPermutation-map, IsPermutation-trans}
 use Rattle.list_change.specs.Pairing.{made}
 use Rattle.list_change.proofs.Kept.{permuted-filter}
 use Rattle.list_change.proofs.Permute.{by-equation}
 use Rattle.cv_io.specs.declared.leaf.Leaf.{Leaf}
 use Rattle.op_compose.specs.declared.op.Op.{Op}
 use Rattle.op_compose.specs.declared.op.Op.TheVariants.{Par, Seq, Over, Hop}
-use Rattle.policy_expr.specs.Policy.{Policy, member, parallel, sequential, override}
+use Rattle.policy_expr.specs.Policy.{Policy, member}
 use Rattle.policy_expr.specs.Sizes.{size_of}
 use Rattle.policy_meaning.specs.Rules.{rules_of}
 use Rattle.policy_meaning.specs.declared.rule.Rule.{Rule}
 use Rattle.rule_ancestry.specs.Holding.{Held, item_of}
 use Rattle.rule_ancestry.proofs.StoreLemmas.{eq-other, eq-same}
-use Rattle.made_rules.specs.Rules.{is_made_of, is_one_of, rule_held, rule_of, rules_in}
+use Rattle.made_rules.specs.Rules.{is_one_of, rule_of, rules_in}
 use Rattle.made_rules.specs.declared.made.Made.{Made}
-use Rattle.made_rules.specs.declared.made.Origin.{Origin}
 use Rattle.made_rules.specs.declared.made.Origin.TheVariants.{Leaf as OfLeaf}
 use Rattle.incr_compile.specs.Compiling.{Asks, IsOf, MemberChanges, composed_by, is_apart_from, policy_in, rules_after, rules_at, rules_held, same_leaf}
-use Rattle.incr_compile.specs.Nodes.{IsNode, NodeOf, SizesFit, whole_size}
-use Rattle.incr_compile.specs.Trees.{Changes, IsBranch, IsMemberRule, IsTree, TreeOf, branch, changed_by, has_member, leaf, made_in, tree_size}
+use Rattle.incr_compile.specs.Nodes.{IsNode, NodeOf, whole_size}
+use Rattle.incr_compile.specs.Trees.{Changes, IsMemberRule, IsTree, TreeOf, branch, changed_by, leaf, made_in, tree_size}
 use Rattle.incr_compile.specs.Ways.{is_not_of, way, without_ids}
 use Rattle.incr_compile.specs.declared.compiled.LeafDelta.{LeafDelta}
 use Rattle.incr_compile.specs.declared.tree.MemberChange.{MemberChange}
@@ -101,6 +100,7 @@ kept-rules leaves size (h ∷ hs) a =
   where
     rest : List Made
     rest = filter (is_not_of (map (λ l. OfLeaf l) leaves)) (map item_of hs)
+
     at : (b : Bool) (ms : List Made) → map rule_of (cond b (h.item ∷ ms) ms) ≡ cond b (h.item.rule ∷ map rule_of ms) (map rule_of ms)
     at true ms = refl
     at false ms = refl
@@ -119,19 +119,21 @@ permuted-after delta xs ys p = IsPermutation-append_right delta.come _ _ (permut
 
 pub changed-of : (delta : LeafDelta) (asked : MemberChange) (sizes : ℕ → ℕ) (rules rules' : ℕ → List Rule) → Asks delta asked → MemberChanges delta rules rules' →
     (t u : TreeOf) → IsTree t → Changes asked t u → IsOf sizes rules t → IsOf sizes rules' u
-changed-of delta asked sizes rules rules' k m (leaf i s before) (leaf j z after) t c f =
-    (c.1 ∙ f.0 ∙ ap sizes (sym c.0), subst (λ (x : ℕ). IsPermutation (rules_held after) (rules' x)) (sym c.0) (elim (cases_eq i delta.member) [
-      | inl e ↦
-          let same : (asked.member == i) ≡ true = eq-same asked.member i (e ∙ sym k.member) in
-          let p = subst (λ b. IsPermutation (map item_of after) (cond b (changed_by asked (map item_of before)) (map item_of before))) same c.2 in
-          subst (λ (x : ℕ). IsPermutation (rules_held after) (rules' x)) (sym e)
-          (IsPermutation-trans _ _ _ (changed-rules delta asked s before after k t.rules p)
-          (IsPermutation-trans _ _ _ (permuted-after delta (rules_held before) (rules delta.member) (subst (λ (x : ℕ). IsPermutation (rules_held before) (rules x)) e f.1)) m.changed))
-      | inr n ↦
-          let other : (asked.member == i) ≡ false = eq-other asked.member i (λ e. n (e ∙ k.member)) in
-          let p = subst (λ b. IsPermutation (map item_of after) (cond b (changed_by asked (map item_of before)) (map item_of before))) other c.2 in
-          IsPermutation-trans _ _ _ (IsPermutation-map rule_of _ _ p) (subst (λ z. IsPermutation (rules_held before) z) (sym (m.others i n)) f.1)
-    ]))
+changed-of delta asked sizes rules rules' k m (leaf i s before) (leaf j z after) t c f = (
+  c.1 ∙ f.0 ∙ ap sizes (sym c.0),
+  subst (λ (x : ℕ). IsPermutation (rules_held after) (rules' x)) (sym c.0) (elim (cases_eq i delta.member) [
+    | inl e ↦
+        let same : (asked.member == i) ≡ true = eq-same asked.member i (e ∙ sym k.member) in
+        let p = subst (λ b. IsPermutation (map item_of after) (cond b (changed_by asked (map item_of before)) (map item_of before))) same c.2 in
+        subst (λ (x : ℕ). IsPermutation (rules_held after) (rules' x)) (sym e)
+        (IsPermutation-trans _ _ _ (changed-rules delta asked s before after k t.rules p)
+        (IsPermutation-trans _ _ _ (permuted-after delta (rules_held before) (rules delta.member) (subst (λ (x : ℕ). IsPermutation (rules_held before) (rules x)) e f.1)) m.changed))
+    | inr n ↦
+        let other : (asked.member == i) ≡ false = eq-other asked.member i (λ e. n (e ∙ k.member)) in
+        let p = subst (λ b. IsPermutation (map item_of after) (cond b (changed_by asked (map item_of before)) (map item_of before))) other c.2 in
+        IsPermutation-trans _ _ _ (IsPermutation-map rule_of _ _ p) (subst (λ z. IsPermutation (rules_held before) z) (sym (m.others i n)) f.1)
+  ]),
+)
 changed-of delta asked sizes rules rules' k m (branch n l r) (branch o l' r') (tl, tr, b) c f =
     (changed-of delta asked sizes rules rules' k m l l' tl c.2 f.0, changed-of delta asked sizes rules rules' k m r r' tr c.3 f.1)
 changed-of delta asked sizes rules rules' k m (leaf i s before) (branch o l' r') t c f = absurd c

@@ -1,11 +1,11 @@
 -- What an index shows of an operand.
-use Rattle.std.proofs.Common.{◌≡◌, ℕ, ◌+◌, ◌<◌, ◌≤◌, ◌==◌, Bool, true, false, not, cond, ◌||◌, ◌&&◌, List, [], ◌∷◌, ◌++◌, Option, Some, None, length, get_or, take, drop, map, inl, inr, refl, sym, ap, subst, ◌∙◌, arith, append_assoc}
+use Rattle.std.proofs.Common.{◌≡◌, ℕ, ◌+◌, ◌<◌, ◌==◌, Bool, true, false, not, cond, ◌||◌, ◌&&◌, List, [], ◌∷◌, ◌++◌, Option, Some, None, length, get_or, take, drop, map, inl, inr, refl, sym, ap, subst, ◌∙◌, append_assoc}
 use Rattle.std.specs.Prelude.{IsPermutation, filter, filter_map, find, option_map, option_to_list}
-use Rattle.std.specs.List.{AllByRecursion, IsDistinct, cons_option, list_any}
+use Rattle.std.specs.List.{AllByRecursion, IsDistinct, list_any}
 use Rattle.std.proofs.lemmas.Bool.{cases_eq}
-use Rattle.std.proofs.lemmas.List.{append-nil, drop_more, map-append, take_more}
+use Rattle.std.proofs.lemmas.List.{drop_more, map-append, take_more}
 use Rattle.std.proofs.lemmas.List.Elements.{filter_map-append}
-use Rattle.std.proofs.lemmas.List.Sorted.{IsPermutation-append_comm, IsPermutation-append_left, IsPermutation-append_right, IsPermutation-map, IsPermutation-sym, IsPermutation-trans}
+use Rattle.std.proofs.lemmas.List.Sorted.{IsPermutation-append_comm, IsPermutation-append_right, IsPermutation-map, IsPermutation-sym, IsPermutation-trans}
 use Rattle.std.proofs.lemmas.Map.Keys.{IsDistinct-IsPermutation, IsDistinct-head, IsDistinct-tail}
 use Rattle.list_change.proofs.Kept.{filter-right_one, permuted-filter}
 use Rattle.list_change.proofs.Permute.{by-equation, permuted-filter_map}
@@ -20,11 +20,10 @@ use Rattle.rule_ancestry.proofs.StoreLemmas.{eq-other, eq-same}
 use Rattle.made_rules.specs.Changing.{ChangeOf, IsReady, settled, was_of, wide_of}
 use Rattle.made_rules.specs.Rules.{rule_held, rule_under, rules_in}
 use Rattle.made_rules.specs.declared.made.Made.{Made}
-use Rattle.made_rules.proofs.Changes.{front, olds-more, second-front}
-use Rattle.made_rules.proofs.Ids.{OneEach, Rising, one-each, without-all}
+use Rattle.made_rules.proofs.Changes.{olds-more, second-front}
+use Rattle.made_rules.proofs.Ids.{OneEach, Rising, one-each}
 use Rattle.incr_compile.specs.Candidates.{item_for, shown}
 use Rattle.incr_compile.specs.Showing.{AreClear, is_clear_of, rule_at}
-use Rattle.incr_compile.proofs.Shares.{filter-rules}
 use Rattle.incr_compile.proofs.Whole.{settled-rules}
 
 flips : (i j : ℕ) → (i == j) ≡ (j == i)
@@ -234,9 +233,11 @@ apart-ids {R} (x ∷ xs) ys d =
     unheld : (hs : List (Held R)) → AllByRecursion (λ j. (x.id == j) ≡ false) (map id_of hs) → AllByRecursion (λ (h : Held R). (h.id == x.id) ≡ false) hs
     unheld [] a = tt
     unheld (h ∷ hs) a = (flips h.id x.id ∙ a.0, unheld hs a.1)
+
     later : (zs : List (Held R)) → AllByRecursion (λ j. (x.id == j) ≡ false) (map id_of (zs ++ ys)) → AllByRecursion (λ (h : Held R). (h.id == x.id) ≡ false) ys
     later [] a = unheld ys a
     later (z ∷ zs) a = later zs a.1
+
     both : (hs : List (Held R)) → AllByRecursion (λ (h : Held R). (h.id == x.id) ≡ false) hs → AllByRecursion (λ (h : Held R). list_any (λ j. h.id == j) (map id_of xs) ≡ false) hs →
         AllByRecursion (λ (h : Held R). list_any (λ j. h.id == j) (x.id ∷ map id_of xs) ≡ false) hs
     both [] a b = tt

@@ -1,9 +1,8 @@
 -- What is told of a change, and what may be asked of a tree.
-use Rattle.std.proofs.Common.{◌≡◌, ℕ, zero, suc, ◌+◌, ◌<◌, ◌≤◌, ◌==◌, Bool, true, false, cond, ◌||◌, List, [], ◌∷◌, ◌++◌, length, map, refl, sym, ap, subst, ◌∙◌, arith}
+use Rattle.std.proofs.Common.{◌≡◌, ℕ, zero, suc, ◌<◌, ◌==◌, Bool, true, false, ◌||◌, List, [], ◌∷◌, ◌++◌, length, map, refl, sym, ap, subst, ◌∙◌, arith}
 use Rattle.std.specs.Prelude.{Contains, IsPermutation, if◌then◌else◌}
 use Rattle.std.specs.List.{AllByRecursion}
 use Rattle.std.proofs.lemmas.Grind.{common_steps}
-use Rattle.std.proofs.lemmas.List.{map-append}
 use Rattle.std.proofs.lemmas.List.Sorted.{IsPermutation-map, IsPermutation-trans}
 use Rattle.list_change.specs.Changes.{Apart, Changed}
 use Rattle.list_change.proofs.Permute.{by-equation}
@@ -16,8 +15,8 @@ use Rattle.made_rules.specs.Rules.{rule_of}
 use Rattle.made_rules.specs.declared.made.Made.{Made}
 use Rattle.made_rules.specs.declared.stay.Stay.{Stay}
 use Rattle.made_rules.proofs.Changes.{front, length-map}
-use Rattle.incr_compile.specs.Compiling.{Asks, IsByLeaves, IsMemberDelta, member_size, rules_at, rules_held}
-use Rattle.incr_compile.specs.Trees.{CanChange, Changes, ComesFit, IsMemberRule, IsOnce, IsTree, TreeOf, branch, has_member, leaf, made_in}
+use Rattle.incr_compile.specs.Compiling.{Asks, IsByLeaves, IsMemberDelta, member_size, rules_held}
+use Rattle.incr_compile.specs.Trees.{CanChange, Changes, ComesFit, IsMemberRule, IsOnce, IsTree, TreeOf, branch, has_member, leaf}
 use Rattle.incr_compile.specs.declared.compiled.LeafDelta.{LeafDelta}
 use Rattle.incr_compile.specs.declared.tree.MemberChange.{MemberChange}
 use Rattle.incr_compile.proofs.TreeLemmas.{or-left}
@@ -74,6 +73,7 @@ absent-fit asked (branch n l r) e = (absent-fit asked l (first _ _ e), absent-fi
     first : (a b : Bool) → (a || b) ≡ false → a ≡ false
     first true b f = f
     first false b f = refl
+
     second : (a b : Bool) → (a || b) ≡ false → b ≡ false
     second true b f = absurd (cc)
     second false b f = f

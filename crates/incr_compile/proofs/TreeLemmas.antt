@@ -1,8 +1,8 @@
 -- A tree in which a change is ready, and what it is once it is settled.
-use Rattle.std.proofs.Common.{◌≡◌, ◌≢◌, ℕ, ◌==◌, ◌<◌, ◌≤◌, ◌^◌, Bool, true, false, not, cond, ◌||◌, List, [], ◌∷◌, ◌++◌, Option, Some, None, length, map, refl, sym, ap, subst, ◌∙◌}
-use Rattle.std.specs.Prelude.{IsPermutation, filter, filter_map, if◌then◌else◌}
+use Rattle.std.proofs.Common.{◌≡◌, ℕ, ◌<◌, ◌≤◌, ◌^◌, Bool, true, false, cond, ◌||◌, List, [], ◌∷◌, Option, Some, None, length, map, refl, sym, ap, subst, ◌∙◌}
+use Rattle.std.specs.Prelude.{IsPermutation, filter, filter_map}
 use Rattle.std.specs.List.{AllByRecursion}
-use Rattle.std.proofs.lemmas.List.Sorted.{IsPermutation-append_left, IsPermutation-append_right, IsPermutation-append, IsPermutation-map, IsPermutation-refl, IsPermutation-sym, IsPermutation-trans}
+use Rattle.std.proofs.lemmas.List.Sorted.{IsPermutation-append_left, IsPermutation-append_right, IsPermutation-append, IsPermutation-map, IsPermutation-sym, IsPermutation-trans}
 use Rattle.list_change.specs.Pairing.{Way, made}
 use Rattle.list_change.proofs.PairLemmas.{by_left-permuted, pairs-right_permuted}
 use Rattle.list_change.proofs.Permute.{by-equation, permuted-filter_map}
@@ -10,8 +10,7 @@ use Rattle.match_index.specs.declared.item.Item.{Item}
 use Rattle.op_compose.specs.declared.op.Op.{Op}
 use Rattle.op_compose.specs.declared.op.Side.{Side}
 use Rattle.op_compose.specs.declared.op.Side.TheVariants.{Left, Right}
-use Rattle.policy_meaning.specs.declared.rule.Rule.{Rule}
-use Rattle.policy_meaning.proofs.Lists.{all-append, all-map}
+use Rattle.policy_meaning.proofs.Lists.{all-append}
 use Rattle.policy_meaning.proofs.Rising.{all-permuted}
 use Rattle.rule_ancestry.specs.Holding.{Held, item_of}
 use Rattle.rule_ancestry.proofs.StoreLemmas.{eq-same}
@@ -19,15 +18,15 @@ use Rattle.made_rules.specs.Changing.{AreWide, ChangeOf, IsReady, settled}
 use Rattle.made_rules.specs.Rules.{rule_held, rules_in}
 use Rattle.made_rules.specs.declared.made.Made.{Made}
 use Rattle.incr_compile.specs.Candidates.{asked as asks, reach, shown}
-use Rattle.incr_compile.specs.Nodes.{AreFit, AreShown, IsCarried, IsFit, IsNode, LeftChanges, NodeOf, RightChanges, SizesFit, made_by, node_of, whole_size}
-use Rattle.incr_compile.specs.Trees.{CanCarryLeft, CanCarryRight, CanChange, Changes, ComesFit, Follows, FollowsBy, FollowsLeft, FollowsRight, IsBranch, IsLeaf, IsMemberRule, IsOnce, IsReadyIn, IsSettled, IsTree, IsUnderWay, TreeOf, branch, changed_by, has_member, leaf, made_in, tree_of, tree_size}
+use Rattle.incr_compile.specs.Nodes.{AreFit, IsCarried, LeftChanges, NodeOf, RightChanges, made_by, node_of, whole_size}
+use Rattle.incr_compile.specs.Trees.{CanChange, Changes, ComesFit, Follows, FollowsBy, FollowsLeft, FollowsRight, IsBranch, IsMemberRule, IsReadyIn, IsSettled, IsTree, TreeOf, branch, changed_by, has_member, leaf, made_in, tree_of, tree_size}
 use Rattle.incr_compile.specs.Ways.{held_way, is_not_of}
 use Rattle.incr_compile.specs.declared.node.Below.{Below}
 use Rattle.incr_compile.specs.declared.node.Node.{Node}
 use Rattle.incr_compile.specs.declared.tree.MemberChange.{MemberChange}
 use Rattle.incr_compile.specs.declared.tree.Tree.{Tree}
 use Rattle.incr_compile.specs.declared.tree.Tree.TheVariants.{Member, Operator'}
-use Rattle.incr_compile.proofs.Fits.{items-fit, node-fit}
+use Rattle.incr_compile.proofs.Fits.{node-fit}
 
 -- ---- permutations of operands
 pub made-left : {A B C : Type 0} (w : Way A B C) (xs zs : List A) (ys : List B) → IsPermutation xs zs → IsPermutation (made w xs ys) (made w zs ys)
@@ -46,7 +45,6 @@ pub tree-fit : (t : TreeOf) → IsTree t → AreFit (tree_size t) (rules_in (mad
 tree-fit (leaf i size made) t = leaf-fit size made t.rules
 tree-fit (branch n l r) (tl, tr, b) =
     node-fit n (tree_size l) (tree_size r) (rules_in (made_in l)) (rules_in (made_in r)) n.made b.sizes b.operator (tree-fit l tl) (tree-fit r tr) b.node.made_are
-
 
 -- ---- the change at a root
 pub record RootIsReady (before now : List (Held Made)) (change : ChangeOf) (after : List (Held Made)) : Type 0 where
@@ -119,6 +117,7 @@ changed-all P asked made c a = all-append P asked.come.items _ c (kept made a)
     at : (b : Bool) (m : Made) (ms : List Made) → P m → AllByRecursion P ms → AllByRecursion P (cond b (m ∷ ms) ms)
     at true m ms x xs = (x, xs)
     at false m ms x xs = xs
+
     kept : (ms : List Made) → AllByRecursion P ms → AllByRecursion P (filter (is_not_of asked.gone.items) ms)
     kept [] b = tt
     kept (m ∷ ms) b = at (is_not_of asked.gone.items m) m _ b.0 (kept ms b.1)

@@ -1,8 +1,7 @@
 -- A change that is under way in a tree: it is made ready, settled or taken back node by node.
-use Rattle.std.proofs.Common.{◌≡◌, ◌≢◌, ℕ, ◌==◌, ◌+◌, ◌<◌, ◌≤◌, Bool, true, false, not, cond, inl, inr, ◌||◌, List, [], ◌∷◌, ◌++◌, Option, Some, None, Result, Ok, Err, length, map, refl, sym, ap, subst, ◌∙◌, arith}
+use Rattle.std.proofs.Common.{◌≡◌, ℕ, ◌==◌, ◌+◌, ◌<◌, ◌≤◌, Bool, true, false, not, inl, inr, ◌||◌, List, ◌++◌, Some, None, Result, Ok, Err, length, map, refl, sym, ap, subst, ◌∙◌, arith}
 use Rattle.std.specs.Prelude.{IfOk, IsPermutation, OnOk, filter, filter_map}
 use Rattle.std.proofs.lemmas.Bool.{cases_eq}
-use Rattle.match_index.specs.declared.item.Item.{Item}
 use Rattle.op_compose.specs.declared.op.Op.{Op}
 use Rattle.op_compose.specs.declared.op.Side.{Side}
 use Rattle.op_compose.specs.declared.op.Side.TheVariants.{Left, Right}
@@ -14,8 +13,7 @@ use Rattle.made_rules.specs.declared.made.Made.{Made}
 use Rattle.made_rules.specs.declared.made.Origin.{Origin}
 use Rattle.incr_compile.specs.Candidates.{asked as asks, reach, shown}
 use Rattle.incr_compile.specs.Nodes.{IsCarried, LeftChanges, NodeOf, RightChanges, made_by, node_of}
-use Rattle.incr_compile.specs.Trees.{CanCarryLeft, CanCarryRight, CanChange, Follows, FollowsLeft, FollowsRight, IsReadyIn, IsSettled, IsUnderWay, TreeOf, branch, changed_by, has_member, leaf, made_in, tree_of}
-use Rattle.incr_compile.specs.declared.node.Below.{Below}
+use Rattle.incr_compile.specs.Trees.{CanCarryLeft, CanCarryRight, CanChange, Follows, FollowsLeft, FollowsRight, IsReadyIn, IsSettled, IsUnderWay, TreeOf, branch, has_member, leaf, made_in, tree_of}
 use Rattle.incr_compile.specs.declared.node.Node.{Node}
 use Rattle.incr_compile.specs.declared.tree.MemberChange.{MemberChange}
 use Rattle.incr_compile.specs.declared.tree.Tree.{Tree}
@@ -162,14 +160,21 @@ pub ready-member : (asked : MemberChange) (i s : ℕ) (before now : List (Held M
     fresh ≡ asked.come.items → origins ≡ asked.gone.items → lost ≡ map id_of (filter (is_held_of origins) before) → (after : List (Held Made)) × IsReadyIn asked (leaf i s before) (Member i s now) change after
 ready-member asked i s before now lost origins fresh change can r c o e =
     let p = is_made_of asked.gone.items in
-    let e' : lost ≡ map id_of (filter (λ h. p h.item) before) = subst (λ z. lost ≡ map id_of (filter (is_held_of z) before)) o e in
-    (settled r, (refl, refl, same-number asked.member i can.member, record {
-      lost = lost;
-      fresh = fresh;
-      ready = r;
-      after_is = refl;
-      made_are = subst (λ (z : List Made). IsPermutation (map item_of (settled r)) (z ++ filter (λ m. not (p m)) (map item_of before))) c (settled-items before now lost fresh change r p e');
-    }))
+    let e' : lost ≡ map id_of (filter (λ h. p h.item) before) = subst (λ z. lost ≡ map id_of (filter (is_held_of z) before)) o e in (
+      settled r,
+      (
+        refl,
+        refl,
+        same-number asked.member i can.member,
+        record {
+          lost = lost;
+          fresh = fresh;
+          ready = r;
+          after_is = refl;
+          made_are = subst (λ (z : List Made). IsPermutation (map item_of (settled r)) (z ++ filter (λ m. not (p m)) (map item_of before))) c (settled-items before now lost fresh change r p e');
+        },
+      ),
+    )
 
 -- ---- what is read of a place
 pub read-at : (below : ChangeOf) (P Q : List (Held Made) → Type 0) (y z : List (Held Made)) → y ≡ z →

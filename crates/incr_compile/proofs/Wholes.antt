@@ -1,9 +1,7 @@
 -- A node made of operands that are whole.
-use Rattle.std.proofs.Common.{◌≡◌, ℕ, ◌+◌, ◌<◌, ◌≤◌, ◌^◌, ◌==◌, List, [], ◌∷◌, ◌++◌, length, map, refl, sym, ap, subst, ◌∙◌, arith}
+use Rattle.std.proofs.Common.{◌≡◌, ℕ, ◌<◌, ◌^◌, ◌==◌, List, [], ◌∷◌, ◌++◌, length, map, refl, sym, ap, subst, ◌∙◌, arith}
 use Rattle.std.specs.Prelude.{IsPermutation, filter_map}
 use Rattle.std.specs.List.{All, AllByRecursion, IsDistinct}
-use Rattle.std.specs.List.Sorted.{IsStrictlySortedBy}
-use Rattle.std.specs.Ordering.{nat_cmp}
 use Rattle.std.proofs.lemmas.Grind.{common_steps}
 use Rattle.std.proofs.lemmas.List.{append-nil}
 use Rattle.std.proofs.lemmas.List.Elements.{All-from_recursion}
@@ -11,7 +9,6 @@ use Rattle.std.proofs.lemmas.List.Sorted.{IsPermutation-append, IsPermutation-ma
 use Rattle.list_change.specs.Pairing.{by_left, by_right, made}
 use Rattle.list_change.proofs.Permute.{by-equation}
 use Rattle.match_index.specs.declared.item.Item.{Item}
-use Rattle.of10_match.specs.Fields.{MatchOf}
 use Rattle.op_compose.specs.Composition.{alone_level, joined_level}
 use Rattle.op_compose.specs.declared.op.Op.{Op}
 use Rattle.op_compose.specs.declared.op.Op.TheVariants.{Par, Seq, Over, Hop}
@@ -23,7 +20,7 @@ use Rattle.made_rules.specs.Rules.{rules_in}
 use Rattle.made_rules.specs.declared.made.Made.{Made}
 use Rattle.made_rules.proofs.Ids.{Rising, one-each}
 use Rattle.incr_compile.specs.Candidates.{asked, reach, shown}
-use Rattle.incr_compile.specs.Nodes.{AreFit, CanJoin, IsFit, IsNode, NodeOf, SizesFit, made_by}
+use Rattle.incr_compile.specs.Nodes.{AreFit, CanJoin, IsFit, IsNode, NodeOf, SizesFit}
 use Rattle.incr_compile.specs.Showing.{AreClear}
 use Rattle.incr_compile.specs.Sound.{AreSound, IsSound}
 use Rattle.incr_compile.specs.Ways.{held_way}
@@ -92,7 +89,6 @@ module _ (op : Op) (size : ℕ) (lefts rights : List (Held Made)) (c : CanJoin o
 
   pub join-rights : AreSound (rules_in rights)
   join-rights = fit-sound c.right_size (rules_in rights) c.rights_fit
-
 
 pub both-made : (op : Op) (size : ℕ) (fresh alone new : List Made) (come : List (Held Rule)) (lefts rights : List (Held Made)) → come ≡ rules_in lefts → IsPermutation fresh (by_left (held_way op size) come (rules_in rights)) →
     IsPermutation alone (filter_map (held_way op size).other (rules_in rights)) → new ≡ fresh ++ alone → IsPermutation new (made (held_way op size) (rules_in lefts) (rules_in rights))

@@ -1,13 +1,13 @@
 -- A node of an operator: what it made of the rules of its operands, and how it finds those that could meet.
-use Rattle.std.specs.Prelude.{◌≡◌, ℕ, ◌==◌, ◌<◌, ◌^◌, List, IsPermutation, filter, filter_map, map}
-use Rattle.std.specs.List.{AllByRecursion, IsDistinct}
+use Rattle.std.specs.Prelude.{◌≡◌, ℕ, ◌<◌, ◌^◌, List, IsPermutation, filter_map, map}
+use Rattle.std.specs.List.{AllByRecursion}
 use Rattle.alg_priority.specs.Sizes.{sum_size, concat_size, shift_size}
 use Rattle.match_index.specs.declared.item.Item.{Item}
 use Rattle.op_compose.specs.declared.op.Op.{Op}
 use Rattle.op_compose.specs.declared.op.Op.TheVariants.{Par, Seq, Over, Hop}
 use Rattle.policy_meaning.specs.declared.rule.Rule.{Rule}
 use Rattle.rule_ancestry.specs.Holding.{Held, item_of}
-use Rattle.list_change.specs.Pairing.{by_left, by_right, made}
+use Rattle.list_change.specs.Pairing.{made}
 use Rattle.made_rules.specs.Changing.{ChangeOf, IsReady, settled}
 use Rattle.made_rules.specs.Rules.{rules_in}
 use Rattle.made_rules.specs.declared.made.Made.{Made}

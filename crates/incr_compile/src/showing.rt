@@ -105,7 +105,13 @@ fn hide(index: &mut Index, ids: &[usize])
 }
 
 /// Shows the rules of an operand as they are once its change is settled. This takes no memory.
-pub(crate) fn show_change(index: &mut Index, op: Op, side: Side, store: &Store<Made>, change: &Change)
+pub(crate) fn show_change(
+    index: &mut Index,
+    op: Op,
+    side: Side,
+    store: &Store<Made>,
+    change: &Change,
+)
     requires room { length change.now.come ≤ index.old.room }
     requires shown { (before : List (Held Made)) × (lost : _) × (fresh : List Made) × IsReady before store.now lost fresh change.now × IsPermutation index.old.items (filter_map (shown (shown_as op side)) (rules_in before)) }
     ensures { (before : List (Held Made)) → (lost : _) → (fresh : List Made) → (r : IsReady before store.now lost fresh change.now) → IsPermutation index.old.items (filter_map (shown (shown_as op side)) (rules_in before)) → IsPermutation index.new.items (filter_map (shown (shown_as op side)) (rules_in (settled r))) }

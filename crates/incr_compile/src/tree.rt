@@ -165,7 +165,12 @@ impl Tree {
         match self {
             Tree::Member { made, .. } => change.settle(made),
             Tree::Operator { node, left, right } => match node.below.take() {
-                Some(Below { side, change: below }) => match side {
+                Some(
+                    Below {
+                        side,
+                        change: below,
+                    },
+                ) => match side {
                     Side::Left => {
                         let gone = node.settle_left(left.made(), &below, change);
                         left.settle(below);
@@ -192,7 +197,12 @@ impl Tree {
             Tree::Operator { node, left, right } => {
                 change.undo(&mut node.made);
                 match node.below.take() {
-                    Some(Below { side, change: below }) => match side {
+                    Some(
+                        Below {
+                            side,
+                            change: below,
+                        },
+                    ) => match side {
                         Side::Left => left.undo(below),
                         Side::Right => right.undo(below),
                     },

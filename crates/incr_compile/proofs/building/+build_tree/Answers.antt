@@ -1,4 +1,4 @@
-use Rattle.std.proofs.Common.{rules, ◌≡◌, ◌<◌, ◌^◌, ap, arith, refl, subst, sym, ◌∙◌}
+use Rattle.std.proofs.Common.{rules, ◌≡◌, ◌<◌, ◌^◌, ap, arith, subst, sym, ◌∙◌}
 use Rattle.alg_priority.specs.Levels.{capped}
 use Rattle.op_compose.specs.declared.op.Op.TheVariants.{Par, Seq, Over}
 use Rattle.policy_expr.specs.Policy.{override, parallel, policy_of, sequential}

@@ -1,4 +1,4 @@
-use Rattle.std.proofs.Common.{◌+◌, arith}
+use Rattle.std.proofs.Common.{◌+◌}
 use Rattle.std.specs.Prelude.{count_by}
 use Rattle.policy_meaning.specs.declared.rule.Rule.{Rule}
 use Rattle.rule_ancestry.specs.Holding.{Held}

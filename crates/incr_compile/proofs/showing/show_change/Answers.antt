@@ -1,4 +1,4 @@
-use Rattle.std.proofs.Common.{◌==◌, ap, subst, sym, ◌∙◌}
+use Rattle.std.proofs.Common.{◌==◌, subst, sym, ◌∙◌}
 use Rattle.std.specs.Prelude.{IsPermutation, filter}
 use Rattle.std.specs.List.{IsDistinct}
 use Rattle.incr_compile.specs.Showing.{AreClear, is_clear_of, shown_as}

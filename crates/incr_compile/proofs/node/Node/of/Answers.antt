@@ -1,5 +1,4 @@
 use Rattle.std.proofs.Common.{refl}
-use Rattle.incr_compile.specs.Nodes.{node_of}
 use Rattle.incr_compile.proofs.Wholes.{kept-all, whole-node}
 use Rattle.incr_compile.proofs.node.Node.of.Goals as goal
 

@@ -1,13 +1,6 @@
-use Rattle.std.proofs.Common.{rules, ap, refl, subst, sym, ◌≡◌, ◌∙◌, List, ℕ, Some}
-use Rattle.std.specs.Prelude.{IsPermutation, filter_map}
-use Rattle.rule_ancestry.specs.Holding.{Held}
-use Rattle.made_rules.specs.Changing.{IsReady}
-use Rattle.made_rules.specs.Rules.{rules_in}
-use Rattle.made_rules.specs.declared.made.Made.{Made}
-use Rattle.incr_compile.specs.Candidates.{asked as asks, reach, shown}
+use Rattle.std.proofs.Common.{rules, ap, refl, subst, sym, ◌∙◌}
 use Rattle.incr_compile.specs.Nodes.{node_of}
-use Rattle.incr_compile.specs.Trees.{IsReadyIn, IsUnderWay, made_in, tree_of}
-use Rattle.incr_compile.specs.declared.tree.Tree.TheVariants.{Member}
+use Rattle.incr_compile.specs.Trees.{IsReadyIn, IsUnderWay, tree_of}
 use Rattle.incr_compile.proofs.TreeSteps.{left-smaller, right-smaller, left-by, none-below, right-by, under-wide, undone-left-by, undone-member, undone-right-by}
 use Rattle.incr_compile.proofs.tree.Tree.+undo.Goals as goal
 
