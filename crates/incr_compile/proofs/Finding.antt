@@ -1,0 +1,77 @@
+-- What is found in an index that shows rules.
+use Rattle.std.proofs.Common.{◌≡◌, ℕ, Bool, true, false, not, cond, List, [], ◌∷◌, ◌++◌, Option, Some, None, map, refl, sym, ap, ◌∙◌}
+use Rattle.std.specs.Prelude.{IsPermutation, filter, filter_map, option_map}
+use Rattle.std.specs.List.{cons_option}
+use Rattle.std.proofs.lemmas.List.Sorted.{IsPermutation-append_left, IsPermutation-filter_both, IsPermutation-map, IsPermutation-sym, IsPermutation-trans}
+use Rattle.of10_match.specs.Fields.{MatchOf}
+use Rattle.of10_match.specs.Matching.{overlaps}
+use Rattle.match_index.specs.Items.{ids_of}
+use Rattle.match_index.specs.Questions.{is_meeting}
+use Rattle.match_index.specs.declared.item.Item.{Item}
+use Rattle.list_change.proofs.Kept.{permuted-filter}
+use Rattle.list_change.proofs.Permute.{by-cases, by-equation}
+use Rattle.policy_meaning.specs.declared.rule.Rule.{Rule}
+use Rattle.rule_ancestry.specs.Holding.{Held, id_of}
+use Rattle.made_rules.specs.Rules.{rule_held, rules_in}
+use Rattle.made_rules.specs.declared.made.Made.{Made}
+use Rattle.made_rules.proofs.Changes.{lift}
+use Rattle.incr_compile.specs.Candidates.{both_overlap, is_found, item_for, overlapping, shown}
+
+module _ (by : Rule → Option MatchOf) where
+  found-one : (m : MatchOf) (id : ℕ) (o : Option MatchOf) (items : List Item) (ids : List ℕ) → ids_of (is_meeting m) items ≡ ids →
+      ids_of (is_meeting m) (cons_option (option_map (item_for id) o) items) ≡ cond (both_overlap (Some m) o) (id ∷ ids) ids
+  found-one m id None items ids e = e
+  found-one m id (Some n) items ids e = at (overlaps m n)
+    where
+      at : (b : Bool) → map (λ (i : Item). i.id) (cond b (item_for id n ∷ filter (is_meeting m) items) (filter (is_meeting m) items)) ≡ cond b (id ∷ ids) ids
+      at true = ap (λ z. id ∷ z) e
+      at false = e
+
+  ids-kept : (b : Bool) (h : Held Rule) (hs : List (Held Rule)) → map id_of (cond b (h ∷ hs) hs) ≡ cond b (h.id ∷ map id_of hs) (map id_of hs)
+  ids-kept true h hs = refl
+  ids-kept false h hs = refl
+
+  found-some : (m : MatchOf) (hs : List (Held Rule)) → ids_of (is_meeting m) (filter_map (shown by) hs) ≡ map id_of (filter (is_found (Some m) by) hs)
+  found-some m [] = refl
+  found-some m (h ∷ hs) =
+      found-one m h.id (by h.item) (filter_map (shown by) hs) (map id_of (filter (is_found (Some m) by) hs)) (found-some m hs)
+      ∙ sym (ids-kept (is_found (Some m) by h) h (filter (is_found (Some m) by) hs))
+
+  found-none : (hs : List (Held Rule)) → filter (is_found None by) hs ≡ []
+  found-none [] = refl
+  found-none (h ∷ hs) = found-none hs
+
+  -- the ids that overlap are those of the rules that are found
+  found-ids : (m : Option MatchOf) (items : List Item) (hs : List (Held Rule)) → IsPermutation items (filter_map (shown by) hs) → IsPermutation (overlapping m items) (map id_of (filter (is_found m by) hs))
+  found-ids None items hs p = by-equation _ _ (sym (ap (map id_of) (found-none hs)))
+  found-ids (Some m) items hs p =
+      IsPermutation-trans _ _ _ (IsPermutation-map (λ (i : Item). i.id) _ _ (permuted-filter (is_meeting m) items (filter_map (shown by) hs) p)) (by-equation _ _ (found-some m hs))
+
+  kept-one : (b : Bool) (h : Held Made) (hs : List (Held Made)) → rules_in (cond b (h ∷ hs) hs) ≡ cond b (rule_held h ∷ rules_in hs) (rules_in hs)
+  kept-one true h hs = refl
+  kept-one false h hs = refl
+
+  kept-rules : (m : Option MatchOf) (hs : List (Held Made)) → rules_in (filter (λ h. is_found m by (rule_held h)) hs) ≡ filter (is_found m by) (rules_in hs)
+  kept-rules m [] = refl
+  kept-rules m (h ∷ hs) =
+      kept-one (is_found m by (rule_held h)) h (filter (λ (h : Held Made). is_found m by (rule_held h)) hs)
+      ∙ ap (λ z. cond (is_found m by (rule_held h)) (rule_held h ∷ z) z) (kept-rules m hs)
+
+  ids-rules : (hs : List (Held Made)) → map id_of (rules_in hs) ≡ map id_of hs
+  ids-rules [] = refl
+  ids-rules (h ∷ hs) = ap (λ z. h.id ∷ z) (ids-rules hs)
+
+  -- what is read by these ids is what is found
+  pub found-rules : (m : Option MatchOf) (items : List Item) (store : List (Held Made)) (ids : List ℕ) (olds : List (Held Rule)) → IsPermutation items (filter_map (shown by) (rules_in store)) → IsPermutation (overlapping m items) ids →
+      ((hs rest : List (Held Made)) → map id_of hs ≡ ids → IsPermutation store (hs ++ rest) → olds ≡ rules_in hs) → IsPermutation olds (filter (is_found m by) (rules_in store))
+  found-rules m items store ids olds p q read =
+      let found = λ (h : Held Made). is_found m by (rule_held h) in
+      let hs = filter found store in
+      let rest = filter (λ (h : Held Made). not (found h)) store in
+      let same : map id_of hs ≡ map id_of (filter (is_found m by) (rules_in store)) = sym (ids-rules hs) ∙ ap (map id_of) (kept-rules m store) in
+      let turned : IsPermutation (map id_of hs) ids = IsPermutation-trans _ _ _ (by-equation _ _ same) (IsPermutation-trans _ _ _ (IsPermutation-sym _ _ (found-ids m items (rules_in store) p)) q) in
+      let l = lift id_of hs (by-cases _ _ turned) refl in
+      let all : IsPermutation store (l.items ++ rest) =
+      IsPermutation-trans _ _ _ (IsPermutation-filter_both found (λ (h : Held Made). not (found h)) (λ h. refl) store) (IsPermutation-append_left rest hs l.items l.all) in
+      IsPermutation-trans _ _ _ (by-equation _ _ (read l.items rest l.is all))
+      (IsPermutation-trans _ _ _ (IsPermutation-sym _ _ (IsPermutation-map rule_held hs l.items l.all)) (by-equation _ _ (kept-rules m store)))

@@ -1,0 +1,7 @@
+pub mod Ways
+pub mod Candidates
+pub mod Sound
+pub mod Showing
+pub mod Nodes
+pub mod Trees
+pub mod Compiling

@@ -1,0 +1,122 @@
+//! The tree of an expression over members' tables, from scratch.
+ghost use Rattle.std.specs.Prelude.{◌≡◌, ◌<◌, ◌^◌, All, IfOk, slice_get};
+ghost use Rattle.std.specs.List.{AllByRecursion};
+ghost use Rattle.policy_expr.specs.Policy.{member as member_of, policy_of};
+ghost use Rattle.policy_meaning.specs.Fitting.{IsFittingTable, levels_of};
+ghost use Rattle.policy_meaning.specs.LeafFact.{IsSoundTable};
+ghost use Rattle.policy_meaning.specs.Networks.{table_rules, table_size};
+ghost use Rattle.incr_compile.specs.Compiling.{CanBeOver, IsBuilt, IsOver};
+ghost use Rattle.incr_compile.specs.Trees.{tree_of};
+
+use crate::member::member_rules;
+use crate::node::Node;
+use crate::tree::Tree;
+use cv_io::{List, Memory, Steps};
+use op_compose::Op;
+use policy_expr::Expr;
+use policy_meaning::{LeafTable, Rule, expression_size};
+use rule_ancestry::Store;
+use std::alloc::Global;
+use std::sync::ledger::Ledger;
+
+/// How many levels the rules of a member have; one without a table has one.
+fn member_size(tables: &List<LeafTable>, member: u32) -> u64
+    ensures { result ≡ table_size (slice_get tables.now member) }
+{
+    match tables.get(member as usize) {
+        Some(table) => table.size,
+        None => 1,
+    }
+}
+
+/// The rules of a member; one without a table has none.
+fn rules_of_member(
+    alloc: Global,
+    tables: &List<LeafTable>,
+    ports: &List<u16>,
+    member: u32,
+) -> Result<List<Rule>, Memory>
+    requires { All IsFittingTable tables.now }
+    ensures { IfOk result (λ rules. rules ≡ table_rules ports.now (slice_get tables.now member)) }
+{
+    match tables.get(member as usize) {
+        Some(table) => table.rules(alloc, ports),
+        None => Ok(List::new(alloc)),
+    }
+}
+
+/// The tree of a member.
+fn member_tree(
+    alloc: Global,
+    tables: &List<LeafTable>,
+    ports: &List<u16>,
+    member: u32,
+) -> Result<Tree, Memory>
+    requires tables { All IsFittingTable tables.now }
+    requires sound { AllByRecursion IsSoundTable tables.now }
+    ensures { IfOk result (λ tree. IsBuilt tables.now ports.now (member_of member) (tree_of tree)) }
+{
+    let rules = rules_of_member(alloc, tables, ports, member)?;
+    let mut made = Store::new(alloc);
+    made.add_all(member_rules(alloc, rules)?)?;
+    Ok(Tree::Member {
+        member,
+        size: member_size(tables, member),
+        made,
+    })
+}
+
+/// The tree of an operator over two trees.
+fn operator_tree<G: Ledger>(
+    alloc: Global,
+    op: Op,
+    size: u64,
+    left: Tree,
+    right: Tree,
+    steps: &mut Steps<G>,
+) -> Result<Tree, Memory>
+    requires { CanBeOver op size (tree_of left) (tree_of right) }
+    ensures { IfOk result (λ tree. IsOver op (tree_of left) (tree_of right) (tree_of tree)) }
+{
+    Ok(Tree::Operator {
+        node: Node::of(alloc, op, size, left.made(), right.made(), steps)?,
+        left: Box::new(alloc, left)?,
+        right: Box::new(alloc, right)?,
+    })
+}
+
+/// The tree of an expression over these tables.
+pub(crate) fn build_tree<G: Ledger>(
+    alloc: Global,
+    tables: &List<LeafTable>,
+    ports: &List<u16>,
+    expr: &Expr,
+    steps: &mut Steps<G>,
+) -> Result<Tree, Memory>
+    requires tables { All IsFittingTable tables.now }
+    requires sound { AllByRecursion IsSoundTable tables.now }
+    requires size { levels_of tables.now (policy_of expr.now) < 2 ^ 64 }
+    ensures { IfOk result (λ tree. IsBuilt tables.now ports.now (policy_of expr.now) (tree_of tree)) }
+{
+    match expr {
+        Expr::Member { index } => member_tree(alloc, tables, ports, *index),
+        Expr::Par { left, right } => {
+            let first = build_tree(alloc, tables, ports, left, steps)?;
+            let second = build_tree(alloc, tables, ports, right, steps)?;
+            let size = expression_size(tables, right);
+            operator_tree(alloc, Op::Par, size, first, second, steps)
+        }
+        Expr::Seq { left, right } => {
+            let first = build_tree(alloc, tables, ports, left, steps)?;
+            let second = build_tree(alloc, tables, ports, right, steps)?;
+            let size = expression_size(tables, right);
+            operator_tree(alloc, Op::Seq, size, first, second, steps)
+        }
+        Expr::Over { left, right } => {
+            let first = build_tree(alloc, tables, ports, left, steps)?;
+            let second = build_tree(alloc, tables, ports, right, steps)?;
+            let size = expression_size(tables, right);
+            operator_tree(alloc, Op::Over, size, first, second, steps)
+        }
+    }
+}

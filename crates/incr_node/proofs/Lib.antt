@@ -1,7 +1,0 @@
-pub mod Images
-pub mod Joins
-pub mod Shares
-pub mod Whole
-pub mod Finding
-pub mod Enough
-pub mod Bridge
