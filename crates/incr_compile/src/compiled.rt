@@ -42,7 +42,7 @@ impl Model for Compiled {
 }
 
 impl Compiled {
-    ghost use Rattle.std.specs.Prelude.{◌≡◌, ◌≢◌, ◌<◌, ◌^◌, ℕ, All, IfOk, IsPermutation, List, OnErr, OnOk, true};
+    ghost use Rattle.std.specs.Prelude.{◌≡◌, ◌≢◌, ◌+◌, ◌<◌, ◌≤◌, ◌^◌, ℕ, All, IfOk, IsPermutation, List, OnErr, OnOk, true};
     ghost use Rattle.std.specs.List.{AllByRecursion};
     ghost use Rattle.list_change.specs.Changes.{Apart, Changed};
     ghost use Rattle.policy_expr.specs.Policy.{members_of, policy_of};
@@ -52,6 +52,7 @@ impl Compiled {
     ghost use Rattle.policy_meaning.specs.Rules.{rules_of};
     ghost use Rattle.policy_meaning.specs.declared.rule.Rule.{Rule};
     ghost use Rattle.incr_compile.specs.Compiling.{IsMemberDelta, IsOf, IsOfTables, MemberChanges, policy_in, rules_at};
+    ghost use Rattle.incr_compile.specs.Costs.{cost_of};
     ghost use Rattle.incr_compile.specs.Trees.{has_member, tree_of};
 
     /// The rules of an expression over these tables, from scratch.
@@ -89,6 +90,7 @@ impl Compiled {
         // What is told is what changed, and no rule is in both lists.
         ensures told { IfOk result (λ told. Changed (rules_at (tree_of self.old)) (rules_at (tree_of self.new)) told.gone told.come) }
         ensures apart { IfOk result (λ told. Apart told.gone told.come) }
+        ensures steps { OnOk result (steps.new ≤ steps.old + cost_of (tree_of self.old) (tree_of self.new)) }
         ensures memory { OnErr result (tree_of self.new ≡ tree_of self.old) }
     {
         let asked = asked_of(self.alloc, delta)?;
