@@ -7,7 +7,6 @@ use Rattle.std.proofs.lemmas.List.Elements.{filter-append}
 use Rattle.std.proofs.lemmas.List.Sorted.{IsPermutation-append_comm, IsPermutation-append_right, IsPermutation-map, IsPermutation-sym, IsPermutation-trans, sum_by-IsPermutation}
 use Rattle.list_change.proofs.Kept.{permuted-filter}
 use Rattle.list_change.proofs.Permute.{by-equation}
-use Rattle.op_compose.specs.declared.op.Op.{Op}
 use Rattle.op_compose.specs.declared.op.Side.{Side}
 use Rattle.op_compose.specs.declared.op.Side.TheVariants.{Left, Right}
 use Rattle.policy_meaning.specs.declared.rule.Rule.{Rule}
@@ -47,12 +46,11 @@ or-after false b e = e
 
 in-first : (gone rest : List (Held Made)) → AllByRecursion (λ (x : Held Made). list_any (λ j. x.id == j) (map id_of (gone ++ rest)) ≡ true) gone
 in-first [] rest = tt
-in-first (h ∷ gone) rest =
-    (
-      ap (λ b. b || list_any (λ j. h.id == j) (map id_of (gone ++ rest))) (eq-same h.id h.id refl),
-      all-map (λ (x : Held Made). list_any (λ j. x.id == j) (map id_of (gone ++ rest)) ≡ true) (λ (x : Held Made). list_any (λ j. x.id == j) (h.id ∷ map id_of (gone ++ rest)) ≡ true) gone
-          (λ x e. or-after (x.id == h.id) _ e) (in-first gone rest),
-    )
+in-first (h ∷ gone) rest = (
+  ap (λ b. b || list_any (λ j. h.id == j) (map id_of (gone ++ rest))) (eq-same h.id h.id refl),
+  all-map (λ (x : Held Made). list_any (λ j. x.id == j) (map id_of (gone ++ rest)) ≡ true) (λ (x : Held Made). list_any (λ j. x.id == j) (h.id ∷ map id_of (gone ++ rest)) ≡ true) gone
+      (λ x e. or-after (x.id == h.id) _ e) (in-first gone rest),
+)
 
 none-outside : (ids : List ℕ) (hs : List (Held Made)) → AllByRecursion (λ (x : Held Made). list_any (λ j. x.id == j) ids ≡ true) hs → filter (is_outside ids) hs ≡ []
 none-outside ids [] a = refl

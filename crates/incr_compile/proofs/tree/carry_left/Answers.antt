@@ -1,4 +1,4 @@
-use Rattle.std.proofs.Common.{subst, sym, ◌≡◌, ◌+◌, ◌≤◌, ◌∙◌, List, map}
+use Rattle.std.proofs.Common.{subst, sym, ◌+◌, ◌≤◌, ◌∙◌, List, map}
 use Rattle.std.specs.List.Sorted.{IsStrictlySortedBy}
 use Rattle.std.specs.Ordering.{nat_cmp}
 use Rattle.rule_ancestry.specs.Holding.{Held, id_of}
