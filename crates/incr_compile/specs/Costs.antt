@@ -14,7 +14,9 @@ new_in before now = filter (is_outside (map id_of before)) (rules_in now)
 -- at each operator a step for each rule that came to an operand, and one for each rule of the other that it could meet
 abbrev pub cost_of : TreeOf → TreeOf → ℕ
 cost_of (branch n l r) (branch m l' r') =
-    (cost_of l l' + cost_of r r') + (left_cost n.op (rules_in (made_in r)) (new_in (made_in l) (made_in l')) + right_cost n.op (rules_in (made_in l)) (new_in (made_in r) (made_in r')))
+    (cost_of l l' + cost_of r r')
+    + (left_cost n.op (rules_in (made_in r)) (new_in (made_in l) (made_in l'))
+    + right_cost n.op (rules_in (made_in l)) (new_in (made_in r) (made_in r')))
 cost_of (leaf i s before) (leaf j t now) = 0
 cost_of (leaf i s before) (branch m l' r') = 0
 cost_of (branch n l r) (leaf j t now) = 0

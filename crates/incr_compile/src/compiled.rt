@@ -85,7 +85,8 @@ impl Compiled {
         requires member { has_member delta.member (tree_of self.old) ≡ true }
         requires come { IsMemberDelta delta (tree_of self.old) }
         // The rules of the member are changed so, and no others.
-        ensures members { (sizes : ℕ → ℕ) → (before after : ℕ → List Rule) → MemberChanges delta before after → IsOf sizes before (tree_of self.old) → OnOk result (IsOf sizes after (tree_of self.new)) }
+        ensures members { (sizes : ℕ → ℕ) → (before after : ℕ → List Rule) → MemberChanges delta before after
+            → IsOf sizes before (tree_of self.old) → OnOk result (IsOf sizes after (tree_of self.new)) }
         ensures policy { OnOk result (policy_in (tree_of self.new) ≡ policy_in (tree_of self.old)) }
         // What is told is what changed, and no rule is in both lists.
         ensures told { IfOk result (λ told. Changed (rules_at (tree_of self.old)) (rules_at (tree_of self.new)) told.gone told.come) }
@@ -113,7 +114,8 @@ impl Compiled {
     /// The rules, in their order. They are those from scratch.
     pub fn rules(&self) -> Result<List<Rule>, Memory>
         ensures listed { IfOk result (IsListing (rules_at (tree_of self.now))) }
-        ensures scratch { (sizes : ℕ → ℕ) → (rules : ℕ → List Rule) → IsOf sizes rules (tree_of self.now) → IfOk result (IsPermutation (rules_of sizes rules (policy_in (tree_of self.now)))) }
+        ensures scratch { (sizes : ℕ → ℕ) → (rules : ℕ → List Rule) → IsOf sizes rules (tree_of self.now)
+            → IfOk result (IsPermutation (rules_of sizes rules (policy_in (tree_of self.now)))) }
     {
         let rules = all_rules(self.alloc, self.tree.made())?;
         listed(List::from_vec(rules))
