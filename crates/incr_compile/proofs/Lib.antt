@@ -15,3 +15,4 @@ mod Wholes
 mod Told
 mod Built
 mod Applied
+mod Spent

@@ -25,10 +25,10 @@ or-right : (a b : Bool) → (a || b) ≡ true → b ≡ false → a ≡ true
 or-right true b e f = refl
 or-right false b e f = absurd (let z : true ≡ false = sym e ∙ f in cc)
 
-only-left : (asked : MemberChange) (n : NodeOf) (l r : TreeOf) → CanChange asked (branch n l r) → has_member asked.member r ≡ false → CanChange asked l
+pub only-left : (asked : MemberChange) (n : NodeOf) (l r : TreeOf) → CanChange asked (branch n l r) → has_member asked.member r ≡ false → CanChange asked l
 only-left asked n l r can a = can-left asked n l r can (or-right _ _ can.member a)
 
-only-right : (asked : MemberChange) (n : NodeOf) (l r : TreeOf) → CanChange asked (branch n l r) → has_member asked.member l ≡ false → CanChange asked r
+pub only-right : (asked : MemberChange) (n : NodeOf) (l r : TreeOf) → CanChange asked (branch n l r) → has_member asked.member l ≡ false → CanChange asked r
 only-right asked n l r can a = can-right asked n l r can a
 
 -- ---- what is under way

@@ -52,7 +52,8 @@ IsOf sizes rules (branch n l r) = IsOf sizes rules l × IsOf sizes rules r
 
 -- the members are those of these tables, at a virtual switch of these ports
 abbrev pub IsOfTables : List LeafTable → List ℕ → TreeOf → Type 0
-IsOfTables tables ports t = IsOf (λ i. table_size (slice_get tables i)) (λ i. table_rules ports (slice_get tables i)) t
+IsOfTables tables ports t =
+    IsOf (λ i. table_size (slice_get tables i)) (λ i. table_rules ports (slice_get tables i)) t
 
 abbrev pub same_leaf : Leaf → Leaf → Bool
 same_leaf l m = (l.member == m.member) && (l.kind == m.kind)

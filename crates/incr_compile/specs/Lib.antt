@@ -4,4 +4,5 @@ pub mod Sound
 pub mod Showing
 pub mod Nodes
 pub mod Trees
+pub mod Costs
 pub mod Compiling

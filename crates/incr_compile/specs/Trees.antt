@@ -85,8 +85,11 @@ changed_by asked made = asked.come.items ++ filter (is_not_of asked.gone.items) 
 
 -- from one tree to another only the rules of the member changed, and so
 abbrev pub Changes : MemberChange → TreeOf → TreeOf → Type 0
-Changes asked (leaf i s before) (leaf j t after) = (j ≡ i) × (t ≡ s) × IsPermutation (map item_of after) (if asked.member == i then changed_by asked (map item_of before) else map item_of before)
-Changes asked (branch n l r) (branch m l' r') = (m.op ≡ n.op) × (m.size ≡ n.size) × Changes asked l l' × Changes asked r r'
+Changes asked (leaf i s before) (leaf j t after) =
+    (j ≡ i) × (t ≡ s)
+    × IsPermutation (map item_of after) (if asked.member == i then changed_by asked (map item_of before) else map item_of before)
+Changes asked (branch n l r) (branch m l' r') =
+    (m.op ≡ n.op) × (m.size ≡ n.size) × Changes asked l l' × Changes asked r r'
 Changes asked (leaf i s before) (branch m l' r') = ⊥
 Changes asked (branch n l r) (leaf j t after) = ⊥
 
@@ -116,13 +119,17 @@ FollowsBy p q asked n node l r l' r' Right below change after = FollowsRight q a
 
 abbrev pub Follows : (on_left on_right : ChangeOf → List (Held Made) → Type 0) → MemberChange → NodeOf → Node → (l r l' r' : TreeOf) → Option Below → ChangeOf → List (Held Made) → Type 0
 Follows p q asked n node l r l' r' None change after = ⊥
-Follows p q asked n node l r l' r' (Some b) change after = FollowsBy p q asked n node l r l' r' b.side b.change change after
+Follows p q asked n node l r l' r' (Some b) change after =
+    FollowsBy p q asked n node l r l' r' b.side b.change change after
 
 -- the change is ready at each node from the member to the root, whose rules will be `after`
 abbrev pub IsReadyIn : MemberChange → TreeOf → Tree → ChangeOf → List (Held Made) → Type 0
-IsReadyIn asked (leaf i s before) (Member j t now) change after = (j ≡ i) × (t ≡ s) × (i ≡ asked.member) × IsCarried before now after change (changed_by asked (map item_of before))
+IsReadyIn asked (leaf i s before) (Member j t now) change after =
+    (j ≡ i) × (t ≡ s) × (i ≡ asked.member)
+    × IsCarried before now after change (changed_by asked (map item_of before))
 IsReadyIn asked (branch n l r) (Operator' node p l' q r') change after =
-    Follows (IsReadyIn asked l l') (IsReadyIn asked r r') asked n node l r (tree_of l') (tree_of r') node.below change after
+    Follows (IsReadyIn asked l l') (IsReadyIn asked r r') asked n node l r (tree_of l') (tree_of r') node.below
+    change after
 IsReadyIn asked (leaf i s before) (Operator' node p l' q r') change after = ⊥
 IsReadyIn asked (branch n l r) (Member j t now) change after = ⊥
 

@@ -42,7 +42,7 @@ impl Model for Compiled {
 }
 
 impl Compiled {
-    ghost use Rattle.std.specs.Prelude.{◌≡◌, ◌≢◌, ◌<◌, ◌^◌, ℕ, All, IfOk, IsPermutation, List, OnErr, OnOk, true};
+    ghost use Rattle.std.specs.Prelude.{◌≡◌, ◌≢◌, ◌+◌, ◌<◌, ◌≤◌, ◌^◌, ℕ, All, IfOk, IsPermutation, List, OnErr, OnOk, true};
     ghost use Rattle.std.specs.List.{AllByRecursion};
     ghost use Rattle.list_change.specs.Changes.{Apart, Changed};
     ghost use Rattle.policy_expr.specs.Policy.{members_of, policy_of};
@@ -52,6 +52,7 @@ impl Compiled {
     ghost use Rattle.policy_meaning.specs.Rules.{rules_of};
     ghost use Rattle.policy_meaning.specs.declared.rule.Rule.{Rule};
     ghost use Rattle.incr_compile.specs.Compiling.{IsMemberDelta, IsOf, IsOfTables, MemberChanges, policy_in, rules_at};
+    ghost use Rattle.incr_compile.specs.Costs.{cost_of};
     ghost use Rattle.incr_compile.specs.Trees.{has_member, tree_of};
 
     /// The rules of an expression over these tables, from scratch.
@@ -84,11 +85,13 @@ impl Compiled {
         requires member { has_member delta.member (tree_of self.old) ≡ true }
         requires come { IsMemberDelta delta (tree_of self.old) }
         // The rules of the member are changed so, and no others.
-        ensures members { (sizes : ℕ → ℕ) → (before after : ℕ → List Rule) → MemberChanges delta before after → IsOf sizes before (tree_of self.old) → OnOk result (IsOf sizes after (tree_of self.new)) }
+        ensures members { (sizes : ℕ → ℕ) → (before after : ℕ → List Rule) → MemberChanges delta before after
+            → IsOf sizes before (tree_of self.old) → OnOk result (IsOf sizes after (tree_of self.new)) }
         ensures policy { OnOk result (policy_in (tree_of self.new) ≡ policy_in (tree_of self.old)) }
         // What is told is what changed, and no rule is in both lists.
         ensures told { IfOk result (λ told. Changed (rules_at (tree_of self.old)) (rules_at (tree_of self.new)) told.gone told.come) }
         ensures apart { IfOk result (λ told. Apart told.gone told.come) }
+        ensures steps { OnOk result (steps.new ≤ steps.old + cost_of (tree_of self.old) (tree_of self.new)) }
         ensures memory { OnErr result (tree_of self.new ≡ tree_of self.old) }
     {
         let asked = asked_of(self.alloc, delta)?;
@@ -111,7 +114,8 @@ impl Compiled {
     /// The rules, in their order. They are those from scratch.
     pub fn rules(&self) -> Result<List<Rule>, Memory>
         ensures listed { IfOk result (IsListing (rules_at (tree_of self.now))) }
-        ensures scratch { (sizes : ℕ → ℕ) → (rules : ℕ → List Rule) → IsOf sizes rules (tree_of self.now) → IfOk result (IsPermutation (rules_of sizes rules (policy_in (tree_of self.now)))) }
+        ensures scratch { (sizes : ℕ → ℕ) → (rules : ℕ → List Rule) → IsOf sizes rules (tree_of self.now)
+            → IfOk result (IsPermutation (rules_of sizes rules (policy_in (tree_of self.now)))) }
     {
         let rules = all_rules(self.alloc, self.tree.made())?;
         listed(List::from_vec(rules))

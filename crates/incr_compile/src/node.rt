@@ -158,11 +158,17 @@ impl Node {
         below: &Change,
         steps: &mut Steps<G>,
     ) -> Result<Change, Memory>
-        requires { (before after : List (Held Made)) × LeftChanges (node_of self.old) before left.now after right.now below.now }
-        ensures ready { (before after : List (Held Made)) → LeftChanges (node_of self.old) before left.now after right.now below.now → IfOk result (λ change. (new : List (Held Made)) × IsCarried self.old.made self.new.made new change (made_by (node_of self.old) (rules_in after) (rules_in right.now))) }
+        requires { (before after : List (Held Made))
+            × LeftChanges (node_of self.old) before left.now after right.now below.now }
+        ensures ready { (before after : List (Held Made))
+            → LeftChanges (node_of self.old) before left.now after right.now below.now
+            → IfOk result (λ change. (new : List (Held Made))
+            × IsCarried self.old.made self.new.made new change (made_by (node_of self.old) (rules_in after) (rules_in right.now))) }
         ensures rest { node_of self.new ≡ record (node_of self.old) { made = self.new.made } }
         ensures room { OnOk result (length below.now.come ≤ self.new.lefts.room) }
-        ensures steps { (before after : List (Held Made)) → (l : LeftChanges (node_of self.old) before left.now after right.now below.now) → steps.new ≤ steps.old + left_cost self.old.op (rules_in right.now) (rules_in l.ready.coming) }
+        ensures steps { (before after : List (Held Made))
+            → (l : LeftChanges (node_of self.old) before left.now after right.now below.now)
+            → steps.new ≤ steps.old + left_cost self.old.op (rules_in right.now) (rules_in l.ready.coming) }
         ensures memory { OnErr result (self.new.made ≡ self.old.made) }
     {
         let come = olds(alloc, left, below.come())?;
@@ -182,11 +188,17 @@ impl Node {
         below: &Change,
         steps: &mut Steps<G>,
     ) -> Result<Change, Memory>
-        requires { (before after : List (Held Made)) × RightChanges (node_of self.old) before right.now after left.now below.now }
-        ensures ready { (before after : List (Held Made)) → RightChanges (node_of self.old) before right.now after left.now below.now → IfOk result (λ change. (new : List (Held Made)) × IsCarried self.old.made self.new.made new change (made_by (node_of self.old) (rules_in left.now) (rules_in after))) }
+        requires { (before after : List (Held Made))
+            × RightChanges (node_of self.old) before right.now after left.now below.now }
+        ensures ready { (before after : List (Held Made))
+            → RightChanges (node_of self.old) before right.now after left.now below.now
+            → IfOk result (λ change. (new : List (Held Made))
+            × IsCarried self.old.made self.new.made new change (made_by (node_of self.old) (rules_in left.now) (rules_in after))) }
         ensures rest { node_of self.new ≡ record (node_of self.old) { made = self.new.made } }
         ensures room { OnOk result (length below.now.come ≤ self.new.rights.room) }
-        ensures steps { (before after : List (Held Made)) → (l : RightChanges (node_of self.old) before right.now after left.now below.now) → steps.new ≤ steps.old + right_cost self.old.op (rules_in left.now) (rules_in l.ready.coming) }
+        ensures steps { (before after : List (Held Made))
+            → (l : RightChanges (node_of self.old) before right.now after left.now below.now)
+            → steps.new ≤ steps.old + right_cost self.old.op (rules_in left.now) (rules_in l.ready.coming) }
         ensures memory { OnErr result (self.new.made ≡ self.old.made) }
     {
         let come = olds(alloc, right, below.come())?;
@@ -201,11 +213,18 @@ impl Node {
     /// leaves the store, and the index shows the left rules as they will be. This takes no memory.
     pub fn settle_left(&mut self, left: &Store<Made>, below: &Change, change: Change) -> Vec<Made>
         requires room { length below.now.come ≤ self.old.lefts.room }
-        requires shown { (before : List (Held Made)) × (lost : _) × (fresh : List Made) × IsReady before left.now lost fresh below.now × IsPermutation self.old.lefts.items (filter_map (shown (reach self.old.op)) (rules_in before)) }
+        requires shown { (before : List (Held Made)) × (lost : _) × (fresh : List Made)
+            × IsReady before left.now lost fresh below.now
+            × IsPermutation self.old.lefts.items (filter_map (shown (reach self.old.op)) (rules_in before)) }
         requires wide { AreWide self.old.made change.stays }
-        ensures shown { (before : List (Held Made)) → (lost : _) → (fresh : List Made) → (r : IsReady before left.now lost fresh below.now) → IsPermutation self.old.lefts.items (filter_map (shown (reach self.old.op)) (rules_in before)) → IsPermutation self.new.lefts.items (filter_map (shown (reach self.old.op)) (rules_in (settled r))) }
-        ensures settled { (before : List (Held Made)) → (lost : _) → (fresh : List Made) → (u : IsReady before self.old.made lost fresh change) → IsPermutation self.new.made (settled u) }
-        ensures left { (before : List (Held Made)) → (lost : _) → (fresh : List Made) → (u : IsReady before self.old.made lost fresh change) → result.items ≡ map item_of u.going }
+        ensures shown { (before : List (Held Made)) → (lost : _) → (fresh : List Made)
+            → (r : IsReady before left.now lost fresh below.now)
+            → IsPermutation self.old.lefts.items (filter_map (shown (reach self.old.op)) (rules_in before))
+            → IsPermutation self.new.lefts.items (filter_map (shown (reach self.old.op)) (rules_in (settled r))) }
+        ensures settled { (before : List (Held Made)) → (lost : _) → (fresh : List Made)
+            → (u : IsReady before self.old.made lost fresh change) → IsPermutation self.new.made (settled u) }
+        ensures left { (before : List (Held Made)) → (lost : _) → (fresh : List Made)
+            → (u : IsReady before self.old.made lost fresh change) → result.items ≡ map item_of u.going }
         ensures rest { node_of self.new ≡ record (node_of self.old) { made = self.new.made; lefts = self.new.lefts.items } }
     {
         show_change(&mut self.lefts, self.op, Side::Left, left, below);
@@ -215,11 +234,18 @@ impl Node {
     /// The same where the right operand's is.
     pub fn settle_right(&mut self, right: &Store<Made>, below: &Change, change: Change) -> Vec<Made>
         requires room { length below.now.come ≤ self.old.rights.room }
-        requires shown { (before : List (Held Made)) × (lost : _) × (fresh : List Made) × IsReady before right.now lost fresh below.now × IsPermutation self.old.rights.items (filter_map (shown (asked self.old.op)) (rules_in before)) }
+        requires shown { (before : List (Held Made)) × (lost : _) × (fresh : List Made)
+            × IsReady before right.now lost fresh below.now
+            × IsPermutation self.old.rights.items (filter_map (shown (asked self.old.op)) (rules_in before)) }
         requires wide { AreWide self.old.made change.stays }
-        ensures shown { (before : List (Held Made)) → (lost : _) → (fresh : List Made) → (r : IsReady before right.now lost fresh below.now) → IsPermutation self.old.rights.items (filter_map (shown (asked self.old.op)) (rules_in before)) → IsPermutation self.new.rights.items (filter_map (shown (asked self.old.op)) (rules_in (settled r))) }
-        ensures settled { (before : List (Held Made)) → (lost : _) → (fresh : List Made) → (u : IsReady before self.old.made lost fresh change) → IsPermutation self.new.made (settled u) }
-        ensures left { (before : List (Held Made)) → (lost : _) → (fresh : List Made) → (u : IsReady before self.old.made lost fresh change) → result.items ≡ map item_of u.going }
+        ensures shown { (before : List (Held Made)) → (lost : _) → (fresh : List Made)
+            → (r : IsReady before right.now lost fresh below.now)
+            → IsPermutation self.old.rights.items (filter_map (shown (asked self.old.op)) (rules_in before))
+            → IsPermutation self.new.rights.items (filter_map (shown (asked self.old.op)) (rules_in (settled r))) }
+        ensures settled { (before : List (Held Made)) → (lost : _) → (fresh : List Made)
+            → (u : IsReady before self.old.made lost fresh change) → IsPermutation self.new.made (settled u) }
+        ensures left { (before : List (Held Made)) → (lost : _) → (fresh : List Made)
+            → (u : IsReady before self.old.made lost fresh change) → result.items ≡ map item_of u.going }
         ensures rest { node_of self.new ≡ record (node_of self.old) { made = self.new.made; rights = self.new.rights.items } }
     {
         show_change(&mut self.rights, self.op, Side::Right, right, below);

@@ -57,7 +57,8 @@ fn show(index: &mut Index, op: Op, side: Side, store: &Store<Made>, ids: &[usize
     requires room { length ids.now ≤ index.old.room }
     requires clear { AreClear ids.now index.old.items }
     requires once { IsDistinct ◌==◌ ids.now }
-    ensures { (items rest : List (Held Made)) → map id_of items ≡ ids.now → IsPermutation store.now (items ++ rest) → index.new.items ≡ index.old.items ++ filter_map (shown (shown_as op side)) (rules_in items) }
+    ensures { (items rest : List (Held Made)) → map id_of items ≡ ids.now → IsPermutation store.now (items ++ rest)
+        → index.new.items ≡ index.old.items ++ filter_map (shown (shown_as op side)) (rules_in items) }
 {
     // That no two are held under one id.
     let _count = store.len();
@@ -113,8 +114,13 @@ pub(crate) fn show_change(
     change: &Change,
 )
     requires room { length change.now.come ≤ index.old.room }
-    requires shown { (before : List (Held Made)) × (lost : _) × (fresh : List Made) × IsReady before store.now lost fresh change.now × IsPermutation index.old.items (filter_map (shown (shown_as op side)) (rules_in before)) }
-    ensures { (before : List (Held Made)) → (lost : _) → (fresh : List Made) → (r : IsReady before store.now lost fresh change.now) → IsPermutation index.old.items (filter_map (shown (shown_as op side)) (rules_in before)) → IsPermutation index.new.items (filter_map (shown (shown_as op side)) (rules_in (settled r))) }
+    requires shown { (before : List (Held Made)) × (lost : _) × (fresh : List Made)
+        × IsReady before store.now lost fresh change.now
+        × IsPermutation index.old.items (filter_map (shown (shown_as op side)) (rules_in before)) }
+    ensures { (before : List (Held Made)) → (lost : _) → (fresh : List Made)
+        → (r : IsReady before store.now lost fresh change.now)
+        → IsPermutation index.old.items (filter_map (shown (shown_as op side)) (rules_in before))
+        → IsPermutation index.new.items (filter_map (shown (shown_as op side)) (rules_in (settled r))) }
 {
     // That no two are held under one id.
     let _count = store.len();

@@ -42,7 +42,9 @@ pub(crate) struct Told {
 
 /// What is told of a change that is ready.
 pub(crate) fn tell(alloc: Global, store: &Store<Made>, change: &Change) -> Result<Told, Memory>
-    ensures come { (before : List (Held Made)) → (lost : _) → (fresh : List Made) → (r : IsReady before store.now lost fresh change.now) → IfOk result (λ told. told.come.items ≡ rules_held r.coming) }
+    ensures come { (before : List (Held Made)) → (lost : _) → (fresh : List Made)
+        → (r : IsReady before store.now lost fresh change.now)
+        → IfOk result (λ told. told.come.items ≡ rules_held r.coming) }
     ensures room { IfOk result (λ told. length change.now.gone ≤ vec_capacity told.gone) }
     ensures empty { IfOk result (λ told. told.gone.items ≡ []) }
 {

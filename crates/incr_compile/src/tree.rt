@@ -1,10 +1,12 @@
 //! A tree of operators over the rules of members.
-ghost use Rattle.std.specs.Prelude.{◌≡◌, ◌≤◌, IfOk, IsPermutation, List, OnErr, OnOk, Some, length, map};
+ghost use Rattle.std.specs.Prelude.{◌≡◌, ◌+◌, ◌≤◌, IfOk, IsPermutation, List, OnErr, OnOk, Some, length, map};
 ghost use Rattle.op_compose.specs.declared.op.Side.TheVariants.{Left, Right};
 ghost use Rattle.rule_ancestry.specs.Holding.{Held, item_of};
 ghost use Rattle.made_rules.specs.Changing.{IsReady};
 ghost use Rattle.made_rules.specs.Rules.{rules_in};
 ghost use Rattle.made_rules.specs.declared.made.Made.{Made};
+ghost use Rattle.incr_compile.specs.Candidates.{left_cost, right_cost};
+ghost use Rattle.incr_compile.specs.Costs.{cost_of, new_in};
 ghost use Rattle.incr_compile.specs.Nodes.{IsCarried, LeftChanges, RightChanges, made_by, node_of};
 ghost use Rattle.incr_compile.specs.Trees.{CanCarryLeft, CanCarryRight, CanChange, IsReadyIn, IsSettled, IsUnderWay, TreeOf, has_member, made_in, tree_of};
 ghost use Rattle.incr_compile.specs.declared.tree.MemberChange.{MemberChange};
@@ -50,14 +52,23 @@ fn carry_left<G: Ledger>(
     steps: &mut Steps<G>,
 ) -> Result<Change, Memory>
     requires { CanCarryLeft (node_of node.old) left.old (tree_of right.now) below }
-    ensures carried { (before mid : List (Held Made)) → LeftChanges (node_of node.old) before (made_in (tree_of left.old)) mid (made_in (tree_of right.now)) below → IfOk result (λ change. (after : List (Held Made)) × IsCarried node.old.made node.new.made after change (made_by (node_of node.old) (rules_in mid) (rules_in (made_in (tree_of right.now))))) }
+    ensures carried { (before mid : List (Held Made))
+        → LeftChanges (node_of node.old) before (made_in (tree_of left.old)) mid (made_in (tree_of right.now)) below
+        → IfOk result (λ change. (after : List (Held Made))
+        × IsCarried node.old.made node.new.made after change (made_by (node_of node.old) (rules_in mid) (rules_in (made_in (tree_of right.now))))) }
     ensures below { OnOk result (node.new.below ≡ Some (record { side = Left; change = below })) }
     ensures room { OnOk result (length below.come ≤ node.new.lefts.room) }
     ensures rest { node_of node.new ≡ record (node_of node.old) { made = node.new.made } }
     ensures left { OnOk result (left.new ≡ left.old) }
+    ensures steps { (before mid : List (Held Made))
+        → LeftChanges (node_of node.old) before (made_in (tree_of left.old)) mid (made_in (tree_of right.now)) below
+        → OnOk result (steps.new ≤ steps.old + left_cost node.old.op (rules_in (made_in (tree_of right.now))) (new_in before (made_in (tree_of left.old)))) }
     ensures memory { OnErr result (node.new.made ≡ node.old.made) }
-    ensures undone { (asked : MemberChange) → (before : TreeOf) → (mid : List (Held Made)) → IsReadyIn asked before left.old below mid → OnErr result (tree_of left.new ≡ before) }
+    ensures undone { (asked : MemberChange) → (before : TreeOf) → (mid : List (Held Made))
+        → IsReadyIn asked before left.old below mid → OnErr result (tree_of left.new ≡ before) }
 {
+    // That no two are held under one id.
+    let _count = left.made().len();
     match node.ready_left(alloc, left.made(), right.made(), &below, steps) {
         Ok(change) => {
             node.below = Some(Below {
@@ -83,14 +94,23 @@ fn carry_right<G: Ledger>(
     steps: &mut Steps<G>,
 ) -> Result<Change, Memory>
     requires { CanCarryRight (node_of node.old) (tree_of left.now) right.old below }
-    ensures carried { (before mid : List (Held Made)) → RightChanges (node_of node.old) before (made_in (tree_of right.old)) mid (made_in (tree_of left.now)) below → IfOk result (λ change. (after : List (Held Made)) × IsCarried node.old.made node.new.made after change (made_by (node_of node.old) (rules_in (made_in (tree_of left.now))) (rules_in mid))) }
+    ensures carried { (before mid : List (Held Made))
+        → RightChanges (node_of node.old) before (made_in (tree_of right.old)) mid (made_in (tree_of left.now)) below
+        → IfOk result (λ change. (after : List (Held Made))
+        × IsCarried node.old.made node.new.made after change (made_by (node_of node.old) (rules_in (made_in (tree_of left.now))) (rules_in mid))) }
     ensures below { OnOk result (node.new.below ≡ Some (record { side = Right; change = below })) }
     ensures room { OnOk result (length below.come ≤ node.new.rights.room) }
     ensures rest { node_of node.new ≡ record (node_of node.old) { made = node.new.made } }
     ensures right { OnOk result (right.new ≡ right.old) }
+    ensures steps { (before mid : List (Held Made))
+        → RightChanges (node_of node.old) before (made_in (tree_of right.old)) mid (made_in (tree_of left.now)) below
+        → OnOk result (steps.new ≤ steps.old + right_cost node.old.op (rules_in (made_in (tree_of left.now))) (new_in before (made_in (tree_of right.old)))) }
     ensures memory { OnErr result (node.new.made ≡ node.old.made) }
-    ensures undone { (asked : MemberChange) → (before : TreeOf) → (mid : List (Held Made)) → IsReadyIn asked before right.old below mid → OnErr result (tree_of right.new ≡ before) }
+    ensures undone { (asked : MemberChange) → (before : TreeOf) → (mid : List (Held Made))
+        → IsReadyIn asked before right.old below mid → OnErr result (tree_of right.new ≡ before) }
 {
+    // That no two are held under one id.
+    let _count = right.made().len();
     match node.ready_right(alloc, left.made(), right.made(), &below, steps) {
         Ok(change) => {
             node.below = Some(Below {
@@ -135,7 +155,9 @@ impl Tree {
         steps: &mut Steps<G>,
     ) -> Result<Change, Memory>
         requires { CanChange asked (tree_of self.old) }
-        ensures ready { IfOk result (λ change. (after : List (Held Made)) × IsReadyIn asked (tree_of self.old) self.new change after) }
+        ensures ready { IfOk result (λ change. (after : List (Held Made))
+            × IsReadyIn asked (tree_of self.old) self.new change after) }
+        ensures steps { OnOk result (steps.new ≤ steps.old + cost_of (tree_of self.old) (tree_of self.new)) }
         ensures memory { OnErr result (tree_of self.new ≡ tree_of self.old) }
     {
         match self {
@@ -159,8 +181,15 @@ impl Tree {
     /// that leave the root are handed out.
     pub fn settle(&mut self, change: Change) -> Vec<Made>
         requires { IsUnderWay self.old change }
-        ensures settled { (asked : MemberChange) → (before : TreeOf) → (after : List (Held Made)) → CanChange asked before → IsReadyIn asked before self.old change after → IsSettled asked before (tree_of self.new) after }
-        ensures left { (before : List (Held Made)) → (lost : _) → (fresh : List Made) → (r : IsReady before (made_in (tree_of self.old)) lost fresh change) → result.items ≡ map item_of r.going }
+        ensures settled { (asked : MemberChange) → (before : TreeOf) → (after : List (Held Made))
+            → CanChange asked before → IsReadyIn asked before self.old change after
+            → IsSettled asked before (tree_of self.new) after }
+        ensures cost { (asked : MemberChange) → (before : TreeOf) → (after : List (Held Made))
+            → CanChange asked before → IsReadyIn asked before self.old change after
+            → cost_of before (tree_of self.old) ≤ cost_of before (tree_of self.new) }
+        ensures left { (before : List (Held Made)) → (lost : _) → (fresh : List Made)
+            → (r : IsReady before (made_in (tree_of self.old)) lost fresh change)
+            → result.items ≡ map item_of r.going }
     {
         match self {
             Tree::Member { made, .. } => change.settle(made),
@@ -190,7 +219,8 @@ impl Tree {
     /// Takes a change back that is ready. This takes no memory.
     pub fn undo(&mut self, change: Change)
         requires { IsUnderWay self.old change }
-        ensures { (asked : MemberChange) → (before : TreeOf) → (after : List (Held Made)) → IsReadyIn asked before self.old change after → tree_of self.new ≡ before }
+        ensures { (asked : MemberChange) → (before : TreeOf) → (after : List (Held Made))
+            → IsReadyIn asked before self.old change after → tree_of self.new ≡ before }
     {
         match self {
             Tree::Member { made, .. } => change.undo(made),

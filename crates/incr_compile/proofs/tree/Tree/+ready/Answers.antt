@@ -1,11 +1,14 @@
-use Rattle.std.proofs.Common.{ap, refl, subst, sym, ◌∙◌, List}
+use Rattle.std.proofs.Common.{◌+◌, ◌≤◌, ap, refl, subst, sym, ◌∙◌, List}
 use Rattle.std.proofs.lemmas.Result.{IfOk-weaker}
 use Rattle.rule_ancestry.specs.Holding.{Held}
 use Rattle.made_rules.specs.Rules.{rules_in}
 use Rattle.made_rules.specs.declared.made.Made.{Made}
+use Rattle.incr_compile.specs.Candidates.{left_cost, right_cost}
+use Rattle.incr_compile.specs.Costs.{cost_of, new_in}
 use Rattle.incr_compile.specs.Nodes.{IsCarried, made_by, node_of}
-use Rattle.incr_compile.specs.Trees.{CanChange, IsReadyIn, has_member, made_in, tree_of}
+use Rattle.incr_compile.specs.Trees.{CanChange, branch, IsReadyIn, has_member, made_in, tree_of}
 use Rattle.incr_compile.proofs.Carrying.{found-held}
+use Rattle.incr_compile.proofs.Spent.{both-ok, spent-by-left, spent-by-right}
 use Rattle.incr_compile.proofs.TreeSteps.{all-ok, at-tree, carry-left-can, carry-right-can, left-changes-at, right-changes-at, ready-left-all, ready-member, ready-right-all}
 use Rattle.incr_compile.proofs.tree.Tree.+ready.Goals as goal
 
@@ -59,3 +62,29 @@ returns-in_ok-below-in-Operator-2-clause-ready g t c =
     b room c.carry_right.ensures.rest
     (subst (λ z. (after : List (Held Made)) × IsCarried c.in-Operator.node.made c.carry_right.new.node.made after change (made_by (node_of c.in-Operator.node) (rules_in (made_in (tree_of z))) (rules_in c.in_ok-below-in-Operator-2.ensures.ready.0))) c.deref-else-has.ensures x) in
     (y.0, at-tree c.args.asked _ _ _ change y.0 (ap tree_of c.in-Operator.is) y.1))
+
+pub returns-in_ok-below-in-Operator-clause-steps : goal.returns-in_ok-below-in-Operator-clause-steps
+returns-in_ok-below-in-Operator-clause-steps g t c =
+    let k = left-changes-at c.args.asked (node_of c.in-Operator.node) (tree_of c.in-Operator.left.value) (tree_of c.in-Operator.right.value) (tree_of c.deref-then-has.result.now) c.deref_mut.result.now c.deref_mut-then-has.result.now c.in_ok-below-in-Operator.below (subst (λ z. CanChange c.args.asked (tree_of z)) c.in-Operator.is c.requires)
+    (ap tree_of c.deref_mut.ensures.value) (ap tree_of c.deref-then-has.ensures) c.in_ok-below-in-Operator.ensures.ready.0
+    (subst (λ z. IsReadyIn c.args.asked (tree_of c.deref_mut.result.now) z c.in_ok-below-in-Operator.below c.in_ok-below-in-Operator.ensures.ready.0) (sym c.deref_mut-then-has.ensures.value) c.in_ok-below-in-Operator.ensures.ready.1) in
+    both-ok c.carry_left.result _ _ _ (c.carry_left.ensures.steps (made_in (tree_of c.in-Operator.left.value)) c.in_ok-below-in-Operator.ensures.ready.0 k) c.carry_left.ensures.left
+    (λ spent same.
+    subst (λ z. c.carry_left.new.steps ≤ c.args.steps.now + cost_of (tree_of z) (branch (node_of c.carry_left.new.node) (tree_of c.carry_left.new.left) (tree_of c.in-Operator.right.value))) (sym c.in-Operator.is)
+    (spent-by-left (node_of c.in-Operator.node) (node_of c.carry_left.new.node) (tree_of c.in-Operator.left.value) (tree_of c.in-Operator.right.value) (tree_of c.carry_left.new.left) (tree_of c.in-Operator.right.value) c.args.steps.now c.ready-then-has.new.steps c.carry_left.new.steps
+    (subst (λ z. c.ready-then-has.new.steps ≤ c.args.steps.now + cost_of (tree_of c.in-Operator.left.value) (tree_of z)) (sym (same ∙ c.deref_mut-then-has.ensures.value)) (subst (λ z. c.ready-then-has.new.steps ≤ c.args.steps.now + cost_of (tree_of z) (tree_of c.ready-then-has.new.self)) c.deref_mut.ensures.value c.in_ok-below-in-Operator.ensures.steps))
+    (subst (λ z. c.carry_left.new.steps ≤ c.ready-then-has.new.steps + left_cost c.in-Operator.node.op (rules_in (made_in (tree_of c.in-Operator.right.value))) (new_in (made_in (tree_of c.in-Operator.left.value)) (made_in (tree_of z)))) (sym same)
+    (subst (λ z. c.carry_left.new.steps ≤ c.ready-then-has.new.steps + left_cost c.in-Operator.node.op (rules_in (made_in (tree_of z))) (new_in (made_in (tree_of c.in-Operator.left.value)) (made_in (tree_of c.deref_mut-then-has.result.now)))) c.deref-then-has.ensures spent))))
+
+pub returns-in_ok-below-in-Operator-2-clause-steps : goal.returns-in_ok-below-in-Operator-2-clause-steps
+returns-in_ok-below-in-Operator-2-clause-steps g t c =
+    let k = right-changes-at c.args.asked (node_of c.in-Operator.node) (tree_of c.in-Operator.left.value) (tree_of c.in-Operator.right.value) (tree_of c.deref-else-has.result.now) c.deref_mut-else-has.result.now c.deref_mut-else-has-2.result.now c.in_ok-below-in-Operator-2.below (subst (λ z. CanChange c.args.asked (tree_of z)) c.in-Operator.is c.requires)
+    (ap tree_of c.deref_mut-else-has.ensures.value) (ap tree_of c.deref-else-has.ensures) c.in_ok-below-in-Operator-2.ensures.ready.0
+    (subst (λ z. IsReadyIn c.args.asked (tree_of c.deref_mut-else-has.result.now) z c.in_ok-below-in-Operator-2.below c.in_ok-below-in-Operator-2.ensures.ready.0) (sym c.deref_mut-else-has-2.ensures.value) c.in_ok-below-in-Operator-2.ensures.ready.1) in
+    both-ok c.carry_right.result _ _ _ (c.carry_right.ensures.steps (made_in (tree_of c.in-Operator.right.value)) c.in_ok-below-in-Operator-2.ensures.ready.0 k) c.carry_right.ensures.right
+    (λ spent same.
+    subst (λ z. c.carry_right.new.steps ≤ c.args.steps.now + cost_of (tree_of z) (branch (node_of c.carry_right.new.node) (tree_of c.in-Operator.left.value) (tree_of c.carry_right.new.right))) (sym c.in-Operator.is)
+    (spent-by-right (node_of c.in-Operator.node) (node_of c.carry_right.new.node) (tree_of c.in-Operator.left.value) (tree_of c.in-Operator.right.value) (tree_of c.in-Operator.left.value) (tree_of c.carry_right.new.right) c.args.steps.now c.ready-else-has.new.steps c.carry_right.new.steps
+    (subst (λ z. c.ready-else-has.new.steps ≤ c.args.steps.now + cost_of (tree_of c.in-Operator.right.value) (tree_of z)) (sym (same ∙ c.deref_mut-else-has-2.ensures.value)) (subst (λ z. c.ready-else-has.new.steps ≤ c.args.steps.now + cost_of (tree_of z) (tree_of c.ready-else-has.new.self)) c.deref_mut-else-has.ensures.value c.in_ok-below-in-Operator-2.ensures.steps))
+    (subst (λ z. c.carry_right.new.steps ≤ c.ready-else-has.new.steps + right_cost c.in-Operator.node.op (rules_in (made_in (tree_of c.in-Operator.left.value))) (new_in (made_in (tree_of c.in-Operator.right.value)) (made_in (tree_of z)))) (sym same)
+    (subst (λ z. c.carry_right.new.steps ≤ c.ready-else-has.new.steps + right_cost c.in-Operator.node.op (rules_in (made_in (tree_of z))) (new_in (made_in (tree_of c.in-Operator.right.value)) (made_in (tree_of c.deref_mut-else-has-2.result.now)))) c.deref-else-has.ensures spent))))
