@@ -35,7 +35,7 @@ fn name_at(v: u32, index: usize, member: &MemberItem) -> Result<Option<MemberNam
 }
 
 /// The members of a virtual switch, as its expression may name them.
-fn names(alloc: Global, members: &[MemberItem], v: u32) -> Result<List<MemberName>, Memory>
+pub fn names(alloc: Global, members: &[MemberItem], v: u32) -> Result<List<MemberName>, Memory>
     ensures { IfOk result (λ names. names ≡ names_of members.now v) }
 {
     let mut names = List::new(alloc);

@@ -24,10 +24,13 @@ mod view;
 mod wide;
 mod words;
 
+pub use exprs::names;
 pub use fault::PolicyFault;
 pub use known::{bench, built_in};
 pub use policy::{MemberItem, Policy, all_ports};
 pub use reading::read;
+pub use terse::expr_kind;
+pub use wide::check_widths;
 
 #[cfg(test)]
 mod tests;

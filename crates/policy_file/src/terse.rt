@@ -12,7 +12,8 @@ use policy_expr::ExprFault;
 use std::alloc::Global;
 use virtual_topology::TopologyFault;
 
-fn expr_kind(fault: &ExprFault) -> &'static str
+/// The kind of a fault of an expression, as a report writes it.
+pub fn expr_kind(fault: &ExprFault) -> &'static str
     ensures { result.now ≡ expr_kind_of fault.now }
 {
     match fault {

@@ -145,9 +145,9 @@ fn check_each(virtuals: &[VirtualItem], needed: &[u64]) -> Result<(), PolicyFaul
     Ok(())
 }
 
-/// No virtual switch needs more levels than there are.
+/// No virtual switch needs more levels than there are; `TooWide` names the first one that does.
 #[tactic(auto, using(crate::proofs::Widths::widths_are))]
-pub(crate) fn check_widths(
+pub fn check_widths(
     alloc: Global,
     topology: &Topology,
     exprs: &[Expr],
