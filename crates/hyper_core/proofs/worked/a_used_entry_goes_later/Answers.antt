@@ -1,5 +1,0 @@
-use Rattle.hyper_core.specs.WorkedTimeouts.{used_goes_later}
-use Rattle.hyper_core.proofs.worked.a_used_entry_goes_later.Goals as goal
-
-pub returns : goal.returns
-returns c = used_goes_later
