@@ -12,12 +12,12 @@ flow_stat-requires-clause-in_range g c =
 pub flow_stat-requires-clause-short : goal.flow_stat-requires-clause-short
 flow_stat-requires-clause-short g c =
     at_place (λ (e : Entry). length e.actions ≤ 64) c.args.table.now.table.entries c.args.place c.in-Some.entry.now
-        c.requires.short c.in-Some.ensures
+    c.requires.short c.in-Some.ensures
 
 pub count-packets-requires : goal.count-packets-requires
 count-packets-requires g c =
     let t = c.args.table.now.table in
     let sound = c.requires.sound in
     let given = at_place (λ (e : Entry). (0 < e.serial) × (e.serial < t.next)) t.entries c.args.place c.in-Some.entry.now
-        sound.given c.in-Some.ensures in
+    sound.given c.in-Some.ensures in
     omega (arith, given.1, sound.fits)
