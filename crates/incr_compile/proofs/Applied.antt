@@ -11,7 +11,8 @@ use Rattle.made_rules.specs.Rules.{rule_of}
 use Rattle.made_rules.specs.declared.made.Made.{Made}
 use Rattle.std.proofs.lemmas.List.Sorted.{IsPermutation-sym, IsPermutation-trans}
 use Rattle.incr_compile.specs.Compiling.{Asks, IsOf, MemberChanges, policy_in, rules_at, rules_held}
-use Rattle.incr_compile.specs.Trees.{CanChange, IsOnce, IsReadyIn, IsSettled, IsTree, IsUnderWay, TreeOf, made_in, tree_of}
+use Rattle.incr_compile.specs.Trees.{CanChange, IsOnce, IsReadyIn, IsSettled, IsTree, IsUnderWay, TreeOf, made_in}
+use Rattle.incr_compile.specs.Trees.{tree_of}
 use Rattle.incr_compile.specs.declared.compiled.LeafDelta.{LeafDelta}
 use Rattle.incr_compile.specs.declared.tree.MemberChange.{MemberChange}
 use Rattle.incr_compile.specs.declared.tree.Tree.{Tree}

@@ -17,7 +17,8 @@ use Rattle.policy_meaning.specs.Rules.{sums_with, chains_with, chains_by, shifts
 use Rattle.policy_meaning.specs.declared.rule.Rule.{Rule}
 use Rattle.rule_ancestry.specs.Holding.{Held, item_of}
 use Rattle.made_rules.specs.Rules.{rule_of}
-use Rattle.incr_compile.specs.Ways.{held_way, left_origin, lone, lone_by, made_with, other, right_origin, way, without_ids}
+use Rattle.incr_compile.specs.Ways.{held_way, left_origin, lone, lone_by, made_with, other, right_origin, way}
+use Rattle.incr_compile.specs.Ways.{without_ids}
 
 module _ {B R C : Type 0} (v : B → R) (f : C → R) (mk : B → R → C) (is : (b : B) (r : R) → f (mk b r) ≡ r) (g : R → Option R) where
   head : (b : B) (o : Option R) (cs : List C) (rs : List R) → map f cs ≡ rs → map f (cons_option (option_map (mk b) o) cs) ≡ cons_option o rs

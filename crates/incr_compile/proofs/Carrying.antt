@@ -17,7 +17,8 @@ use Rattle.incr_compile.specs.Candidates.{left_cost, right_cost}
 use Rattle.incr_compile.specs.Nodes.{AreFit, IsCarried, IsFit, LeftChanges, NodeOf, RightChanges, made_by}
 use Rattle.incr_compile.specs.Sound.{AreSound, IsSound}
 use Rattle.incr_compile.specs.Ways.{held_way, left_origin, right_origin}
-use Rattle.incr_compile.proofs.Fits.{by-left-levels, by-right-levels, fit-all-sound, fit-sound, left-levels, right-levels}
+use Rattle.incr_compile.proofs.Fits.{by-left-levels, by-right-levels, fit-all-sound, fit-sound, left-levels}
+use Rattle.incr_compile.proofs.Fits.{right-levels}
 use Rattle.incr_compile.proofs.Whole.{settled-items, settled-rules, whole-left, whole-right}
 
 -- what is made of some origins is held

@@ -1,5 +1,6 @@
 -- The rules of a tree are those of its expression from scratch.
-use Rattle.std.proofs.Common.{◌≡◌, ◌≢◌, ℕ, ◌==◌, Bool, true, false, not, cond, ◌||◌, List, [], ◌∷◌, ◌++◌, inl, inr, map, refl, sym, ap, subst, ◌∙◌}
+use Rattle.std.proofs.Common.{◌≡◌, ◌≢◌, ℕ, ◌==◌, Bool, true, false, not, cond, ◌||◌, List, [], ◌∷◌, ◌++◌, inl, inr}
+use Rattle.std.proofs.Common.{map, refl, sym, ap, subst, ◌∙◌}
 use Rattle.std.specs.Prelude.{IsPermutation, filter}
 use Rattle.std.specs.List.{AllByRecursion, list_any}
 use Rattle.std.proofs.lemmas.Bool.{cases_eq}
@@ -20,9 +21,11 @@ use Rattle.rule_ancestry.proofs.StoreLemmas.{eq-other, eq-same}
 use Rattle.made_rules.specs.Rules.{is_one_of, rule_of, rules_in}
 use Rattle.made_rules.specs.declared.made.Made.{Made}
 use Rattle.made_rules.specs.declared.made.Origin.TheVariants.{Leaf as OfLeaf}
-use Rattle.incr_compile.specs.Compiling.{Asks, IsOf, MemberChanges, composed_by, is_apart_from, policy_in, rules_after, rules_at, rules_held, same_leaf}
+use Rattle.incr_compile.specs.Compiling.{Asks, IsOf, MemberChanges, composed_by, is_apart_from, policy_in}
+use Rattle.incr_compile.specs.Compiling.{rules_after, rules_at, rules_held, same_leaf}
 use Rattle.incr_compile.specs.Nodes.{IsNode, NodeOf, whole_size}
-use Rattle.incr_compile.specs.Trees.{Changes, IsMemberRule, IsTree, TreeOf, branch, changed_by, leaf, made_in, tree_size}
+use Rattle.incr_compile.specs.Trees.{Changes, IsMemberRule, IsTree, TreeOf, branch, changed_by, leaf, made_in}
+use Rattle.incr_compile.specs.Trees.{tree_size}
 use Rattle.incr_compile.specs.Ways.{is_not_of, way, without_ids}
 use Rattle.incr_compile.specs.declared.compiled.LeafDelta.{LeafDelta}
 use Rattle.incr_compile.specs.declared.tree.MemberChange.{MemberChange}

@@ -1,5 +1,6 @@
 -- What a node keeps where some rules of an operand go.
-use Rattle.std.proofs.Common.{◌≡◌, ℕ, ◌==◌, Bool, true, false, not, cond, ◌||◌, List, [], ◌∷◌, Option, Some, None, map, refl, ap, subst, ◌∙◌}
+use Rattle.std.proofs.Common.{◌≡◌, ℕ, ◌==◌, Bool, true, false, not, cond, ◌||◌, List, [], ◌∷◌, Option, Some, None}
+use Rattle.std.proofs.Common.{map, refl, ap, subst, ◌∙◌}
 use Rattle.std.specs.Prelude.{IsPermutation, filter, option_map}
 use Rattle.std.specs.List.{list_any}
 use Rattle.list_change.specs.Pairing.{made}

@@ -1,5 +1,6 @@
 -- What is told of a change, and what may be asked of a tree.
-use Rattle.std.proofs.Common.{◌≡◌, ℕ, zero, suc, ◌<◌, ◌==◌, Bool, true, false, ◌||◌, List, [], ◌∷◌, ◌++◌, length, map, refl, sym, ap, subst, ◌∙◌, arith}
+use Rattle.std.proofs.Common.{◌≡◌, ℕ, zero, suc, ◌<◌, ◌==◌, Bool, true, false, ◌||◌, List, [], ◌∷◌, ◌++◌, length, map}
+use Rattle.std.proofs.Common.{refl, sym, ap, subst, ◌∙◌, arith}
 use Rattle.std.specs.Prelude.{Contains, IsPermutation, if◌then◌else◌}
 use Rattle.std.specs.List.{AllByRecursion}
 use Rattle.std.proofs.lemmas.Grind.{common_steps}
@@ -16,7 +17,8 @@ use Rattle.made_rules.specs.declared.made.Made.{Made}
 use Rattle.made_rules.specs.declared.stay.Stay.{Stay}
 use Rattle.made_rules.proofs.Changes.{front, length-map}
 use Rattle.incr_compile.specs.Compiling.{Asks, IsByLeaves, IsMemberDelta, member_size, rules_held}
-use Rattle.incr_compile.specs.Trees.{CanChange, Changes, ComesFit, IsMemberRule, IsOnce, IsTree, TreeOf, branch, has_member, leaf}
+use Rattle.incr_compile.specs.Trees.{CanChange, Changes, ComesFit, IsMemberRule, IsOnce, IsTree, TreeOf, branch}
+use Rattle.incr_compile.specs.Trees.{has_member, leaf}
 use Rattle.incr_compile.specs.declared.compiled.LeafDelta.{LeafDelta}
 use Rattle.incr_compile.specs.declared.tree.MemberChange.{MemberChange}
 use Rattle.incr_compile.proofs.TreeLemmas.{or-left}

@@ -1,8 +1,10 @@
 -- A tree in which a change is ready, and what it is once it is settled.
-use Rattle.std.proofs.Common.{◌≡◌, ℕ, ◌<◌, ◌≤◌, ◌^◌, Bool, true, false, cond, ◌||◌, List, [], ◌∷◌, Option, Some, None, length, map, refl, sym, ap, subst, ◌∙◌}
+use Rattle.std.proofs.Common.{◌≡◌, ℕ, ◌<◌, ◌≤◌, ◌^◌, Bool, true, false, cond, ◌||◌, List, [], ◌∷◌, Option, Some, None}
+use Rattle.std.proofs.Common.{length, map, refl, sym, ap, subst, ◌∙◌}
 use Rattle.std.specs.Prelude.{IsPermutation, filter, filter_map}
 use Rattle.std.specs.List.{AllByRecursion}
-use Rattle.std.proofs.lemmas.List.Sorted.{IsPermutation-append_left, IsPermutation-append_right, IsPermutation-append, IsPermutation-map, IsPermutation-sym, IsPermutation-trans}
+use Rattle.std.proofs.lemmas.List.Sorted.{IsPermutation-append_left, IsPermutation-append_right, IsPermutation-append}
+use Rattle.std.proofs.lemmas.List.Sorted.{IsPermutation-map, IsPermutation-sym, IsPermutation-trans}
 use Rattle.list_change.specs.Pairing.{Way, made}
 use Rattle.list_change.proofs.PairLemmas.{by_left-permuted, pairs-right_permuted}
 use Rattle.list_change.proofs.Permute.{by-equation, permuted-filter_map}
@@ -19,7 +21,9 @@ use Rattle.made_rules.specs.Rules.{rule_held, rules_in}
 use Rattle.made_rules.specs.declared.made.Made.{Made}
 use Rattle.incr_compile.specs.Candidates.{asked as asks, reach, shown}
 use Rattle.incr_compile.specs.Nodes.{AreFit, IsCarried, LeftChanges, NodeOf, RightChanges, made_by, node_of, whole_size}
-use Rattle.incr_compile.specs.Trees.{CanChange, Changes, ComesFit, Follows, FollowsBy, FollowsLeft, FollowsRight, IsBranch, IsMemberRule, IsReadyIn, IsSettled, IsTree, TreeOf, branch, changed_by, has_member, leaf, made_in, tree_of, tree_size}
+use Rattle.incr_compile.specs.Trees.{CanChange, Changes, ComesFit, Follows, FollowsBy, FollowsLeft, FollowsRight}
+use Rattle.incr_compile.specs.Trees.{IsBranch, IsMemberRule, IsReadyIn, IsSettled, IsTree, TreeOf, branch, changed_by}
+use Rattle.incr_compile.specs.Trees.{has_member, leaf, made_in, tree_of, tree_size}
 use Rattle.incr_compile.specs.Ways.{held_way, is_not_of}
 use Rattle.incr_compile.specs.declared.node.Below.{Below}
 use Rattle.incr_compile.specs.declared.node.Node.{Node}

@@ -1,5 +1,6 @@
 -- A change that is under way in a tree: it is made ready, settled or taken back node by node.
-use Rattle.std.proofs.Common.{◌≡◌, ℕ, ◌==◌, ◌+◌, ◌<◌, ◌≤◌, Bool, true, false, not, inl, inr, ◌||◌, List, ◌++◌, Some, None, Result, Ok, Err, length, map, refl, sym, ap, subst, ◌∙◌, arith}
+use Rattle.std.proofs.Common.{◌≡◌, ℕ, ◌==◌, ◌+◌, ◌<◌, ◌≤◌, Bool, true, false, not, inl, inr, ◌||◌, List, ◌++◌, Some}
+use Rattle.std.proofs.Common.{None, Result, Ok, Err, length, map, refl, sym, ap, subst, ◌∙◌, arith}
 use Rattle.std.specs.Prelude.{IfOk, IsPermutation, OnOk, filter, filter_map}
 use Rattle.std.proofs.lemmas.Bool.{cases_eq}
 use Rattle.op_compose.specs.declared.op.Op.{Op}
@@ -13,12 +14,16 @@ use Rattle.made_rules.specs.declared.made.Made.{Made}
 use Rattle.made_rules.specs.declared.made.Origin.{Origin}
 use Rattle.incr_compile.specs.Candidates.{asked as asks, reach, shown}
 use Rattle.incr_compile.specs.Nodes.{IsCarried, LeftChanges, NodeOf, RightChanges, made_by, node_of}
-use Rattle.incr_compile.specs.Trees.{CanCarryLeft, CanCarryRight, CanChange, Follows, FollowsLeft, FollowsRight, IsReadyIn, IsSettled, IsUnderWay, TreeOf, branch, has_member, leaf, made_in, tree_of}
+use Rattle.incr_compile.specs.Trees.{CanCarryLeft, CanCarryRight, CanChange, Follows, FollowsLeft, FollowsRight}
+use Rattle.incr_compile.specs.Trees.{IsReadyIn, IsSettled, IsUnderWay, TreeOf, branch, has_member, leaf, made_in}
+use Rattle.incr_compile.specs.Trees.{tree_of}
 use Rattle.incr_compile.specs.declared.node.Node.{Node}
 use Rattle.incr_compile.specs.declared.tree.MemberChange.{MemberChange}
 use Rattle.incr_compile.specs.declared.tree.Tree.{Tree}
 use Rattle.incr_compile.specs.declared.tree.Tree.TheVariants.{Member, Operator'}
-use Rattle.incr_compile.proofs.TreeLemmas.{as-left, as-none, as-right, can-left, can-right, follow-left, follow-right, left-absent, left-changes, right-changes, root-ready, root-wide, settle-leaf, settle-left, settle-right}
+use Rattle.incr_compile.proofs.TreeLemmas.{as-left, as-none, as-right, can-left, can-right, follow-left, follow-right}
+use Rattle.incr_compile.proofs.TreeLemmas.{left-absent, left-changes, right-changes, root-ready, root-wide}
+use Rattle.incr_compile.proofs.TreeLemmas.{settle-leaf, settle-left, settle-right}
 use Rattle.incr_compile.proofs.Whole.{settled-items}
 
 or-right : (a b : Bool) → (a || b) ≡ true → b ≡ false → a ≡ true

@@ -2,7 +2,9 @@
 use Rattle.std.proofs.Common.{◌≡◌, ℕ, Bool, not, List, [], ◌∷◌, ◌++◌, map, refl, sym, ap, subst, ◌∙◌, append_assoc}
 use Rattle.std.specs.Prelude.{IsPermutation, filter}
 use Rattle.std.proofs.lemmas.List.{map-append}
-use Rattle.std.proofs.lemmas.List.Sorted.{IsPermutation-append, IsPermutation-append_comm, IsPermutation-append_right, IsPermutation-filter_both, IsPermutation-map, IsPermutation-sym, IsPermutation-trans}
+use Rattle.std.proofs.lemmas.List.Sorted.{IsPermutation-append, IsPermutation-append_comm, IsPermutation-append_right}
+use Rattle.std.proofs.lemmas.List.Sorted.{IsPermutation-filter_both, IsPermutation-map, IsPermutation-sym}
+use Rattle.std.proofs.lemmas.List.Sorted.{IsPermutation-trans}
 use Rattle.list_change.specs.Pairing.{by_left, by_right, made}
 use Rattle.list_change.proofs.Kept.{permuted-filter}
 use Rattle.list_change.proofs.PairLemmas.{left-split, right-split}
@@ -17,7 +19,8 @@ use Rattle.made_rules.specs.declared.stay.Stay.{Stay}
 use Rattle.made_rules.proofs.Changes.{front}
 use Rattle.made_rules.proofs.Ids.{without-all}
 use Rattle.incr_compile.specs.Ways.{held_way, is_not_of, left_origin, right_origin}
-use Rattle.incr_compile.proofs.Shares.{filter-items, filter-rules, made-without-lefts, made-without-rights, outside-turned}
+use Rattle.incr_compile.proofs.Shares.{filter-items, filter-rules, made-without-lefts, made-without-rights}
+use Rattle.incr_compile.proofs.Shares.{outside-turned}
 
 module _ {X : Type 0} where
   ends-first : (k c m : List X) → IsPermutation ((k ++ c) ++ m) ((c ++ m) ++ k)

@@ -1,5 +1,6 @@
 -- A compiled expression: which rules it holds, and how they change with those of a member.
-use Rattle.std.specs.Prelude.{◌≡◌, ◌≢◌, ℕ, Bool, not, ◌==◌, ◌&&◌, ◌<◌, ◌^◌, ◌++◌, List, IsPermutation, filter, if◌then◌else◌, map, slice_get}
+use Rattle.std.specs.Prelude.{◌≡◌, ◌≢◌, ℕ, Bool, not, ◌==◌, ◌&&◌, ◌<◌, ◌^◌, ◌++◌, List, IsPermutation, filter}
+use Rattle.std.specs.Prelude.{if◌then◌else◌, map, slice_get}
 use Rattle.std.specs.List.{AllByRecursion, list_any}
 use Rattle.cv_io.specs.declared.leaf.Leaf.{Leaf}
 use Rattle.of10_match.specs.Normal.{IsNormal}

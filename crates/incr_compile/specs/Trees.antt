@@ -1,5 +1,6 @@
 -- A tree of operators over the rules of members, and a change of one member's.
-use Rattle.std.specs.Prelude.{◌≡◌, ◌≢◌, ℕ, Bool, true, false, ◌==◌, ◌<◌, ◌≤◌, ◌||◌, ◌++◌, Option, Some, None, List, IsPermutation, filter, if◌then◌else◌, length, map}
+use Rattle.std.specs.Prelude.{◌≡◌, ◌≢◌, ℕ, Bool, true, false, ◌==◌, ◌<◌, ◌≤◌, ◌||◌, ◌++◌, Option, Some, None, List}
+use Rattle.std.specs.Prelude.{IsPermutation, filter, if◌then◌else◌, length, map}
 use Rattle.std.specs.List.{AllByRecursion}
 use Rattle.op_compose.specs.declared.op.Op.TheVariants.{Hop}
 use Rattle.op_compose.specs.declared.op.Side.{Side}
@@ -9,7 +10,8 @@ use Rattle.made_rules.specs.Changing.{ChangeOf}
 use Rattle.made_rules.specs.Rules.{rules_in}
 use Rattle.made_rules.specs.declared.made.Made.{Made}
 use Rattle.made_rules.specs.declared.made.Origin.TheVariants.{Leaf as OfLeaf}
-use Rattle.incr_compile.specs.Nodes.{IsCarried, IsFit, IsNode, LeftChanges, NodeOf, RightChanges, SizesFit, made_by, node_of, whole_size}
+use Rattle.incr_compile.specs.Nodes.{IsCarried, IsFit, IsNode, LeftChanges, NodeOf, RightChanges, SizesFit, made_by}
+use Rattle.incr_compile.specs.Nodes.{node_of, whole_size}
 use Rattle.incr_compile.specs.Ways.{is_not_of}
 use Rattle.incr_compile.specs.declared.node.Below.{Below}
 use Rattle.incr_compile.specs.declared.node.Node.{Node}

@@ -8,7 +8,8 @@ use Rattle.made_rules.specs.declared.made.Made.{Made}
 use Rattle.incr_compile.specs.Compiling.{IsMemberDelta, IsOf, policy_in, rules_at, rules_held}
 use Rattle.incr_compile.specs.Costs.{cost_of}
 use Rattle.incr_compile.specs.Trees.{has_member, tree_of}
-use Rattle.incr_compile.proofs.Applied.{applied-apart, applied-members, applied-policy, applied-told, applied-tree, leaving, under-way}
+use Rattle.incr_compile.proofs.Applied.{applied-apart, applied-members, applied-policy, applied-told, applied-tree}
+use Rattle.incr_compile.proofs.Applied.{leaving, under-way}
 use Rattle.incr_compile.proofs.Spent.{spent-all}
 use Rattle.incr_compile.proofs.Told.{can-change}
 use Rattle.incr_compile.proofs.compiled.Compiled.apply.Goals as goal

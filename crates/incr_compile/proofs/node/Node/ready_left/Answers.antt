@@ -1,7 +1,8 @@
 use Rattle.std.proofs.Common.{sym, ◌∙◌}
 use Rattle.std.proofs.lemmas.Result.{IfOk-weaker}
 use Rattle.incr_compile.specs.Nodes.{node_of}
-use Rattle.incr_compile.proofs.Carrying.{found-held, left-carried, left-come-alone, left-come-levels, left-come-sound, left-others-sound, left-steps}
+use Rattle.incr_compile.proofs.Carrying.{found-held, left-carried, left-come-alone, left-come-levels, left-come-sound}
+use Rattle.incr_compile.proofs.Carrying.{left-others-sound, left-steps}
 use Rattle.incr_compile.proofs.node.Node.ready_left.Goals as goal
 
 pub made_by_left-requires-clause-sound : goal.made_by_left-requires-clause-sound

@@ -1,7 +1,8 @@
 use Rattle.std.proofs.Common.{sym, ◌∙◌}
 use Rattle.std.proofs.lemmas.Result.{IfOk-weaker}
 use Rattle.incr_compile.specs.Nodes.{node_of}
-use Rattle.incr_compile.proofs.Carrying.{found-held, right-carried, right-come-alone, right-come-levels, right-come-sound, right-others-sound, right-steps}
+use Rattle.incr_compile.proofs.Carrying.{found-held, right-carried, right-come-alone, right-come-levels}
+use Rattle.incr_compile.proofs.Carrying.{right-come-sound, right-others-sound, right-steps}
 use Rattle.incr_compile.proofs.node.Node.ready_right.Goals as goal
 
 pub made_by_right-requires-clause-sound : goal.made_by_right-requires-clause-sound

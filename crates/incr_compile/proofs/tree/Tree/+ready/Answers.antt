@@ -9,7 +9,8 @@ use Rattle.incr_compile.specs.Nodes.{IsCarried, made_by, node_of}
 use Rattle.incr_compile.specs.Trees.{CanChange, branch, IsReadyIn, has_member, made_in, tree_of}
 use Rattle.incr_compile.proofs.Carrying.{found-held}
 use Rattle.incr_compile.proofs.Spent.{both-ok, spent-by-left, spent-by-right}
-use Rattle.incr_compile.proofs.TreeSteps.{all-ok, at-tree, carry-left-can, carry-right-can, left-changes-at, right-changes-at, ready-left-all, ready-member, ready-right-all}
+use Rattle.incr_compile.proofs.TreeSteps.{all-ok, at-tree, carry-left-can, carry-right-can, left-changes-at}
+use Rattle.incr_compile.proofs.TreeSteps.{right-changes-at, ready-left-all, ready-member, ready-right-all}
 use Rattle.incr_compile.proofs.tree.Tree.+ready.Goals as goal
 
 pub ready-requires : goal.ready-requires

@@ -9,7 +9,8 @@ use Rattle.incr_compile.specs.Costs.{cost_of}
 use Rattle.incr_compile.specs.Nodes.{node_of}
 use Rattle.incr_compile.specs.Trees.{branch, leaf, IsReadyIn, IsUnderWay, made_in, tree_of}
 use Rattle.incr_compile.proofs.Spent.{member-cost, settled-cost-left, settled-cost-right}
-use Rattle.incr_compile.proofs.TreeSteps.{left-smaller, right-smaller, left-at, left-by, none-below, read-at, right-by, settled-left-by, settled-member, settled-right-by, under-wide}
+use Rattle.incr_compile.proofs.TreeSteps.{left-smaller, right-smaller, left-at, left-by, none-below, read-at}
+use Rattle.incr_compile.proofs.TreeSteps.{right-by, settled-left-by, settled-member, settled-right-by, under-wide}
 use Rattle.incr_compile.proofs.tree.Tree.+settle.Goals as goal
 
 pub settle-requires : goal.settle-requires

@@ -1,7 +1,8 @@
 use Rattle.std.proofs.Common.{rules, ap, refl, subst, sym, ◌∙◌}
 use Rattle.incr_compile.specs.Nodes.{node_of}
 use Rattle.incr_compile.specs.Trees.{IsReadyIn, IsUnderWay, tree_of}
-use Rattle.incr_compile.proofs.TreeSteps.{left-smaller, right-smaller, left-by, none-below, right-by, under-wide, undone-left-by, undone-member, undone-right-by}
+use Rattle.incr_compile.proofs.TreeSteps.{left-smaller, right-smaller, left-by, none-below, right-by, under-wide}
+use Rattle.incr_compile.proofs.TreeSteps.{undone-left-by, undone-member, undone-right-by}
 use Rattle.incr_compile.proofs.tree.Tree.+undo.Goals as goal
 
 pub undo-requires : goal.undo-requires
