@@ -2,3 +2,4 @@ pub mod Spelling
 pub mod Reading
 pub mod Gives
 pub mod Kept
+pub mod Worked

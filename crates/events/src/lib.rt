@@ -4,8 +4,12 @@
 pub mod event;
 pub mod laws;
 mod reading;
+pub mod worked;
 mod writing;
 
 pub use event::{Event, PolicyRefusal, Reply};
 pub use reading::{EventFault, read_event};
 pub use writing::write_event;
+
+#[cfg(test)]
+mod tests;
