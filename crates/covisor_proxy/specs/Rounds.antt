@@ -3,8 +3,8 @@ use Rattle.std.specs.Prelude.{◌≡◌, ◌==◌, not, ℕ, Bool, true, List, O
 use Rattle.cv_io.specs.declared.leaf.Session.{Session}
 use Rattle.cv_io.specs.declared.leaf.Who.{Who}
 use Rattle.cv_io.specs.declared.leaf.Who.TheVariants.{Member, Switch, Audit}
-use Rattle.hyper_core.specs.declared.event.Event.{Event}
-use Rattle.hyper_core.specs.declared.event.Event.TheVariants as events
+use Rattle.first_machine.specs.declared.event.Event.{Event}
+use Rattle.first_machine.specs.declared.event.Event.TheVariants as events
 use Rattle.covisor_proxy.specs.declared.script.Line.{Line}
 use Rattle.covisor_proxy.specs.declared.script.Line.TheVariants.{Blank, Up, From, Unknown}
 use Rattle.covisor_proxy.specs.declared.stop.Stop.{Stop}

@@ -4,7 +4,7 @@ use Rattle.std.specs.Cmp.Lexicographic.{pointwise}
 use Rattle.cv_io.specs.declared.leaf.Who.{Who}
 use Rattle.hex.specs.Hex.{decode_of}
 use Rattle.hex.specs.declared.FromHexError.{FromHexError}
-use Rattle.hyper_core.specs.Names.{named}
+use Rattle.first_machine.specs.Names.{named}
 use Rattle.covisor_proxy.specs.Chunks.{place_of}
 use Rattle.covisor_proxy.specs.declared.script.Line.{Line}
 use Rattle.covisor_proxy.specs.declared.script.Line.TheVariants.{Blank, Up, From, Unknown}

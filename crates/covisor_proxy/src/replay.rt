@@ -12,7 +12,7 @@ use crate::report::Report;
 use crate::script::{self, Line};
 use crate::stop::Stop;
 use cv_io::{Memory, Session, Sink, Source, Steps, Who};
-use hyper_core::{Event, Hyper, Reply, policy};
+use first_machine::{Event, Hyper, Reply, policy};
 use std::alloc::Global;
 use std::sync::ledger::Ledger;
 

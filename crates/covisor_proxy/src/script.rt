@@ -5,8 +5,8 @@ ghost use Rattle.covisor_proxy.specs.Script.{from_line, line_of};
 use crate::lines::place_of;
 use crate::stop::Stop;
 use cv_io::{Bytes, Memory, Session, Who};
+use first_machine::{Event, policy};
 use hex::FromHexError;
-use hyper_core::{Event, policy};
 use std::alloc::Global;
 
 /// What a line says.

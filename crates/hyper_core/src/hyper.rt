@@ -1,194 +1,146 @@
 //! The machine.
-ghost use Rattle.std.specs.Prelude.{◌≡◌, ◌+◌, ◌<◌, ◌==◌, ◌⊎◌, ◌&&◌, [], IfOk, nat_lt, OnSome, IsTrue, length, if◌then◌else◌};
-ghost use Rattle.std.specs.List.{list_all};
-ghost use Rattle.hyper_core.specs.Adding.{stands_beside};
-ghost use Rattle.hyper_core.specs.Machines.{Adds, Answers, Changes, Takes, IsFresh, MayAdd, OnlySends, Same, is_ours, TellsBuilt, next_round, outbox_of, taking};
+ghost use Rattle.std.specs.Prelude.{◌≡◌, IfOk, OnErr, option_map};
+ghost use Rattle.packet_map.specs.Networks.{SeeRising, network_of};
+ghost use Rattle.policy_file.specs.Policies.{plan};
+ghost use Rattle.policy_file.specs.Sound.{IsSound};
+ghost use Rattle.machine_meaning.specs.Glances.{glance_of};
+ghost use Rattle.hyper_core.specs.Machines.{state_of};
+ghost use Rattle.hyper_core.specs.Worlds.{AreTablesOf, installed_on, network_in, rule_count};
+ghost use Rattle.machine_meaning.specs.Sessions.{round_of};
+ghost use Rattle.machine_meaning.specs.States.{opening};
+ghost use Rattle.machine_meaning.specs.Steps.{step_of};
 
-use crate::addition::{self, Addition};
-use crate::entry::{Entry, SwitchEntry};
-use crate::event::{Event, Reply};
-use crate::outbox::Outbox;
-use crate::policy::{ENTRIES, PORTS};
-use crate::{messages, placement};
-use cv_io::{Bytes, List, Memory, Session, Steps, Who};
+use crate::copying::copied_held;
+use crate::glances::glance;
+use crate::held::Held;
+use crate::setup::Setup;
+use crate::starting::open as open_held;
+use crate::stepping::step as step_held;
+use crate::views::{installed, round, rules};
+use crate::worlds::{Tables, copied_tables, followed};
+use cv_io::{Duplicate, Memory, Who};
+use events::{Event, Reply};
+use install_plan::Written;
+use packet_map::World;
+use policy_file::Policy;
 use std::alloc::Global;
-use std::sync::ledger::Ledger;
+use std::marker::Model;
+use virtual_topology::Topology;
 
-const MEMBER: Who = Who::Member(0);
-
-const SWITCH: Who = Who::Switch(0);
-
-/// The hypervisor over the built-in policy.
+/// The hypervisor.
 #[derive(Drop)]
 pub struct Hyper {
-    alloc: Global,
-    table: List<Entry>,
-    member: Outbox,
-    switch: Outbox,
-    /// The cookie of the last entry that was written.
-    cookie: u64,
-    /// The xid of the last message to the switch.
-    xid: u32,
+    setup: Setup,
+    held: Held,
+}
+
+impl Model for Hyper {
+    ghost use Rattle.hyper_core.specs.Machines.{HasAll, MachineOf, holding_of};
+
+    ghost Value = { MachineOf };
+
+    ghost use Rattle.std.specs.Coded.{codes};
+    ghost use Rattle.policy_expr.specs.Stored.{policy_code};
+
+    ghost coded = { Prim.hlevel (codes, policy_code) };
+
+    ghost view = { λ a. record { plan = a.setup; holding = holding_of a.held } };
+
+    // There is a member for each of the policy's, and a switch.
+    ghost invariant = { λ a. HasAll a.setup a.held };
 }
 
 impl Hyper {
-    /// The machine over the built-in policy: nothing is up, and the member's table is empty.
-    pub fn open_built_in(alloc: Global) -> Result<Hyper, Memory>
-        ensures table { IfOk result (λ machine. machine.table ≡ []) }
-        ensures member { IfOk result (λ machine. IsFresh machine.member) }
-        ensures switch { IfOk result (λ machine. IsFresh machine.switch) }
-        ensures numbers { IfOk result (λ machine. (machine.cookie ≡ 0) × (machine.xid ≡ 0)) }
+    /// The machine of a policy: nothing is up, tables are empty, and each virtual switch has its expression.
+    pub fn open(alloc: Global, policy: Policy) -> Result<Hyper, Memory>
+        ensures plan { IfOk result (λ hyper. hyper.plan ≡ policy) }
+        ensures opening { IfOk result (λ hyper. state_of hyper ≡ opening policy) }
     {
-        Ok(Hyper {
-            alloc,
-            table: List::new(alloc),
-            member: Outbox::new(alloc),
-            switch: Outbox::new(alloc),
-            cookie: 0,
-            xid: 0,
-        })
+        let setup = Setup::make(alloc, policy)?;
+        let held = open_held(&setup)?;
+        Ok(Hyper { setup, held })
     }
 
-    /// Whether the machine knows this event at this moment: the first coming up of the switch; then
-    /// that of the member; then each message of the member that adds an entry; and the taking of a
-    /// message at any time.
-    pub fn is_built(&self, event: &Event) -> bool
-        ensures { TellsBuilt self.now event.now result }
+    /// The reply of an event that changes nothing, and None for every other.
+    pub fn glance(&self, event: &Event) -> Option<Reply>
+        ensures { result ≡ glance_of self.now.plan (state_of self.now) event.now }
     {
-        match event {
-            Event::Up { who: SWITCH, .. } => !self.switch.is_up(),
-            Event::Up { who: MEMBER, .. } => self.switch.is_up() && !self.member.is_up(),
-            Event::Msg { session, frame } => self.addition(session, frame).is_some(),
-            Event::Take { session } => session.who == MEMBER || session.who == SWITCH,
-            _ => false,
-        }
+        glance(&self.setup, &self.held, event)
     }
 
-    /// One step. An event that isn't built changes nothing and is answered `Closed`.
-    pub fn step<G: Ledger>(&mut self, event: &Event, _steps: &mut Steps<G>) -> Result<Reply, Memory>
-        ensures answer { IfOk result (Answers self.old event.now) }
-        ensures changes { Changes event.now self.old self.new }
-        ensures closed { result ≡ Ok Reply.Closed → Same self.old self.new }
-        ensures done { result ≡ Ok Reply.Done → Adds self.old.table self.new.table }
+    /// One step: the reply to an event. After want of memory all is as it was.
+    pub fn step(&mut self, event: &Event) -> Result<Reply, Memory>
+        ensures step { IfOk result (λ reply.
+            (reply, state_of self.new) ≡ step_of self.old.plan (state_of self.old) event.now) }
+        ensures plan { self.new.plan ≡ self.old.plan }
+        ensures memory { OnErr result (state_of self.new ≡ state_of self.old) }
     {
-        match event {
-            Event::Up { who, .. } if self.is_built(event) => self.up(*who),
-            Event::Msg { session, frame } => self.message(session, frame),
-            Event::Take { session } => Ok(self.take(session)),
-            _ => Ok(Reply::Closed),
-        }
+        step_held(&self.setup, &mut self.held, event)
     }
 }
 
 impl Hyper {
-    /// What a message of the member adds, where it is built.
-    fn addition<'a>(&self, session: &Session, frame: &'a Bytes) -> Option<Addition<'a>>
-        ensures { OnSome result (MayAdd self.now session.now) }
+    /// The policy. What is true of every policy is said here.
+    pub fn policy(&self) -> &Policy
+        ensures policy { result.now ≡ self.now.plan }
+        ensures sound { IsSound self.now.plan }
     {
-        if session.who != MEMBER || !self.member.is_open(session.round) {
-            return None;
-        }
-        match addition::read(frame.as_slice()) {
-            Some(added) if self.admits(&added) => Some(added),
-            _ => None,
-        }
+        self.setup.policy()
     }
 
-    /// The table has room, and every entry has the rank of the new one and no header in common.
-    fn admits(&self, added: &Addition) -> bool
-        ensures { result ≡ (list_all (stands_beside added.now) self.now.table && nat_lt (length self.now.table) ENTRIES) }
+    /// Its topology.
+    pub fn topology(&self) -> &Topology
+        ensures { result.now ≡ plan self.now.plan }
     {
-        for entry in self.table.as_slice() {
-            if entry.rank != added.rank || entry.normal.overlaps(&added.normal) {
-                return false;
-            }
-        }
-        self.table.len() < ENTRIES
+        self.setup.topology()
     }
 
-    /// Begins a round. A switch is put its configuration, the deletion of what it has, and its
-    /// whole table; so far that is what the member's empty table misses.
-    fn up(&mut self, who: Who) -> Result<Reply, Memory>
-        requires { IsTrue (is_ours who) }
-        ensures opened { IfOk result (λ reply. reply ≡ Reply.Opened (next_round (outbox_of self.old who))) }
-        ensures table { self.new.table ≡ self.old.table }
+    /// The present round of a session, or the last one; 0 before the first, and where there is no such
+    /// session.
+    pub fn round(&self, who: Who) -> u64
+        ensures { result ≡ round_of (state_of self.now) who }
     {
-        if who == MEMBER {
-            let round = self.member.open();
-            return Ok(Reply::Opened { round });
-        }
-        let round = self.switch.open();
-        let config = messages::set_config(self.alloc, self.next_xid())?;
-        self.switch.put(config)?;
-        let deletion = messages::delete_all(self.alloc, self.next_xid())?;
-        self.switch.put(deletion)?;
-        self.put_barrier()?;
-        for port in PORTS {
-            let entry = placement::miss(self.alloc, port)?;
-            self.put_entry(&entry)?;
-        }
-        self.put_barrier()?;
-        Ok(Reply::Opened { round })
+        round(&self.held, who)
     }
 
-    /// Adds an entry, and writes to the switch what comes with it, in the order of the ports, which
-    /// is that of the match bytes.
-    fn message(&mut self, session: &Session, frame: &Bytes) -> Result<Reply, Memory>
-        ensures answer { IfOk result (λ reply. (reply ≡ Reply.Done × MayAdd self.old session.now) ⊎ (reply ≡ Reply.Closed)) }
-        ensures closed { result ≡ Ok Reply.Closed → Same self.old self.new }
-        ensures done { result ≡ Ok Reply.Done → Adds self.old.table self.new.table }
-        ensures member { self.new.member ≡ self.old.member }
+    /// The entries that stand on a switch, by rising key; None exactly where it isn't up.
+    pub fn installed(&self, n: u32) -> Option<&[Written]>
+        ensures { option_map (λ entries. entries.now) result ≡ installed_on (state_of self.now) n }
     {
-        let Some(added) = self.addition(session, frame) else {
-            return Ok(Reply::Closed);
-        };
-        self.table.push(Entry {
-            normal: added.normal,
-            rank: added.rank,
-        })?;
-        for port in PORTS {
-            if let Some(entry) = placement::placed(self.alloc, &added, port)? {
-                self.put_entry(&entry)?;
-            }
-        }
-        self.put_barrier()?;
-        Ok(Reply::Done)
+        installed(&self.held, n)
     }
 
-    /// Takes the first message that waits for a session.
-    fn take(&mut self, session: &Session) -> Reply
-        ensures answer { result ≡ taking self.old session.now }
-        ensures closed { result ≡ Reply.Closed → Same self.old self.new }
-        ensures left { Takes session.now.who session.now.round self.old self.new }
+    /// How many composed rules the expression of a virtual switch has over the present tables; none where
+    /// there is no such virtual switch.
+    pub fn rules(&self, v: u32) -> Result<u64, Memory>
+        ensures { IfOk result (λ count. count ≡ rule_count self.now.plan (state_of self.now) v) }
     {
-        match session.who {
-            MEMBER => self.member.take(session.round),
-            SWITCH => self.switch.take(session.round),
-            _ => Reply::Closed,
-        }
+        rules(&self.setup, &self.held, v)
     }
 
-    fn put_entry(&mut self, entry: &SwitchEntry) -> Result<(), Memory>
-        ensures { OnlySends self.old self.new }
+    /// Copies of the members' grants and present tables.
+    pub fn tables(&self) -> Result<Tables, Memory>
+        ensures { IfOk result (AreTablesOf self.now.plan (state_of self.now)) }
     {
-        self.cookie = self.cookie.saturating_add(1);
-        let addition = messages::add(self.alloc, self.next_xid(), self.cookie, entry)?;
-        self.switch.put(addition)
+        copied_tables(&self.setup, &self.held)
     }
 
-    fn put_barrier(&mut self) -> Result<(), Memory>
-        ensures { OnlySends self.old self.new }
+    /// What packets are followed over at present.
+    pub fn world<'a>(&'a self, tables: &'a Tables) -> World<'a>
+        requires { AreTablesOf self.now.plan (state_of self.now) tables.now }
+        ensures network { network_of result ≡ network_in self.now.plan (state_of self.now) }
+        ensures topology { result.topology.now ≡ plan self.now.plan }
+        ensures hops { result.hops ≡ self.now.plan.hops }
+        ensures rising { SeeRising result }
     {
-        let barrier = messages::barrier(self.alloc, self.next_xid())?;
-        self.switch.put(barrier)
+        followed(&self.setup, &self.held, tables)
     }
+}
 
-    /// The xid of the next message to the switch: from 1, and after the greatest 1 again.
-    fn next_xid(&mut self) -> u32
-        ensures next { result ≡ (if self.old.xid == u32.MAX then 1 else self.old.xid + 1) }
-        ensures kept { self.new ≡ record self.old { xid = result } }
-    {
-        self.xid = self.xid.checked_add(1).unwrap_or(1);
-        self.xid
+impl Duplicate for Hyper {
+    fn copy(&self) -> Result<Hyper, Memory> {
+        let setup = self.setup.copy()?;
+        let held = copied_held(&setup, &self.held)?;
+        Ok(Hyper { setup, held })
     }
 }

@@ -63,6 +63,13 @@ impl Table {
         self.order.len()
     }
 
+    /// How many entries there may be.
+    pub fn limit(&self) -> u32
+        ensures { result ≡ self.now.table.limit }
+    {
+        self.limit
+    }
+
     pub fn is_empty(&self) -> bool
         ensures { result ≡ (length self.now.table.entries == 0) }
     {

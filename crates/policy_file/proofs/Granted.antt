@@ -7,6 +7,7 @@ use Rattle.std.proofs.lemmas.Bool.Decides.{nat_tests}
 use Rattle.toml.specs.Data.{Data, Members, as_table}
 use Rattle.of10_match.specs.Fields.{MatchOf}
 use Rattle.of10_match.specs.Matching.{everything, overlaps}
+use Rattle.of10_match.specs.Ranges.{IsMatch}
 use Rattle.of10_match.specs.Normal.{IsNormal, is_ip, is_ip_or_arp, is_tagged, has_ports, kept, normal}
 use Rattle.of10_match.proofs.Same.{match_decides}
 use Rattle.virtual_topology.specs.declared.plan.VirtualItem.{VirtualItem}
@@ -20,29 +21,10 @@ use Rattle.policy_file.specs.Regions.{all_headers, at, box, box_of, boxes, ether
 use Rattle.policy_file.specs.Sound.{EachToEarlier, IsSoundBox, LiesApart, has_at_side, is_at_side}
 use Rattle.policy_file.specs.Values.{all_after, number}
 use Rattle.policy_file.specs.Views.{inserted, is_named, on_side, rising_with, side}
+use Rattle.policy_file.proofs.Options.{mapped, through}
+use Rattle.policy_file.proofs.Ranged.{named_in_range}
 use Rattle.policy_file.proofs.Rising.{increasing_from, inserted_rises}
 use Rattle.policy_file.proofs.Unlike.{all_end, earlier_end, not_any}
-
--- options ----------------------------------------------------------------------------------------------------------------
-
--- a first value that is there, and what is made of it
-record Through {A B : Type 0} (f : A → Option B) (o : Option A) (y : B) : Type 0 where
-  via : A
-  first : o ≡ Some via
-  second : f via ≡ Some y
-
-through : {A B : Type 0} (f : A → Option B) (o : Option A) (y : B) → option_and_then f o ≡ Some y → Through f o y
-through f None y e = absurd (cc)
-through f (Some x) y e = record { via = x; first = refl; second = e }
-
-record Mapped {A B : Type 0} (f : A → B) (o : Option A) (y : B) : Type 0 where
-  via : A
-  first : o ≡ Some via
-  second : f via ≡ y
-
-mapped : {A B : Type 0} (f : A → B) (o : Option A) (y : B) → option_map f o ≡ Some y → Mapped f o y
-mapped f None y e = absurd (cc)
-mapped f (Some x) y e = record { via = x; first = refl; second = cc }
 
 -- boxes ------------------------------------------------------------------------------------------------------------------
 
@@ -91,17 +73,19 @@ normal_is m e = record {
   tp_dst = on_kept (is_ip m.dl_type && has_ports m.nw_proto) m.tp_dst (ap (λ (x : MatchOf). x.tp_dst) e);
 }
 
-sound_if : (n m : MatchOf) (b : Bool) → is_normal n ≡ b → n.in_port ≡ None → (if b then Some n else None) ≡ Some m → IsSoundBox m
-sound_if n m false t port e = absurd (cc)
-sound_if n m true t port e =
+sound_if : (n m : MatchOf) (b : Bool) → is_normal n ≡ b → IsMatch n → n.in_port ≡ None
+    → (if b then Some n else None) ≡ Some m → IsSoundBox m
+sound_if n m false t range port e = absurd (cc)
+sound_if n m true t range port e =
     let same : n ≡ m = cc in
-    subst IsSoundBox same (record { normal = normal_is n ((match_decides (normal n) n).0 t); port = port })
+    subst IsSoundBox same
+    (record { range = range; normal = normal_is n ((match_decides (normal n) n).0 t); port = port })
 
 named_box : (ms : Members) (m : MatchOf) (b : Bool) → (if b then option_and_then if_normal (fields_named ms) else None) ≡ Some m → IsSoundBox m
 named_box ms m false e = absurd (cc)
 named_box ms m true e =
     let a = through if_normal (fields_named ms) m e in
-    sound_if a.via m (is_normal a.via) refl (named_port ms a.via a.first) a.second
+    sound_if a.via m (is_normal a.via) refl (named_in_range ms a.via a.first) (named_port ms a.via a.first) a.second
 
 box_sound : (d : Data) (m : MatchOf) → box d ≡ Some m → IsSoundBox m
 box_sound d m e = let a = through box_of (as_table d) m e in named_box a.via m (names_fields a.via) a.second
@@ -148,7 +132,24 @@ region_apart Two d bs e =
     boxes_apart a.via bs (nat_lt 0 (length a.via) && nat_le (length a.via) 16) a.second
 
 everything_sound : IsSoundBox everything
-everything_sound = record { normal = normal_is everything refl; port = refl }
+everything_sound = record {
+  range = record {
+    in_port = tt;
+    dl_src = tt;
+    dl_dst = tt;
+    dl_vlan = tt;
+    dl_vlan_pcp = tt;
+    dl_type = tt;
+    nw_tos = tt;
+    nw_proto = tt;
+    nw_src = tt;
+    nw_dst = tt;
+    tp_src = tt;
+    tp_dst = tt;
+  };
+  normal = normal_is everything refl;
+  port = refl;
+}
 
 -- the boxes that are read of a region, or that of everything
 pub regions_apart : (version : Version) (o : Option Data) (bs : List MatchOf) → or_absent all_headers (region_in version) o ≡ Some bs → AreApart bs

@@ -20,7 +20,7 @@ pub record IsWithin (least greatest n : ℕ) : Type 0 where
   pub least_is : least ≤ n
   pub greatest_is : n ≤ greatest
 
-within_bounds : (least greatest k n : ℕ) → within least greatest k ≡ Some n → IsWithin least greatest n
+pub within_bounds : (least greatest k n : ℕ) → within least greatest k ≡ Some n → IsWithin least greatest n
 within_bounds least greatest k n e = record { least_is = grind (arith, nat_tests); greatest_is = grind (arith, nat_tests) }
 
 pub number_within : (least greatest : ℕ) (d : Data) (n : ℕ) → number least greatest d ≡ Some n → IsWithin least greatest n

@@ -16,3 +16,6 @@ pub mod Passing
 pub mod Unlike
 pub mod Granted
 pub mod Checked
+pub mod PortNumbers
+pub mod Options
+pub mod Ranged

@@ -32,13 +32,14 @@ use Rattle.policy_file.specs.Members.{is_at, is_used, place, ports_at, region_in
 use Rattle.policy_file.specs.Outcomes.{then_do, found}
 use Rattle.policy_file.specs.Plans.{dpid_is_taken, name_is_taken, new_dpid, new_name, plan_of, switch, virtual_switch, switches as switches_of, virtuals as virtuals_of, pairs, read_at, if_new, with_item, items_after}
 use Rattle.policy_file.specs.Reading.{draft_of, policy_of, number_of as number_of_version}
-use Rattle.policy_file.specs.Sound.{IsSoundGrant, IsSoundMember, IsSoundSwitch, EachToEarlier, AreUnlikeSwitches, AreUnlikeVirtuals, AreUnlikeMembers, KeepsLimits, StandsAt}
+use Rattle.policy_file.specs.Sound.{IsSoundGrant, IsSoundMember, IsSoundSwitch, EachToEarlier, IsSoundVirtual, AreUnlikeSwitches, AreUnlikeVirtuals, AreUnlikeMembers, KeepsLimits, StandsAt}
 use Rattle.policy_file.specs.Values.{address, dpid, expression, name, number, ports, is_name, is_address}
 use Rattle.policy_file.specs.Words.{actions, fields, nothing, virtual_ports}
 use Rattle.policy_file.specs.Regions.{all_headers, if_there}
 use Rattle.policy_file.proofs.Granted.{AreApart, regions_apart, side_rises, side_there}
 use Rattle.policy_file.proofs.Outcomes.{done, found_some}
-use Rattle.policy_file.proofs.Unlike.{IsReadApart, items_apart, not_any, not_taken, unlike_all, ports_within}
+use Rattle.policy_file.proofs.PortNumbers.{virtual_ports_within}
+use Rattle.policy_file.proofs.Unlike.{IsReadApart, items_apart, not_any, not_taken, unlike_all, ports_once, ports_within}
 use Rattle.policy_file.proofs.Kept.{IsWithin, absent_within, read_within, read_passes, absent_passes, there_passes, Gives, items_each}
 
 new_is : {B : Type 0} (taken : B → Bool) (x y : B) → if_new taken x ≡ Some y → x ≡ y
@@ -153,7 +154,24 @@ switch_sound = record {
       let c = done (found s (codes "ports") (read_at ports (codes "ports") ms)) _ x b.second in
       let same : record { name = b.value; dpid = a.value; ports = c.value } ≡ x = cc c.second in
       let named : is_name b.value ≡ true = read_passes is_name (codes "name") ms b.value (new_among (name_is_taken (λ (s : SwitchItem). s.name) earlier) (read_at name (codes "name") ms) b.value (found_some s (codes "name") _ b.value b.first)) in
-      subst IsSoundSwitch same (record { name = named; ports = ports_within (get_member (codes "ports") ms) c.value (found_some s (codes "ports") _ c.value c.first) });
+      subst IsSoundSwitch same (record {
+        name = named;
+        ports = ports_within (get_member (codes "ports") ms) c.value (found_some s (codes "ports") _ c.value c.first);
+        once = ports_once (get_member (codes "ports") ms) c.value (found_some s (codes "ports") _ c.value c.first);
+      });
+}
+
+virtual_sound : Gives virtual_switch IsSoundVirtual
+virtual_sound = record {
+  each = λ earlier s ms x e.
+      let a = done (found s (codes "dpid") (new_dpid (λ (s : VirtualItem). s.dpid) earlier ms)) _ x e in
+      let b = done (found s (codes "expr") (read_at expression (codes "expr") ms)) _ x a.second in
+      let c = done (found s (codes "name") (new_name (λ (s : VirtualItem). s.name) earlier ms)) _ x b.second in
+      let d = done (found s (codes "ports") (read_at virtual_ports (codes "ports") ms)) _ x c.second in
+      let same : record { name = c.value; dpid = a.value; ports = d.value; expr = b.value } ≡ x = cc d.second in
+      let read = found_some s (codes "ports") _ d.value d.first in
+      subst IsSoundVirtual same
+      (record { ports = virtual_ports_within (get_member (codes "ports") ms) d.value read });
 }
 
 switches_unlike : IsReadApart switch AreUnlikeSwitches
@@ -309,6 +327,7 @@ version_number Two = record { least_is = omega arith; greatest_is = omega arith 
 -- the switches and virtual switches of a plan
 record PlanIsKept (p : TopologyPlan) : Type 0 where
   switches : AllByRecursion IsSoundSwitch p.switches
+  virtuals : AllByRecursion IsSoundVirtual p.virtuals
   unlike_switches : EachToEarlier AreUnlikeSwitches p.switches
   unlike_virtuals : EachToEarlier AreUnlikeVirtuals p.virtuals
 
@@ -321,6 +340,8 @@ plan_kept file p e =
     let same : record { switches = a.value; cables = b.value; virtuals = c.value; links = d.value } ≡ p = cc d.second in
     subst PlanIsKept same (record {
       switches = items_each switch IsSoundSwitch switch_sound Switch [] (enumerate_from 0 (items file Switch)) a.value tt a.first;
+      virtuals = items_each virtual_switch IsSoundVirtual virtual_sound Virtual []
+          (enumerate_from 0 (items file Virtual)) c.value tt c.first;
       unlike_switches = items_apart switch AreUnlikeSwitches switches_unlike Switch [] (enumerate_from 0 (items file Switch)) a.value tt a.first;
       unlike_virtuals = items_apart virtual_switch AreUnlikeVirtuals virtuals_unlike Virtual [] (enumerate_from 0 (items file Virtual)) c.value tt c.first;
     })
@@ -347,6 +368,7 @@ limits_kept file d e =
       few_members = few_items head.value.version plan.value.virtuals 0 (items file Member) [] members.value (record { upto = omega arith; few = omega arith }) members.first;
       members = items_each reads (IsSoundMember plan.value.virtuals) (next_sound head.value.version plan.value.virtuals) Member [] (enumerate_from 0 (items file Member)) members.value tt members.first;
       switches = k.switches;
+      virtuals = k.virtuals;
       unlike_switches = k.unlike_switches;
       unlike_virtuals = k.unlike_virtuals;
       unlike_members = items_apart reads AreUnlikeMembers (next_unlike head.value.version plan.value.virtuals) Member [] (enumerate_from 0 (items file Member)) members.value tt members.first;

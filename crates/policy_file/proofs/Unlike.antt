@@ -1,5 +1,6 @@
 -- Items that are unlike those before them, and the ports of switches.
-use Rattle.std.proofs.Common.{◌≡◌, ◌∙◌, sym, ap, subst, ℕ, ◌+◌, ◌≤◌, ◌==◌, ◌&&◌, ◌||◌, ◌++◌, Bool, true, false, List, [], ◌∷◌, Option, Some, None, Result, Ok, Err, codes, arith, refl}
+use Rattle.std.proofs.Common.{◌≡◌, ◌∙◌, sym, ap, subst, ℕ, ◌+◌, ◌≤◌, ◌==◌, ◌&&◌, ◌||◌, ◌++◌, Bool, true, false, not, List, [], ◌∷◌, Option, Some, None, Result, Ok, Err, codes, arith, refl}
+use Rattle.std.proofs.lemmas.Bool.Decides.{nat_tests}
 use Rattle.std.specs.List.{AllByRecursion, enumerate_from, list_any}
 use Rattle.std.specs.Prelude.{option_and_then, option_map, if◌then◌else◌}
 use Rattle.toml.specs.Data.{Data, string, integer, float, boolean, datetime, array, table, Members, get_member, as_str}
@@ -14,8 +15,8 @@ use Rattle.policy_file.specs.declared.section.Section.TheVariants.{Item}
 use Rattle.policy_file.specs.Documents.{as_list}
 use Rattle.policy_file.specs.Outcomes.{then_do, found}
 use Rattle.policy_file.specs.Plans.{read_at, is_taken, if_new, with_item, items_after}
-use Rattle.policy_file.specs.Sound.{EachToEarlier, IsPortNumber}
-use Rattle.policy_file.specs.Values.{number, each_of, port, ports, if_distinct}
+use Rattle.policy_file.specs.Sound.{EachToEarlier, IsOtherPort, IsPortNumber}
+use Rattle.policy_file.specs.Values.{number, are_distinct, each_of, port, ports, if_distinct}
 use Rattle.policy_file.proofs.Outcomes.{done}
 use Rattle.policy_file.proofs.Kept.{number_within}
 
@@ -96,3 +97,41 @@ ports_in (Some ds) ns e = each_all port IsPortNumber port_number ds ns (listed_p
 pub ports_within : (o : Option Data) (ns : List ℕ) → option_and_then ports o ≡ Some ns → AllByRecursion IsPortNumber ns
 ports_within None ns e = absurd (cc)
 ports_within (Some d) ns e = ports_in (as_list d) ns e
+
+-- the numbers of such a list are distinct
+other_way : (a b : ℕ) → (a == b) ≡ false → (b == a) ≡ false
+other_way a b e = grind (arith, nat_tests)
+
+others : (n : ℕ) (ms : List ℕ) → AllByRecursion (λ m. (n == m) ≡ false) ms → AllByRecursion (λ m. IsOtherPort m n) ms
+others n [] h = tt
+others n (m ∷ ms) h = (other_way n m h.0, others n ms h.1)
+
+both_true : (a b : Bool) → (not a && b) ≡ true → (a ≡ false) × (b ≡ true)
+both_true false b e = (refl, e)
+both_true true b e = absurd (cc)
+
+each_other : (ns : List ℕ) → are_distinct (λ a b. a == b) ns ≡ true → EachToEarlier IsOtherPort ns
+each_other [] e = tt
+each_other (n ∷ ns) e =
+    let h = both_true (list_any (λ m. n == m) ns) (are_distinct (λ a b. a == b) ns) e in
+    (others n ns (not_any (λ m. n == m) ns h.0), each_other ns h.1)
+
+if_so : (ms ns : List ℕ) (b : Bool) → are_distinct (λ a b. a == b) ms ≡ b → (if b then Some ms else None) ≡ Some ns
+    → EachToEarlier IsOtherPort ns
+if_so ms ns true t e = let p : ms ≡ ns = cc in subst (EachToEarlier IsOtherPort) p (each_other ms t)
+if_so ms ns false t e = absurd (cc)
+
+listed_once : (o : Option (List ℕ)) (ns : List ℕ) → option_and_then (if_distinct (λ a b. a == b)) o ≡ Some ns
+    → EachToEarlier IsOtherPort ns
+listed_once None ns e = absurd (cc)
+listed_once (Some ms) ns e = if_so ms ns (are_distinct (λ a b. a == b) ms) refl e
+
+once_in : (o : Option (List Data)) (ns : List ℕ)
+    → option_and_then (λ ds. option_and_then (if_distinct (λ a b. a == b)) (each_of port ds)) o ≡ Some ns
+    → EachToEarlier IsOtherPort ns
+once_in None ns e = absurd (cc)
+once_in (Some ds) ns e = listed_once (each_of port ds) ns e
+
+pub ports_once : (o : Option Data) (ns : List ℕ) → option_and_then ports o ≡ Some ns → EachToEarlier IsOtherPort ns
+ports_once None ns e = absurd (cc)
+ports_once (Some d) ns e = once_in (as_list d) ns e

@@ -5,6 +5,7 @@ use Rattle.of10_actions.specs.Ports.{AreRising}
 use Rattle.of10_match.specs.Fields.{MatchOf}
 use Rattle.of10_match.specs.Matching.{overlaps}
 use Rattle.of10_match.specs.Normal.{IsNormal}
+use Rattle.of10_match.specs.Ranges.{IsMatch}
 use Rattle.grants.specs.declared.grant.Grant.{Grant}
 use Rattle.virtual_topology.specs.declared.plan.SwitchItem.{SwitchItem}
 use Rattle.virtual_topology.specs.declared.plan.VirtualItem.{VirtualItem}
@@ -29,8 +30,10 @@ abbrev pub EachToEarlier : {A : Type 0} → (A → A → Type 0) → List A → 
 EachToEarlier R [] = Unit {0}
 EachToEarlier R (x ∷ xs) = AllByRecursion (λ y. R y x) xs × EachToEarlier R xs
 
--- a box of a region: no port is named, and each field that is named stands with those that it needs
+-- a box of a region: values are in their ranges, each field that is named stands with those that it needs, and no port
+-- is named
 pub record IsSoundBox (m : MatchOf) : Type 0 where
+  pub range : IsMatch m
   pub normal : IsNormal m
   pub port : m.in_port ≡ None
 
@@ -70,9 +73,18 @@ pub record IsSoundMember (virtuals : List VirtualItem) (m : MemberItem) : Type 0
 abbrev pub IsPortNumber : ℕ → Type 0
 IsPortNumber n = (1 ≤ n) × (n ≤ 65279)
 
+-- two ports of a physical switch have two numbers
+abbrev pub IsOtherPort : ℕ → ℕ → Type 0
+IsOtherPort later earlier = (later == earlier) ≡ false
+
 pub record IsSoundSwitch (s : SwitchItem) : Type 0 where
   pub name : is_name s.name ≡ true
   pub ports : AllByRecursion IsPortNumber s.ports
+  pub once : EachToEarlier IsOtherPort s.ports
+
+-- and so have those of a virtual switch
+pub record IsSoundVirtual (v : VirtualItem) : Type 0 where
+  pub ports : AllByRecursion (λ (q : VirtualPort). IsPortNumber q.port) v.ports
 
 -- two switches have neither one name nor one datapath id
 pub record AreUnlikeSwitches (a b : SwitchItem) : Type 0 where
@@ -100,6 +112,7 @@ pub record KeepsLimits (p : PolicyOf) : Type 0 where
   pub few_members : length p.members ≤ 32
   pub members : AllByRecursion (IsSoundMember p.virtuals) p.members
   pub switches : AllByRecursion IsSoundSwitch p.switches
+  pub virtuals : AllByRecursion IsSoundVirtual p.virtuals
   pub unlike_switches : EachToEarlier AreUnlikeSwitches p.switches
   pub unlike_virtuals : EachToEarlier AreUnlikeVirtuals p.virtuals
   pub unlike_members : EachToEarlier AreUnlikeMembers p.members

@@ -1,0 +1,75 @@
+-- An event that isn't answered at once is a taking, or goes through the phases.
+use Rattle.std.proofs.Common.{◌≡◌, ◌∙◌, ℕ, List, Some, None, length, refl, ap}
+use Rattle.cv_io.specs.declared.leaf.Session.{Session}
+use Rattle.policy_file.specs.Policies.{PolicyOf}
+use Rattle.stats_map.specs.Counting.{CountsOf}
+use Rattle.stats_map.specs.Told.{HeldOf, told}
+use Rattle.machine_meaning.specs.Glances.{glance_of}
+use Rattle.machine_meaning.specs.Hearing.{heard}
+use Rattle.hyper_core.specs.CookieCounts.{with_counts}
+use Rattle.hyper_core.specs.Machines.{HasAll, state_in_held}
+use Rattle.hyper_core.specs.Moments.{taking_in}
+use Rattle.machine_meaning.specs.Phases.{drafted}
+use Rattle.machine_meaning.specs.States.{State}
+use Rattle.machine_meaning.specs.Steps.{done, proceed, step_by, step_of}
+use Rattle.machine_meaning.specs.Takings.{left_after, takes}
+use Rattle.events.specs.declared.event.Event.{Event}
+use Rattle.events.specs.declared.event.Reply.{Reply}
+use Rattle.hyper_core.specs.declared.held.Held.{Held}
+use Rattle.hyper_core.specs.declared.hearing.CookieCount.{CookieCount}
+use Rattle.events.specs.declared.event.Event.TheVariants.{Up, Msg, Gone, Tick, Take, Policy}
+
+proceed_taking : (p : PolicyOf) (s : State) (e : Event) (session : Session) → taking_in e ≡ Some session
+    → proceed p s e ≡ (takes s session, left_after session s)
+proceed_taking p s (Take x) session h = let same : x ≡ session = cc in ap (λ z. (takes s z, left_after z s)) same
+proceed_taking p s (Up who arp) session h = absurd (cc)
+proceed_taking p s (Msg x frame) session h = absurd (cc)
+proceed_taking p s (Gone x) session h = absurd (cc)
+proceed_taking p s (Tick second) session h = absurd (cc)
+proceed_taking p s (Policy v text) session h = absurd (cc)
+
+proceed_other : (p : PolicyOf) (s : State) (e : Event) → taking_in e ≡ None
+    → proceed p s e ≡ done p (drafted p (heard s e) e)
+proceed_other p s (Take x) h = absurd (cc)
+proceed_other p s (Up who arp) h = refl
+proceed_other p s (Msg x frame) h = refl
+proceed_other p s (Gone x) h = refl
+proceed_other p s (Tick second) h = refl
+proceed_other p s (Policy v text) h = refl
+
+-- the step of a taking that finds something, and that of another event that changes something
+pub step_taking : (p : PolicyOf) (s : State) (e : Event) (session : Session) → glance_of p s e ≡ None
+    → taking_in e ≡ Some session → step_of p s e ≡ (takes s session, left_after session s)
+step_taking p s e session g h = ap (λ o. step_by o p s e) g ∙ proceed_taking p s e session h
+
+pub step_other : (p : PolicyOf) (s : State) (e : Event) → glance_of p s e ≡ None → taking_in e ≡ None
+    → step_of p s e ≡ done p (drafted p (heard s e) e)
+step_other p s e g h = ap (λ o. step_by o p s e) g ∙ proceed_other p s e h
+
+-- an event that is answered at once changes nothing
+pub step_glanced : (p : PolicyOf) (s : State) (e : Event) (reply : Reply) → glance_of p s e ≡ Some reply
+    → step_of p s e ≡ (reply, s)
+step_glanced p s e reply g = ap (λ o. step_by o p s e) g
+
+-- what was heard of an event is taken back
+pub taken_back : (h0 h1 h2 : Held) (counts : HeldOf) (n : ℕ) (cs : List CookieCount)
+    → record h1 { counts = h0.counts } ≡ h0 → with_counts n cs (told h1.counts) ≡ told h0.counts
+    → state_in_held h2 ≡ state_in_held h1 → told counts ≡ with_counts n cs (told h2.counts)
+    → state_in_held (record h2 { counts = counts }) ≡ state_in_held h0
+taken_back h0 h1 h2 counts n cs rest back same taken =
+    let counted : told counts ≡ told h0.counts = taken ∙ (ap (λ (s : State). with_counts n cs s.counts) same ∙ back) in
+    ap (λ (c : CountsOf). record (state_in_held h2) { counts = c }) counted
+    ∙ (ap (λ (s : State). record s { counts = told h0.counts }) same ∙ ap state_in_held rest)
+
+-- where counts alone were changed there are as many members and switches
+pub has_all_counted : (p : PolicyOf) (h new : Held) → HasAll p h → record new { counts = h.counts } ≡ h → HasAll p new
+has_all_counted p h new all rest = record {
+  members = ap (λ (x : Held). length x.members) rest ∙ all.members;
+  switches = ap (λ (x : Held). length x.switches) rest ∙ all.switches;
+}
+
+-- and after a taking
+pub has_all_taken : (p : PolicyOf) (h new : Held) → HasAll p h → length new.members ≡ length h.members
+    → length new.switches ≡ length h.switches → HasAll p new
+has_all_taken p h new all members switches =
+    record { members = members ∙ all.members; switches = switches ∙ all.switches }

@@ -1,0 +1,16 @@
+use Rattle.stats_map.specs.Told.{told}
+use Rattle.hyper_core.proofs.OneSwitch.{nth_based, nth_composed}
+use Rattle.hyper_core.proofs.composing.compose_nth.Goals as goal
+
+pub returns-clause-bases : goal.returns-clause-bases
+returns-clause-bases c =
+    nth_based c.args.switches.now c.args.n c.compose_at.new.switch c.index-switches-place.result c.requires.there
+    c.in_ok-compose_at.ensures.base
+
+pub returns-clause-composed : goal.returns-clause-composed
+returns-clause-composed c d e =
+    nth_composed c.args.setting.now d c.args.begun.now c.args.switches.now c.args.n c.compose_at.new.switch
+    c.index-switches-place.result
+    (told c.args.counts.now.now) (told c.compose_at.new.counts.now) c.args.next_cookie.now c.compose_at.new.next_cookie
+    c.args.batches.now c.compose_at.new.batches
+    c.requires.there c.in_ok-compose_at.ensures.composed e

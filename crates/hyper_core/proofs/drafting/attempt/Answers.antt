@@ -1,0 +1,43 @@
+use Rattle.std.proofs.Common.{sym, subst}
+use Rattle.std.proofs.lemmas.Result.{IfOk-weaker}
+use Rattle.hyper_core.proofs.Attempts.{numbers_kept, put_at}
+use Rattle.hyper_core.specs.Closings.{closing_of}
+use Rattle.hyper_core.specs.Moments.{moment_of}
+use Rattle.hyper_core.specs.Overtaking.{IsHeardOf}
+use Rattle.hyper_core.specs.Puts.{HaveNumbers}
+use Rattle.hyper_core.proofs.drafting.attempt.Goals as goal
+
+pub judge_event-requires : goal.judge_event-requires
+judge_event-requires c = c.requires.whole
+
+pub draft-requires-clause-numbers : goal.draft-requires-clause-numbers
+draft-requires-clause-numbers c =
+    numbers_kept c.args.held.now c.judge_event.new.held (moment_of c.args.event.now c.args.held.now.moment)
+    (moment_of c.args.event.now c.judge_event.new.held.moment) c.judge_event.ensures.state c.requires.numbers
+
+pub draft-requires-clause-whole : goal.draft-requires-clause-whole
+draft-requires-clause-whole c = c.requires.whole
+
+pub draft-requires-clause-judged : goal.draft-requires-clause-judged
+draft-requires-clause-judged c = c.in_ok-judged.ensures.judged
+
+pub draft-requires-clause-heard : goal.draft-requires-clause-heard
+draft-requires-clause-heard c =
+    subst (IsHeardOf c.args.event.now c.args.heard.now) (sym c.judge_event.ensures.state) c.requires.heard
+
+pub put-requires : goal.put-requires
+put-requires c =
+    let held = c.judge_event.new.held in
+    subst HaveNumbers (sym c.in_ok-drafted.ensures.bases)
+    (numbers_kept c.args.held.now held (moment_of c.args.event.now c.args.held.now.moment)
+    (moment_of c.args.event.now held.moment) c.judge_event.ensures.state c.requires.numbers)
+
+pub returns-clause-put : goal.returns-clause-put
+returns-clause-put c =
+    IfOk-weaker c.put.result _ _
+    (λ r i. put_at c.args.setup.now c.judge_event.new.held c.args.event.now (closing_of c.args.closing.now) c.args.last
+    _ r c.in_ok-drafted.ensures.draft c.in_ok-drafted.ensures.bases i)
+    c.put.ensures
+
+pub returns-clause-state : goal.returns-clause-state
+returns-clause-state c = c.judge_event.ensures.state

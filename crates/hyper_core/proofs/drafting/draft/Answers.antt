@@ -1,0 +1,85 @@
+use Rattle.std.proofs.Common.{◌≡◌, ◌∙◌, sym, ap, subst}
+use Rattle.hyper_core.proofs.Acted.{few_begun, fresh_begun, judged_begun, nothing_sent, sendable_after}
+use Rattle.hyper_core.proofs.Overtaken.{heard_at}
+use Rattle.hyper_core.proofs.Phased.{all_phases, moment_again, stands_before, timely_begun}
+use Rattle.hyper_core.specs.Closings.{closing_of}
+use Rattle.machine_meaning.specs.Drafts.{Draft, untouched}
+use Rattle.hyper_core.specs.Machines.{at_moment, bases_of, state_in_held}
+use Rattle.hyper_core.specs.Moments.{IsOfEvent, moment_of}
+use Rattle.hyper_core.specs.Outcomes.{AreTimely, IsBefore, draft_in}
+use Rattle.hyper_core.specs.Overtaking.{IsHeardOf}
+use Rattle.hyper_core.proofs.drafting.draft.Goals as goal
+
+pub act-requires-clause-few : goal.act-requires-clause-few
+act-requires-clause-few c =
+    few_begun c.args.held.now c.moment_of-now.result (moment_of c.args.event.now c.args.held.now.moment)
+    c.in_ok-draft.draft c.in_ok-draft.ensures.bases c.requires.numbers
+
+pub act-requires-clause-fresh : goal.act-requires-clause-fresh
+act-requires-clause-fresh c =
+    fresh_begun c.args.held.now c.moment_of-now.result c.in_ok-draft.draft c.in_ok-draft.ensures.draft
+    c.in_ok-draft.ensures.bases
+
+pub act-requires-clause-timely : goal.act-requires-clause-timely
+act-requires-clause-timely c =
+    subst AreTimely (sym c.in_ok-draft.ensures.bases) (timely_begun c.moment_of-now.result c.args.held.now)
+
+pub act-requires-clause-moment : goal.act-requires-clause-moment
+act-requires-clause-moment c =
+    subst (IsOfEvent c.args.event.now) (sym c.in_ok-draft.ensures.bases)
+    (subst (λ n. moment_of c.args.event.now n ≡ n) (sym c.moment_of-now.ensures)
+    (moment_again c.args.event.now c.args.held.now.moment))
+
+pub act-requires-clause-whole : goal.act-requires-clause-whole
+act-requires-clause-whole c = c.requires.whole
+
+pub act-requires-clause-judged : goal.act-requires-clause-judged
+act-requires-clause-judged c =
+    judged_begun c.args.setup.now c.args.held.now c.moment_of-now.result c.args.event.now c.in_ok-draft.draft
+    c.args.judged c.in_ok-draft.ensures.draft c.in_ok-draft.ensures.bases c.moment_of-now.ensures c.requires.judged
+
+pub act-requires-clause-heard : goal.act-requires-clause-heard
+act-requires-clause-heard c =
+    let P : Draft → Type 0 = λ d. IsHeardOf c.args.event.now c.args.heard.now d.state in
+    subst P (sym c.in_ok-draft.ensures.draft)
+    (heard_at c.args.event.now c.args.heard.now (state_in_held c.args.held.now) c.moment_of-now.result c.requires.heard)
+
+pub settle-requires : goal.settle-requires
+settle-requires c =
+    subst AreTimely
+    (sym (c.in_ok-close.ensures.bases ∙ (c.in_ok-act.ensures.bases ∙ c.in_ok-draft.ensures.bases)))
+    (timely_begun c.moment_of-now.result c.args.held.now)
+
+pub tell-requires-clause-few : goal.tell-requires-clause-few
+tell-requires-clause-few c =
+    few_begun c.args.held.now c.moment_of-now.result (moment_of c.args.event.now c.args.held.now.moment)
+    c.compose.new.draft
+    (c.in_ok-compose.ensures.bases ∙ (c.in_ok-settle.ensures.bases ∙ (c.in_ok-close.ensures.bases
+    ∙ (c.in_ok-act.ensures.bases ∙ c.in_ok-draft.ensures.bases))))
+    c.requires.numbers
+
+pub tell-requires-clause-sendable : goal.tell-requires-clause-sendable
+tell-requires-clause-sendable c =
+    sendable_after c.args.setup.now (closing_of c.args.closing.now) (draft_in c.act.new.draft)
+    (draft_in c.close.new.draft) (draft_in c.settle.new.draft) (draft_in c.compose.new.draft)
+    c.in_ok-close.ensures.drafted c.in_ok-settle.ensures.drafted c.in_ok-compose.ensures.drafted
+    (c.in_ok-act.ensures.sendable
+    (nothing_sent c.args.held.now c.moment_of-now.result c.in_ok-draft.draft c.in_ok-draft.ensures.draft
+    c.in_ok-draft.ensures.bases))
+
+pub returns-clause-draft : goal.returns-clause-draft
+returns-clause-draft c =
+    let s = state_in_held c.args.held.now in
+    let begun = c.in_ok-draft.ensures.draft ∙ ap (λ n. untouched (at_moment n s)) c.moment_of-now.ensures in
+    let bases = c.in_ok-compose.ensures.bases ∙ (c.in_ok-settle.ensures.bases ∙ (c.in_ok-close.ensures.bases
+    ∙ (c.in_ok-act.ensures.bases ∙ c.in_ok-draft.ensures.bases))) in
+    let before = subst (λ b. IsBefore b s) (sym bases) (stands_before c.moment_of-now.result c.args.held.now) in
+    all_phases c.args.setup.now s c.args.event.now (closing_of c.args.closing.now) _ _ _ _ _ _ begun
+    c.in_ok-act.ensures.drafted c.in_ok-close.ensures.drafted c.in_ok-settle.ensures.drafted
+    c.in_ok-compose.ensures.drafted (c.in_ok-tell.ensures.drafted s before)
+
+pub returns-clause-bases : goal.returns-clause-bases
+returns-clause-bases c =
+    c.in_ok-tell.ensures.bases ∙ (c.in_ok-compose.ensures.bases ∙ (c.in_ok-settle.ensures.bases
+    ∙ (c.in_ok-close.ensures.bases ∙ (c.in_ok-act.ensures.bases ∙ (c.in_ok-draft.ensures.bases
+    ∙ ap (λ n. bases_of n c.args.held.now) c.moment_of-now.ensures)))))

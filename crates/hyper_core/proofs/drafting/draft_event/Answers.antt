@@ -1,0 +1,51 @@
+use Rattle.std.proofs.Common.{◌∙◌, ◌-◌, sym, ap, subst}
+use Rattle.std.specs.Prelude.{◌==◌}
+use Rattle.hyper_core.proofs.Attempts.{all_drafted, drafted_anew, numbers_kept}
+use Rattle.hyper_core.specs.Closings.{closing_of}
+use Rattle.hyper_core.specs.Drafting.{IsPutOf}
+use Rattle.hyper_core.specs.Machines.{state_in_held}
+use Rattle.hyper_core.specs.Moments.{moment_of}
+use Rattle.hyper_core.specs.Overtaking.{IsHeardOf}
+use Rattle.machine_meaning.specs.Phases.{slow_from}
+use Rattle.hyper_core.proofs.drafting.draft_event.Goals as goal
+
+pub attempt-requires-clause-numbers : goal.attempt-requires-clause-numbers
+attempt-requires-clause-numbers c =
+    numbers_kept c.args.held.now c.loop-closing.held (moment_of c.args.event.now c.args.held.now.moment)
+    (moment_of c.args.event.now c.loop-closing.held.moment) c.loop-closing.invariant.state c.requires.numbers
+
+pub attempt-requires-clause-whole : goal.attempt-requires-clause-whole
+attempt-requires-clause-whole c = c.requires.whole
+
+pub attempt-requires-clause-heard : goal.attempt-requires-clause-heard
+attempt-requires-clause-heard c =
+    subst (IsHeardOf c.args.event.now c.args.heard.now) (sym c.loop-closing.invariant.state) c.requires.heard
+
+pub returns-in-Ready-clause-draft : goal.returns-in-Ready-clause-draft
+returns-in-Ready-clause-draft c =
+    let p = c.args.setup.now in
+    let s = state_in_held c.args.held.now in
+    let e = c.args.event.now in
+    let h = c.attempt.new.held in
+    let closing = closing_of c.loop-closing.closing in
+    all_drafted p h s e closing c.loop-closing.left c.in-Ready.drafted
+    (c.attempt.ensures.state ∙ c.loop-closing.invariant.state)
+    (subst (IsPutOf p h e closing (c.loop-closing.left == 0)) c.in-Ready.is c.in_ok-drafted.ensures.put)
+    c.loop-closing.invariant.rest
+
+pub loop-closing-preserved : goal.loop-closing-preserved
+loop-closing-preserved c =
+    let p = c.args.setup.now in
+    let s = state_in_held c.args.held.now in
+    let e = c.args.event.now in
+    let h = c.attempt.new.held in
+    let closing = closing_of c.loop-closing.closing in
+    let same = c.attempt.ensures.state ∙ c.loop-closing.invariant.state in
+    record {
+      state = same;
+      rest =
+          ap (slow_from (c.loop-closing.left - 1) p s e) c.in_ok-join-in-Slow.ensures
+          ∙ drafted_anew p h s e closing c.loop-closing.left c.in-Slow.more same
+          (subst (IsPutOf p h e closing (c.loop-closing.left == 0)) c.in-Slow.is c.in_ok-drafted.ensures.put)
+          c.loop-closing.invariant.rest;
+    }

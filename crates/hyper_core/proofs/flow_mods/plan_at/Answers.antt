@@ -1,0 +1,34 @@
+use Rattle.std.proofs.Common.{◌≡◌, ap, subst, sym, ◌∙◌}
+use Rattle.std.proofs.lemmas.Option.{slice_get_within}
+use Rattle.member_state.specs.Changes.{accepted}
+use Rattle.member_state.specs.Plans.{after_planned}
+use Rattle.hyper_core.specs.MemberDrafts.{MemberDraftOf, with_now}
+use Rattle.machine_meaning.specs.Removing.{with_kept}
+use Rattle.hyper_core.proofs.Changes.{after_message, bases_kept, get_there, moments_kept, now_changed}
+use Rattle.hyper_core.proofs.flow_mods.plan_at.Goals as goal
+
+pub returns-clause-now : goal.returns-clause-now
+returns-clause-now c =
+    let x = c.requires.x in
+    let d = c.index-members-n.result in
+    let y = c.plan.new.self in
+    let p = c.args.planned in
+    let found = get_there c.args.members.now c.args.n x d c.requires.stands.there in
+    let planned = subst
+    (λ (z : MemberDraftOf). y ≡ with_now (with_kept (λ old. after_planned z.base.kept.state p z.moment)) z)
+    (sym found) c.plan.ensures in
+    now_changed (with_kept (accepted c.args.change.now c.args.now)) c.args.members.now c.args.n y d
+    (slice_get_within c.args.members.now c.args.n x c.requires.stands.there)
+    (after_message x y c.args.now c.args.change.now p planned c.requires.stands.moment c.requires.stands.kept
+    c.requires.plans.after
+    ∙ ap (λ (z : MemberDraftOf). with_kept (accepted c.args.change.now c.args.now) z.now) found)
+
+pub returns-clause-bases : goal.returns-clause-bases
+returns-clause-bases c =
+    bases_kept c.args.members.now c.args.n c.plan.new.self c.index-members-n.result
+    (ap (λ (z : MemberDraftOf). z.base) c.plan.ensures)
+
+pub returns-clause-moments : goal.returns-clause-moments
+returns-clause-moments c =
+    moments_kept c.args.members.now c.args.n c.plan.new.self c.index-members-n.result
+    (ap (λ (z : MemberDraftOf). z.moment) c.plan.ensures)

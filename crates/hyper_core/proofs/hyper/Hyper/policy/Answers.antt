@@ -1,0 +1,7 @@
+use Rattle.std.proofs.Common.{subst}
+use Rattle.policy_file.specs.Sound.{IsSound}
+use Rattle.hyper_core.specs.Machines.{MachineOf}
+use Rattle.hyper_core.proofs.hyper.Hyper.policy.Goals as goal
+
+pub returns-clause-sound : goal.returns-clause-sound
+returns-clause-sound c = subst (λ (m : MachineOf). IsSound m.plan) c.self.view_is c.policy.ensures.sound

@@ -1,0 +1,5 @@
+use Rattle.hyper_core.proofs.Meanings.{meanings_are_states}
+use Rattle.hyper_core.proofs.machine.meanings_are_states.Goals as goal
+
+pub returns : goal.returns
+returns c = meanings_are_states

@@ -1,0 +1,46 @@
+//! The entries that the setting gives for switches: from scratch.
+ghost use Rattle.std.specs.Prelude.{◌≡◌, IfOk};
+ghost use Rattle.agreement.specs.Entries.{entries_of as entries_of_of};
+ghost use Rattle.agreement.specs.Fitting.{IsFittingSetting};
+ghost use Rattle.switch_meaning.specs.Keys.{installed as installed_of};
+ghost use Rattle.hyper_core.specs.Outcomes.{members_in, switches_in};
+ghost use Rattle.machine_meaning.specs.Settings.{setting_with};
+
+use crate::exprs_draft::Exprs;
+use crate::member_draft::MemberDraft;
+use crate::settings::setting;
+use crate::setup::Setup;
+use crate::switch_draft::SwitchDraft;
+use agreement::{Setting, entries_of};
+use cv_io::{List, Memory};
+use std::alloc::Global;
+use switch_meaning::{PhysEntry, installed};
+
+/// What composition reads of the state that an event leaves. A policy's setting fits, by the law that policies are
+/// ready, as far as its expressions are those of some texts; a law that says so of each sound state makes the test
+/// superfluous.
+pub(crate) fn fitting(
+    setup: &Setup,
+    exprs: &Exprs<'_>,
+    members: &[MemberDraft<'_>],
+    switches: &[SwitchDraft<'_>],
+) -> Result<Setting, Memory>
+    ensures setting { IfOk result (λ s.
+        s ≡ setting_with setup.now exprs.now.now (members_in members.now) (switches_in switches.now)) }
+    ensures fits { IfOk result IsFittingSetting }
+{
+    let setting = setting(setup, exprs, members, switches)?;
+    if !setting.fits() {
+        return Err(Memory);
+    }
+    Ok(setting)
+}
+
+/// The entries that a switch is to have.
+pub(crate) fn wanted(alloc: Global, setting: &Setting, n: u32) -> Result<List<PhysEntry>, Memory>
+    requires { IsFittingSetting setting.now }
+    ensures { IfOk result (λ wanted. wanted ≡ installed_of (entries_of_of setting.now n)) }
+{
+    let entries = entries_of(alloc, setting, n)?;
+    installed(alloc, &entries)
+}

@@ -1,0 +1,218 @@
+//! Each switch that is up is written the change from the entries that stand to those that the setting gives.
+ghost use Rattle.std.specs.Prelude.{◌≡◌, ◌<◌, ◌^◌, ◌++◌, [], IfOk, OnOk, length, map};
+ghost use Rattle.agreement.specs.Fitting.{IsFittingSetting};
+ghost use Rattle.cv_io.specs.declared.leaf.Who.{Who as WhoOf};
+ghost use Rattle.install_plan.specs.declared.written.Batch.{Batch as BatchOf};
+ghost use Rattle.stats_map.specs.Told.{told};
+ghost use Rattle.switch_state.specs.Messages.{switch_messages};
+ghost use Rattle.switch_state.specs.Sending.{send_all, sending_of};
+ghost use Rattle.machine_meaning.specs.Batches.{counts_after};
+ghost use Rattle.hyper_core.specs.Composed.{IsWrittenTo, with_composed, with_switch};
+ghost use Rattle.machine_meaning.specs.Composing.{compose as compose_of, compose_all as compose_all_of};
+ghost use Rattle.machine_meaning.specs.Composing.{compose_at as compose_at_of};
+ghost use Rattle.machine_meaning.specs.Drafts.{Draft, letter};
+ghost use Rattle.hyper_core.specs.Outcomes.{bases, draft_in, standing_in, switch_bases, switches_in};
+ghost use Rattle.machine_meaning.specs.Sessions.{is_switch};
+ghost use Rattle.hyper_core.specs.SwitchDrafts.{with_written};
+
+use crate::batches::{Change, can_send, change_between};
+use crate::composed::{fitting, wanted};
+use crate::outcome::Outcome;
+use crate::setup::Setup;
+use crate::switch_draft::SwitchDraft;
+use agreement::Setting;
+use cv_io::{List, Memory, Who};
+use install_plan::Written;
+use machine_meaning::Letter;
+use outbox::Letters;
+use stats_map::Pending;
+use std::alloc::Global;
+
+/// Whether the round of the switch of a number begins.
+fn begins(begun: &Option<Who>, n: u32) -> bool
+    ensures { result ≡ is_switch n begun.now }
+{
+    match begun {
+        Some(Who::Switch(other)) => *other == n,
+        _ => false,
+    }
+}
+
+/// The cookies of entries that are written to a switch are counted.
+fn count_all(counts: &mut Pending<'_>, n: u32, adds: &[Written]) -> Result<(), Memory>
+    ensures base { OnOk result (counts.new.base ≡ counts.old.base) }
+    ensures counted { OnOk result (told counts.new.now ≡ counts_after n adds.now (told counts.old.now)) }
+{
+    for written in adds {
+        counts.write(n, written)?;
+    }
+    Ok(())
+}
+
+/// Messages are said to a switch.
+fn say_all(batches: &mut List<Letter>, n: u32, mut messages: Letters) -> Result<(), Memory>
+    ensures { OnOk result (batches.new ≡ batches.old ++ map (letter n) messages) }
+{
+    while let Some(bytes) = messages.pop() {
+        batches.push(Letter { to: n, bytes })?;
+    }
+    Ok(())
+}
+
+/// A change is written to a switch, after its installation where its round begins.
+fn write(
+    alloc: Global,
+    begins: bool,
+    n: u32,
+    change: Change,
+    switch: &mut SwitchDraft<'_>,
+    batches: &mut List<Letter>,
+) -> Result<(), Memory>
+    ensures switch { OnOk result (switch.new ≡ with_written
+        (send_all (switch_messages begins change.batch) (sending_of switch.old.now.known [])).known change.standing
+        switch.old) }
+    ensures batches { OnOk result (batches.new ≡ batches.old ++ map (letter n)
+        (send_all (switch_messages begins change.batch) (sending_of switch.old.now.known [])).messages) }
+{
+    let Change {
+        batch,
+        standing,
+        ..
+    } = change;
+    if !can_send(&batch) {
+        return Err(Memory);
+    }
+    let mut messages = Letters::new(alloc);
+    switch.write(alloc, begins, batch, standing, &mut messages)?;
+    say_all(batches, n, messages)
+}
+
+/// A switch that is up is written the change to the entries that the setting gives.
+fn compose_at(
+    alloc: Global,
+    setting: &Setting,
+    begun: &Option<Who>,
+    n: u32,
+    switch: &mut SwitchDraft<'_>,
+    counts: &mut Pending<'_>,
+    next_cookie: &mut u64,
+    batches: &mut List<Letter>,
+) -> Result<(), Memory>
+    requires { IsFittingSetting setting.now }
+    ensures base { OnOk result (switch.new.base ≡ switch.old.base) }
+    ensures counts_base { OnOk result (counts.new.base ≡ counts.old.base) }
+    ensures composed { OnOk result ((d : Draft)
+        → IsWrittenTo d n begun.now switch.old (told counts.old.now) next_cookie.old batches.old
+        → with_switch n switch.new (told counts.new.now) next_cookie.new batches.new d
+        ≡ compose_at_of setting.now d n) }
+{
+    if !switch.is_up() {
+        return Ok(());
+    }
+    let wanted = wanted(alloc, setting, n)?;
+    let change = change_between(alloc, *next_cookie, switch.standing(), &wanted)?;
+    let next = change.next;
+    count_all(counts, n, change.batch.adds.as_slice())?;
+    write(alloc, begins(begun, n), n, change, switch, batches)?;
+    *next_cookie = next;
+    Ok(())
+}
+
+/// The switch of a number is composed.
+fn compose_nth(
+    alloc: Global,
+    setting: &Setting,
+    begun: &Option<Who>,
+    n: u32,
+    switches: &mut [SwitchDraft<'_>],
+    counts: &mut Pending<'_>,
+    next_cookie: &mut u64,
+    batches: &mut List<Letter>,
+) -> Result<(), Memory>
+    requires fits { IsFittingSetting setting.now }
+    requires there { n < length switches.old }
+    ensures bases { OnOk result (switch_bases switches.new ≡ switch_bases switches.old) }
+    ensures long { length switches.new ≡ length switches.old }
+    ensures counts_base { OnOk result (counts.new.base ≡ counts.old.base) }
+    ensures composed { OnOk result ((d : Draft) → d.begun ≡ begun.now
+        → with_composed (switches_in switches.new) (standing_in switches.new) (told counts.new.now) next_cookie.new
+        batches.new d
+        ≡ compose_at_of setting.now (with_composed (switches_in switches.old) (standing_in switches.old)
+        (told counts.old.now) next_cookie.old batches.old d) n) }
+{
+    let place = n as usize;
+    compose_at(
+        alloc,
+        setting,
+        begun,
+        n,
+        &mut switches[place],
+        counts,
+        next_cookie,
+        batches,
+    )?;
+    Ok(())
+}
+
+/// Switches are composed in the order of the file.
+fn compose_all(
+    alloc: Global,
+    setting: &Setting,
+    begun: &Option<Who>,
+    switches: &mut [SwitchDraft<'_>],
+    counts: &mut Pending<'_>,
+    next_cookie: &mut u64,
+    batches: &mut List<Letter>,
+) -> Result<(), Memory>
+    requires fits { IsFittingSetting setting.now }
+    requires few { length switches.old < 2 ^ 32 }
+    ensures long { OnOk result (length switches.new ≡ length switches.old) }
+    ensures bases { OnOk result (switch_bases switches.new ≡ switch_bases switches.old) }
+    ensures counts_base { OnOk result (counts.new.base ≡ counts.old.base) }
+    ensures composed { OnOk result ((d : Draft) → d.begun ≡ begun.now
+        → with_composed (switches_in switches.new) (standing_in switches.new) (told counts.new.now) next_cookie.new
+        batches.new d
+        ≡ compose_all_of setting.now (with_composed (switches_in switches.old) (standing_in switches.old)
+        (told counts.old.now) next_cookie.old batches.old d)) }
+{
+    let count = switches.len() as u32;
+    for n in 0..count {
+        compose_nth(
+            alloc,
+            setting,
+            begun,
+            n,
+            switches,
+            counts,
+            next_cookie,
+            batches,
+        )?;
+    }
+    Ok(())
+}
+
+/// Each switch that is up is written the change from the entries that stand to those that the setting gives.
+pub(crate) fn compose(setup: &Setup, draft: &mut Outcome<'_>) -> Result<(), Memory>
+    ensures drafted { OnOk result (draft_in draft.new ≡ compose_of setup.now (draft_in draft.old)) }
+    ensures bases { OnOk result (bases draft.new ≡ bases draft.old) }
+{
+    let setting = fitting(
+        setup,
+        &draft.exprs,
+        draft.members.as_slice(),
+        draft.switches.as_slice(),
+    )?;
+    if draft.switches.len() > u32::MAX as usize {
+        return Err(Memory);
+    }
+    compose_all(
+        setup.alloc(),
+        &setting,
+        &draft.begun,
+        draft.switches.as_mut_slice(),
+        &mut draft.counts,
+        &mut draft.next_cookie,
+        &mut draft.batches,
+    )?;
+    Ok(())
+}

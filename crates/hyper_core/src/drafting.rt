@@ -1,0 +1,127 @@
+//! An event is drafted: it goes through its phases, anew where sessions are put more than they may be.
+ghost use Rattle.std.specs.Prelude.{◌≡◌, IfOk, OnOk};
+ghost use Rattle.hyper_core.specs.Acts.{IsJudgedFor};
+ghost use Rattle.hyper_core.specs.Closings.{closing_of};
+ghost use Rattle.hyper_core.specs.Drafting.{IsDraftOf, IsPutOf};
+ghost use Rattle.hyper_core.specs.Machines.{bases_of, state_in_held};
+ghost use Rattle.hyper_core.specs.Moments.{moment_of as moment_of_event};
+ghost use Rattle.hyper_core.specs.Outcomes.{bases, draft_in};
+ghost use Rattle.hyper_core.specs.Overtaking.{IsHeardOf, IsWhole};
+ghost use Rattle.hyper_core.specs.Puts.{HaveNumbers};
+ghost use Rattle.machine_meaning.specs.Phases.{draft_of, drafted as drafted_of};
+ghost use Rattle.machine_meaning.specs.Rounds.{close as close_of};
+
+use crate::acting::{act, judge_event};
+use crate::beginning::begin_outcome;
+use crate::composing::compose;
+use crate::heard::Heard;
+use crate::held::Held;
+use crate::judging::Judged;
+use crate::outcome::Outcome;
+use crate::overfilled::Closing;
+use crate::putting::{Drafted, Trial, put};
+use crate::rounds;
+use crate::settling::settle;
+use crate::setup::Setup;
+use crate::telling::tell;
+use cv_io::Memory;
+use events::Event;
+use std::alloc::Global;
+
+/// The moment of an event.
+fn moment_of(event: &Event, told: u64) -> u64
+    ensures { result ≡ moment_of_event event.now told }
+{
+    match event {
+        Event::Tick { second } => *second,
+        _ => told,
+    }
+}
+
+/// The rounds of sessions end as slow.
+fn close(alloc: Global, draft: &mut Outcome<'_>, closing: &Closing) -> Result<(), Memory>
+    ensures drafted { OnOk result (draft_in draft.new ≡ close_of (closing_of closing.now) (draft_in draft.old)) }
+    ensures bases { OnOk result (bases draft.new ≡ bases draft.old) }
+{
+    rounds::close(
+        alloc,
+        draft,
+        closing.switches.as_slice(),
+        closing.members.as_slice(),
+    )
+}
+
+/// The draft of an event whose frame was judged, where these sessions are closed as slow.
+fn draft<'a>(
+    setup: &Setup,
+    held: &'a Held,
+    event: &Event,
+    judged: Option<Judged>,
+    heard: &Heard,
+    closing: &Closing,
+) -> Result<Outcome<'a>, Memory>
+    requires numbers { HaveNumbers (bases_of (moment_of_event event.now held.now.moment) held.now) }
+    requires whole { IsWhole event.now }
+    requires judged { IsJudgedFor setup.now held.now event.now judged }
+    requires heard { IsHeardOf event.now heard.now (state_in_held held.now) }
+    ensures draft { IfOk result (λ o.
+        draft_in o ≡ draft_of setup.now (state_in_held held.now) event.now (closing_of closing.now)) }
+    ensures bases { IfOk result (λ o.
+        bases o ≡ bases_of (moment_of_event event.now held.now.moment) held.now) }
+{
+    let alloc = setup.alloc();
+    let now = moment_of(event, held.moment);
+    let mut draft = begin_outcome(alloc, held, now)?;
+    act(setup, &mut draft, event, judged, heard)?;
+    close(alloc, &mut draft, closing)?;
+    settle(setup, &mut draft)?;
+    compose(setup, &mut draft)?;
+    tell(setup, &mut draft)?;
+    Ok(draft)
+}
+
+/// An event is judged and drafted, and its draft is put, where these sessions are closed as slow. What is held gets
+/// room for a change of a member's table, and stays as it is.
+fn attempt(
+    setup: &Setup,
+    held: &mut Held,
+    event: &Event,
+    heard: &Heard,
+    closing: &Closing,
+    last: bool,
+) -> Result<Trial, Memory>
+    requires numbers { HaveNumbers (bases_of (moment_of_event event.now held.old.moment) held.old) }
+    requires whole { IsWhole event.now }
+    requires heard { IsHeardOf event.now heard.now (state_in_held held.old) }
+    ensures put { IfOk result (IsPutOf setup.now held.new event.now (closing_of closing.now) last) }
+    ensures state { state_in_held held.new ≡ state_in_held held.old }
+{
+    let judged = judge_event(setup, held, event)?;
+    let drafted = draft(setup, held, event, judged, heard, closing)?;
+    put(setup, drafted, last)
+}
+
+/// An event is drafted. What is held gets room for a change of a member's table, and stays as it is.
+pub(crate) fn draft_event(
+    setup: &Setup,
+    held: &mut Held,
+    event: &Event,
+    heard: &Heard,
+) -> Result<Drafted, Memory>
+    requires numbers { HaveNumbers (bases_of (moment_of_event event.now held.old.moment) held.old) }
+    requires whole { IsWhole event.now }
+    requires heard { IsHeardOf event.now heard.now (state_in_held held.old) }
+    ensures draft { IfOk result (IsDraftOf held.new event.now
+        (drafted_of setup.now (state_in_held held.old) event.now) setup.now) }
+    ensures state { state_in_held held.new ≡ state_in_held held.old }
+{
+    let mut closing = Closing::nobody(setup.alloc());
+    let mut left = held.switches.len() + held.members.len();
+    loop {
+        match attempt(setup, held, event, heard, &closing, left == 0)? {
+            Trial::Ready(drafted) => return Ok(drafted),
+            Trial::Slow(more) => closing.join(more)?,
+        }
+        left -= 1;
+    }
+}

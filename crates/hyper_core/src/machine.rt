@@ -1,0 +1,86 @@
+//! The machine as the lock has it: one that many post events to.
+ghost use Rattle.hyper_core.specs.Meanings.{MeaningsAreStates, NextIsStep, data_in, idle_stays, is_idle, next_data};
+ghost use Rattle.hyper_core.specs.Meanings.{reply_to};
+
+use crate::hyper::Hyper;
+use cv_io::{Duplicate, Memory, Steps};
+use events::{Event, Reply};
+use policy_lock::Machine;
+use std::marker::{Model, PhantomData};
+use std::sync::ledger::Ledger;
+use std::thread::Threads;
+
+/// What a machine means: its policy and its state, as plain data. It is a type for contracts.
+#[derive(Drop)]
+pub struct Meaning {
+    nothing: PhantomData<()>,
+}
+
+impl Model for Meaning {
+    ghost use Rattle.hyper_core.specs.Meanings.{StateData, lefts_code, no_data};
+
+    ghost Value = { StateData };
+
+    ghost use Rattle.std.specs.Coded.{codes};
+    ghost use Rattle.policy_expr.specs.Stored.{policy_code};
+
+    ghost coded = { Prim.hlevel (codes, policy_code, lefts_code) };
+
+    ghost view = { λ _. no_data };
+}
+
+// Composing from scratch counts no steps.
+impl Machine for Hyper {
+    type Event = Event;
+
+    type Reply = Reply;
+
+    type State = Meaning;
+
+    ghost meaning = { data_in };
+
+    ghost next = { next_data };
+
+    ghost reply = { reply_to };
+
+    ghost idle = { is_idle };
+
+    ghost ready = { λ _. Unit {0} };
+
+    ghost cost = { λ _ _. 0 };
+
+    ghost most = { λ _ _. 0 };
+
+    fn step<R: Threads + Sync, G: Ledger>(
+        &mut self,
+        rt: &R,
+        event: &Event,
+        steps: &mut Steps<G>,
+    ) -> Result<Reply, Memory> {
+        Hyper::step(self, event)
+    }
+
+    fn glance(&self, event: &Event) -> Option<Reply> {
+        Hyper::glance(self, event)
+    }
+
+    fn copy(&self) -> Result<Hyper, Memory> {
+        Duplicate::copy(self)
+    }
+
+    fn copy_event(event: &Event) -> Result<Event, Memory> {
+        event.copy()
+    }
+
+    ghost idle_stays = { idle_stays };
+}
+
+/// What a machine means is its policy and its state.
+pub fn meanings_are_states()
+    ensures { MeaningsAreStates }
+{}
+
+/// Whatever a machine means, the reply to an event and the next meaning are those of the step.
+pub fn next_is_step()
+    ensures { NextIsStep }
+{}

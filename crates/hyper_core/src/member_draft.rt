@@ -1,0 +1,253 @@
+//! What an event makes of a member, beside the member as it stands.
+ghost use Rattle.std.specs.Prelude.{◌≡◌, ℕ, IfOk, IsTrue, OnOk, filter};
+ghost use Rattle.member_state.specs.Changes.{expired, is_told, touched, without};
+ghost use Rattle.member_state.specs.Plans.{IsReady, after_planned};
+ghost use Rattle.hyper_core.specs.MemberDrafts.{IsReadyPlan, IsUnplanned, kept_after, kept_state};
+ghost use Rattle.hyper_core.specs.MemberDrafts.{standing_member, with_now};
+ghost use Rattle.hyper_core.specs.Moving.{IsMemberPart, member_moved, member_put};
+ghost use Rattle.machine_meaning.specs.MemberMessages.{with_config};
+ghost use Rattle.machine_meaning.specs.Removing.{due_in, with_kept};
+ghost use Rattle.machine_meaning.specs.Rounds.{begun_member, ended_member};
+ghost use Rattle.hyper_core.specs.Views.{member_of};
+
+use crate::session::Member;
+use cv_io::{List, Memory};
+use machine_meaning::Config;
+use member_state::{MemberState, Planned};
+use member_table::{Entry, Table};
+use outbox::{Letters, Outbox, Turn};
+use std::marker::Model;
+
+/// The configuration that a round begins with.
+pub(crate) const FIRST_CONFIG: Config = Config {
+    flags: 0,
+    miss_send_len: 128,
+};
+
+/// A member's table and levels as an event leaves them so far.
+#[derive(Drop)]
+pub(crate) enum Kept<'a> {
+    /// As they stand.
+    Standing(&'a MemberState),
+    /// A copy, after what is planned.
+    Drafted(MemberState),
+}
+
+/// What of a member is after the event.
+#[derive(Drop)]
+pub(crate) struct MemberPart {
+    pub(crate) turn: Turn,
+    pub(crate) config: Config,
+    /// What is made of its table, at the moment of the event.
+    pub(crate) planned: Option<Planned>,
+    pub(crate) moment: u64,
+    /// What it is put.
+    pub(crate) letters: Letters,
+}
+
+/// A member as it stands, and what an event makes of it.
+#[derive(Drop)]
+pub(crate) struct MemberDraft<'a> {
+    base: &'a Member,
+    moment: u64,
+    turn: Turn,
+    config: Config,
+    planned: Option<Planned>,
+}
+
+impl<'a> Model for MemberDraft<'a> {
+    ghost use Rattle.hyper_core.specs.MemberDrafts.{IsReadyPlan, MemberDraftOf, member_after};
+
+    ghost Value = { MemberDraftOf };
+
+    ghost view = { λ a. record {
+      base = a.base.now;
+      moment = a.moment;
+      now = member_after a.base.now a.moment a.turn a.config a.planned;
+    } };
+
+    // What is planned can be made.
+    ghost invariant = { λ a. IsReadyPlan a.base.now.kept a.planned };
+}
+
+impl<'a> Kept<'a> {
+    /// The table with its levels.
+    pub(crate) fn state(&self) -> &MemberState
+        ensures { result.now.state ≡ kept_state self.now }
+    {
+        match self {
+            Kept::Standing(state) => state,
+            Kept::Drafted(state) => state,
+        }
+    }
+}
+
+/// Takes what is planned, or what changes nothing where nothing is.
+fn planned_so_far(planned: &mut Option<Planned>, kept: &MemberState) -> Result<Planned, Memory>
+    requires { IsReadyPlan kept.now planned.old }
+    ensures planned { IfOk result (λ p. (now : ℕ) →
+        after_planned kept.now.state p now ≡ kept_after kept.now.state planned.old now) }
+    ensures ready { IfOk result (IsReady kept.now) }
+    ensures taken { planned.new ≡ None }
+{
+    match planned.take() {
+        Some(planned) => Ok(planned),
+        None => kept.stay(),
+    }
+}
+
+impl<'a> MemberDraft<'a> {
+    /// The member stays as it is.
+    pub(crate) fn stay(base: &'a Member, moment: u64) -> MemberDraft<'a>
+        ensures { result ≡ standing_member moment base.now }
+    {
+        MemberDraft {
+            base,
+            moment,
+            turn: base.outbox.stay(),
+            config: base.config,
+            planned: None,
+        }
+    }
+
+    /// The session is up.
+    pub(crate) fn is_up(&self) -> bool
+        ensures { result ≡ self.now.now.outbox.up }
+    {
+        self.turn.up
+    }
+
+    /// The present round, or the last one.
+    pub(crate) fn round(&self) -> u64
+        ensures { result ≡ self.now.now.outbox.round }
+    {
+        self.turn.round
+    }
+
+    /// What SET_CONFIG gave.
+    pub(crate) fn config(&self) -> Config
+        ensures { result ≡ self.now.now.config }
+    {
+        self.config
+    }
+
+    /// Its session as the event began.
+    pub(crate) fn outbox(&self) -> &Outbox
+        ensures { result.now ≡ self.now.base.outbox }
+    {
+        &self.base.outbox
+    }
+
+    /// Its table as the event began.
+    pub(crate) fn table_before(&self) -> &Table
+        ensures { result.now.table ≡ self.now.base.kept.state.table }
+    {
+        self.base.kept.table()
+    }
+
+    /// Nothing is planned for the table and the levels.
+    pub(crate) fn is_unplanned(&self) -> bool
+        ensures { IsTrue result → IsUnplanned self.now }
+    {
+        self.planned.is_none()
+    }
+
+    /// The round ends.
+    pub(crate) fn close(&mut self)
+        ensures { self.new ≡ with_now ended_member self.old }
+    {
+        self.turn.close();
+    }
+
+    /// The next round begins.
+    pub(crate) fn open(&mut self)
+        ensures { self.new ≡ with_now begun_member self.old }
+    {
+        self.turn.open();
+        self.config = FIRST_CONFIG;
+    }
+
+    /// SET_CONFIG gives another configuration.
+    pub(crate) fn configure(&mut self, config: Config)
+        ensures { self.new ≡ with_now (with_config config) self.old }
+    {
+        self.config = config;
+    }
+
+    /// The change of a message that was judged is planned: the table is to be as it stands.
+    pub(crate) fn plan(&mut self, planned: Planned)
+        requires { IsReady self.old.base.kept planned }
+        ensures { self.new ≡
+            with_now (with_kept (λ old. after_planned self.old.base.kept.state planned self.old.moment)) self.old }
+    {
+        self.planned = Some(planned);
+    }
+
+    /// The entries go that have stood for their hard timeouts. Copies of those of whose removal the member asks to
+    /// be told.
+    pub(crate) fn expire(&mut self) -> Result<List<Entry>, Memory>
+        requires { IsUnplanned self.old }
+        ensures expired { OnOk result (self.new ≡ with_now (with_kept (expired self.old.moment)) self.old) }
+        ensures told { IfOk result (λ entries.
+            entries ≡ filter is_told (due_in self.old.moment self.old.now)) }
+    {
+        let kept = &self.base.kept;
+        // The proof learns what is true of every table.
+        let _ = kept.table();
+        let due = kept.due(self.moment)?;
+        let told = kept.told_of(due.hard.as_slice())?;
+        if due.hard.is_empty() {
+            return Ok(told);
+        }
+        self.planned = Some(kept.expire(due.hard, self.moment)?);
+        Ok(told)
+    }
+
+    /// The entry of a number goes.
+    pub(crate) fn drop(&mut self, serial: u64) -> Result<(), Memory>
+        ensures { OnOk result (self.new ≡ with_now (with_kept (without serial)) self.old) }
+    {
+        let mut planned = planned_so_far(&mut self.planned, &self.base.kept)?;
+        self.base.kept.plan_drop(&mut planned, serial)?;
+        self.planned = Some(planned);
+        Ok(())
+    }
+
+    /// The count of the entry of a number was seen to have risen.
+    pub(crate) fn touch(&mut self, serial: u64) -> Result<(), Memory>
+        ensures { OnOk result (self.new ≡ with_now (with_kept (touched serial self.old.moment)) self.old) }
+    {
+        let mut planned = planned_so_far(&mut self.planned, &self.base.kept)?;
+        planned.touch(serial)?;
+        self.planned = Some(planned);
+        Ok(())
+    }
+
+    /// The table and the levels as the event leaves them so far.
+    pub(crate) fn kept(&self) -> Result<Kept<'_>, Memory>
+        ensures { IfOk result (λ kept. kept_state kept ≡ self.now.now.kept) }
+    {
+        match &self.planned {
+            Some(planned) => Ok(Kept::Drafted(self.base.kept.drafted(planned, self.moment)?)),
+            None => Ok(Kept::Standing(&self.base.kept)),
+        }
+    }
+
+    /// What is moved in, with what the member is put. There is a place for that on any machine.
+    pub(crate) fn into_part(self, letters: Letters) -> Result<MemberPart, Memory>
+        ensures after { IfOk result (λ part.
+            member_moved (member_of self.entry.base) part ≡ member_put letters self.entry.now) }
+        ensures part { IfOk result (IsMemberPart self.entry.base) }
+    {
+        if !self.base.outbox.has_place(&letters) {
+            return Err(Memory);
+        }
+        Ok(MemberPart {
+            turn: self.turn,
+            config: self.config,
+            planned: self.planned,
+            moment: self.moment,
+            letters,
+        })
+    }
+}

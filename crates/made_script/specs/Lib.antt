@@ -1,0 +1,4 @@
+pub mod Drawing
+pub mod Script
+pub mod Summary
+pub mod Worked

@@ -1,0 +1,8 @@
+pub mod Cutting
+pub mod Splitting
+pub mod Changing
+pub mod Takes
+pub mod Followed
+pub mod Finding
+pub mod Taking
+pub mod Asked

@@ -1,0 +1,10 @@
+pub mod Kinds
+pub mod Sessions
+pub mod Cuts
+pub mod Streams
+pub mod Takings
+pub mod Explaining
+pub mod Playing
+pub mod Plays
+pub mod Reports
+pub mod Players

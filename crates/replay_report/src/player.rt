@@ -1,0 +1,145 @@
+//! A replay, line by line.
+ghost use Rattle.std.specs.Prelude.{◌≡◌, ◌≤◌, ◌<◌, ◌+◌, ◌^◌, [], IfOk, length, map};
+ghost use Rattle.replay_report.specs.Kinds.{Reads};
+ghost use Rattle.replay_report.specs.Reports.{fresh_for};
+ghost use Rattle.script_text.specs.Reading.{line_in};
+
+use crate::kind::{Kind, kind_of};
+use crate::lines::play;
+use crate::sessions::Named;
+use crate::streams::Stream;
+use crate::telling::Stage;
+use cv_io::{List, Memory};
+use policy_file::Policy;
+use script_text::{Form, Line, read_line};
+use std::alloc::Global;
+
+/// The most bytes of a line, without its line feed.
+pub const LINE: usize = 140_000;
+
+/// The most bytes of a script.
+pub const SCRIPT: u64 = 0xffff_ffff;
+
+/// A stream for each session.
+fn streams(alloc: Global, names: &[Named]) -> Result<List<Stream>, Memory>
+    ensures { IfOk result (λ streams. streams ≡ map fresh_for names.now) }
+{
+    let mut streams = List::new(alloc);
+    for _name in names {
+        streams.push(Stream::new(alloc))?;
+    }
+    Ok(streams)
+}
+
+/// What a line says, or why it says nothing.
+fn read(alloc: Global, form: Form, line: &[u8]) -> Result<Result<Line, Kind>, Memory>
+    ensures { IfOk result (Reads (line_in form line.now)) }
+{
+    match read_line(alloc, form, line) {
+        Ok(line) => Ok(Ok(line)),
+        Err(fault) => match kind_of(fault) {
+            Some(kind) => Ok(Err(kind)),
+            None => Err(Memory),
+        },
+    }
+}
+
+/// A replay of a policy.
+#[derive(Drop)]
+pub struct Player {
+    form: Form,
+    stage: Stage,
+    streams: List<Stream>,
+    /// How many lines were done.
+    number: u64,
+    /// How many bytes of the script they took.
+    size: u64,
+    ghost paired: { length streams ≡ length stage.names },
+    ghost counted: { number ≤ size },
+    ghost short: { size < 2 ^ 32 },
+}
+
+impl Player {
+    ghost use Rattle.hyper_core.specs.Worlds.{rule_count};
+    ghost use Rattle.replay_report.specs.Players.{Takes, form_of, plan_of, progress_of, reported};
+    ghost use Rattle.replay_report.specs.Reports.{start, taken};
+
+    /// A replay that begins.
+    pub fn open(alloc: Global, form: Form, policy: Policy) -> Result<Player, Memory>
+        ensures form { IfOk result (λ player. form_of player ≡ form) }
+        ensures plan { IfOk result (λ player. plan_of player ≡ policy) }
+        ensures begins { IfOk result (λ player. progress_of player ≡ start policy) }
+        ensures report { IfOk result (λ player. reported player ≡ []) }
+    {
+        let stage = Stage::open(alloc, policy)?;
+        let streams = streams(alloc, stage.names.as_slice())?;
+        Ok(Player {
+            form,
+            stage,
+            streams,
+            number: 0,
+            size: 0,
+        })
+    }
+
+    /// How many lines were done.
+    pub fn number(&self) -> u64
+        ensures number { result ≡ (progress_of self.now).number }
+        ensures short { result < 2 ^ 32 }
+    {
+        self.number
+    }
+
+    /// What was reported and not yet cleared.
+    pub fn report(&self) -> &[u8]
+        ensures { result.now ≡ reported self.now }
+    {
+        self.stage.report.as_slice()
+    }
+
+    /// What was reported is written.
+    pub fn clear(&mut self)
+        ensures report { reported self.new ≡ [] }
+        ensures progress { progress_of self.new ≡ progress_of self.old }
+        ensures form { form_of self.new ≡ form_of self.old }
+        ensures plan { plan_of self.new ≡ plan_of self.old }
+    {
+        self.stage.report.clear();
+    }
+
+    /// How many composed rules the expression of the first virtual switch has.
+    pub fn rules(&self) -> Result<u64, Memory>
+        ensures { IfOk result (λ count. count ≡ rule_count (plan_of self.now) (progress_of self.now).stand.state 0) }
+    {
+        self.stage.machine.rules(0)
+    }
+
+    /// Does a line, which takes so many bytes of the script, and reports what it does; or tells why it isn't done.
+    pub fn line(&mut self, line: &[u8], used: usize) -> Result<Option<Kind>, Memory>
+        requires some { 1 ≤ used }
+        requires short { used ≤ length line.now + 1 }
+        ensures takes { IfOk result (λ refused. Takes refused (taken (form_of self.old) (plan_of self.old)
+            (progress_of self.old) line.now used)
+            used (progress_of self.old) (progress_of self.new) (reported self.old) (reported self.new)) }
+        ensures form { form_of self.new ≡ form_of self.old }
+        ensures plan { plan_of self.new ≡ plan_of self.old }
+    {
+        if line.len() > LINE {
+            return Ok(Some(Kind::Long));
+        }
+        let size = self.size + used as u64;
+        if size > SCRIPT {
+            return Ok(Some(Kind::Size));
+        }
+        let said = match read(self.stage.alloc, self.form, line)? {
+            Ok(said) => said,
+            Err(kind) => return Ok(Some(kind)),
+        };
+        if !play(&mut self.stage, &mut self.streams, &said)? {
+            return Ok(Some(Kind::Unknown));
+        }
+        self.number += 1;
+        self.size = size;
+        Ok(None)
+    }
+}

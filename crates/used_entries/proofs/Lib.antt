@@ -1,0 +1,3 @@
+pub mod Standing
+pub mod BestTraced
+pub mod UsedTraced
