@@ -6,7 +6,7 @@ use Rattle.hyper_core.specs.Composed.{with_composed}
 use Rattle.machine_meaning.specs.Composing.{compose_all}
 use Rattle.hyper_core.specs.Outcomes.{draft_in, members_in, standing_in, switches_in}
 use Rattle.machine_meaning.specs.Settings.{setting_of, setting_with}
-use Rattle.hyper_core.proofs.composing.compose.Goals as goal
+use Rattle.hyper_core.proofs.composing.compose_anew.Goals as goal
 
 pub returns-clause-drafted : goal.returns-clause-drafted
 returns-clause-drafted c =
