@@ -1,6 +1,6 @@
 -- After each event each switch that is up has what the setting gives.
 use Rattle.std.proofs.Common.{◌≡◌, ◌∙◌, ℕ, zero, suc, ◌==◌, Bool, true, false, true≢false, ◌&&◌, List, [], ◌∷◌, map}
-use Rattle.std.proofs.Common.{Option, Some, None, ⊥, refl, sym, ap, ap₂, subst}
+use Rattle.std.proofs.Common.{Option, Some, None, refl, sym, ap, ap₂, subst}
 use Rattle.std.specs.Prelude.{fold, if◌then◌else◌, length, nat_lt, option_map, slice_get}
 use Rattle.agreement.specs.Entries.{entries_of}
 use Rattle.agreement.specs.declared.state.Setting.{Setting}

@@ -129,12 +129,12 @@ settled_still : (p : PolicyOf) (o : Outcome) → WasSettled p (bases o) → IsUn
     → IsSettledState p (draft_in o).state
 settled_still p o was same =
     let tables : tables_with p.members (members_in o.members)
-        ≡ tables_with p.members (map member_of (member_bases o.members))
+    ≡ tables_with p.members (map member_of (member_bases o.members))
     = same_tables 0 p.members (members_in o.members) (map member_of (member_bases o.members))
     (same_kept o.members same.members) in
     let ups = same_ups o.switches same.switches in
     let setting : setting_with p o.exprs.now (members_in o.members) (switches_in o.switches)
-        ≡ setting_with p o.exprs.base (map member_of (member_bases o.members)) (map switch_of (switch_bases o.switches))
+    ≡ setting_with p o.exprs.base (map member_of (member_bases o.members)) (map switch_of (switch_bases o.switches))
     = λ i. of_policies.setting_of p (same.exprs i) (tables i) (ups i) in
     settled_same
     (setting_with p o.exprs.base (map member_of (member_bases o.members)) (map switch_of (switch_bases o.switches)))
