@@ -1,5 +1,5 @@
 -- Where nothing that composition reads changed, composing changes nothing.
-use Rattle.std.proofs.Common.{◌≡◌, ◌∙◌, ℕ, Bool, true, false, List, [], ◌∷◌, ◌++◌, map, Option, Some, None, refl, sym}
+use Rattle.std.proofs.Common.{◌≡◌, ◌∙◌, ℕ, Bool, true, false, List, [], ◌∷◌, map, Option, Some, None, refl, sym}
 use Rattle.std.proofs.Common.{ap, ap₂}
 use Rattle.std.specs.Prelude.{if◌then◌else◌, option_map, slice_get, unwrap_or}
 use Rattle.std.specs.List.{AllByRecursion}
@@ -9,9 +9,7 @@ use Rattle.agreement.specs.declared.state.Setting.{Setting}
 use Rattle.install_plan.specs.declared.written.Batch.{Batch}
 use Rattle.install_plan.specs.declared.written.Written.{Written}
 use Rattle.member_state.specs.States.{MemberStateOf}
-use Rattle.policy_expr.specs.Policy.{Policy}
 use Rattle.policy_file.specs.Policies.{PolicyOf}
-use Rattle.policy_meaning.specs.declared.leaf.LeafTable.{LeafTable}
 use Rattle.policy_setting.specs.OfPolicies as of_policies
 use Rattle.switch_meaning.specs.Keys.{installed}
 use Rattle.switch_meaning.specs.declared.entry.PhysEntry.{PhysEntry}
@@ -23,7 +21,7 @@ use Rattle.machine_meaning.specs.Drafts.{Draft}
 use Rattle.machine_meaning.specs.Lists.{changed_at, places}
 use Rattle.machine_meaning.specs.Sessions.{is_switch, standing_of}
 use Rattle.machine_meaning.specs.Settings.{setting_of, setting_with, tables_with, ups_with}
-use Rattle.machine_meaning.specs.States.{MemberOf, State, SwitchOf}
+use Rattle.machine_meaning.specs.States.{State, SwitchOf}
 use Rattle.machine_meaning.proofs.Numbered.{changed_same, fold_still}
 use Rattle.machine_meaning.proofs.Places.{made_of}
 use Rattle.machine_meaning.proofs.Quiet.{kept_of, same_tables}

@@ -221,7 +221,6 @@ fn compose_anew(setup: &Setup, draft: &mut Outcome<'_>) -> Result<(), Memory>
 
 /// Each switch that is up is written the change from the entries that stand to those that the setting gives. There is
 /// none where the event changed nothing that composition reads.
-#[tactic(auto, using(crate::proofs::Unneeded::unchanged_composed))]
 pub(crate) fn compose(setup: &Setup, draft: &mut Outcome<'_>) -> Result<(), Memory>
     requires { WasSettled setup.now (bases draft.old) }
     ensures drafted { OnOk result (draft_in draft.new ≡ compose_of setup.now (draft_in draft.old)) }
