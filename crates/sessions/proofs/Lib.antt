@@ -1,0 +1,4 @@
+pub mod Bytes
+pub mod Framed
+pub mod Opens
+pub mod Sent

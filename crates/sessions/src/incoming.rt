@@ -1,5 +1,5 @@
 //! The next frame of a source.
-ghost use Rattle.std.specs.Prelude.{◌≡◌, ◌++◌, ◌<◌, ◌≤◌, IfOk, IfErr, IfSome, Ok, None, OnErr, length};
+ghost use Rattle.std.specs.Prelude.{◌≡◌, ◌++◌, ◌<◌, ◌≤◌, IfOk, IfErr, IfSome, Ok, None, OnErr, OnOk, length};
 ghost use Rattle.cv_io.specs.Outside.{TakesNext};
 ghost use Rattle.of10_frames.specs.Frames.{IsFrame, IsUnfinished};
 ghost use Rattle.sessions.specs.InsideReading.{IsKeptStop, IsReadStop};
@@ -79,6 +79,7 @@ pub(crate) fn next_frame<R: Wait, S: Source>(
     ensures frame { IfOk result (HasNext (S.remaining source.old) (S.remaining source.new) framer.old framer.new) }
     ensures stop { IfErr result (HasStopped (S.remaining source.old) (S.remaining source.new) framer.old framer.new
         (S.faults source.old) (S.faults source.new) (S.is_reliable source.old)) }
+    ensures quiet { OnOk result (S.faults source.new ≡ S.faults source.old) }
     ensures reliable { S.is_reliable source.new ≡ S.is_reliable source.old }
 {
     for _ in rt.forever() {

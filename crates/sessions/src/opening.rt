@@ -80,6 +80,7 @@ fn first_hello<R: Wait, S: Source>(
     ensures opened { OnOk result (IsGreeted (S.remaining source.old) (S.remaining source.new) framer.old framer.new) }
     ensures end { IfErr result (IsNoFirst (S.remaining source.old) (S.remaining source.new) framer.old framer.new
         (S.faults source.old) (S.faults source.new) (S.is_reliable source.old)) }
+    ensures quiet { OnOk result (S.faults source.new ≡ S.faults source.old) }
     ensures reliable { S.is_reliable source.new ≡ S.is_reliable source.old }
 {
     let frame = next_frame(rt, framer, source, place)?;
