@@ -1,5 +1,7 @@
 -- Bytes that are read and written piece by piece.
 use Rattle.std.proofs.Common.{◌≡◌, ◌<◌, ◌≤◌, ◌+◌, ◌-◌, ℕ, List, [], ◌∷◌, ◌++◌, Option, Some, None, All, length, take, drop, refl, sym, ap, subst, ◌∙◌, append_assoc, arith, length-drop}
+use Rattle.std.specs.Prelude.{Result, Ok, Err, OnErr, OnOk, true, false}
+use Rattle.std.specs.Result.{is_err}
 use Rattle.std.proofs.Math.Seq.{take-add, take-append-add}
 use Rattle.std.proofs.lemmas.List.{append-nil, take_all, take-append-drop}
 use Rattle.std.proofs.lemmas.List.Concat.{flat_map-append}
@@ -79,3 +81,18 @@ pub short-begins : (bytes : List ℕ) → IsShort bytes → BeginsWithFrame byte
 short-begins bytes s b =
     let same : length_field bytes ≡ length_field b.0 = ap length_field b.3 ∙ length_field-append b.0 b.1 (omega (arith, b.2.header)) in
     absurd (omega (arith, s.1, b.2.header, b.2.whole, same))
+
+-- a fact holds whether a call failed or not
+pub in_any_case : {T E P : Type 0} (r : Result T E) → P → OnErr r P
+in_any_case (Ok x) p = tt
+in_any_case (Err e) p = p
+
+-- what holds after a failure, where there was one
+pub after-err : {T E P : Type 0} (r : Result T E) → is_err r ≡ true → OnErr r P → P
+after-err (Ok x) e p = absurd (cc)
+after-err (Err d) e p = p
+
+-- what holds after a success, where there was one
+pub after-ok : {T E P : Type 0} (r : Result T E) → is_err r ≡ false → OnOk r P → P
+after-ok (Ok x) e p = p
+after-ok (Err d) e p = absurd (cc)

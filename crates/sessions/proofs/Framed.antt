@@ -1,6 +1,7 @@
 -- Frames that are posted one by one.
 use Rattle.std.proofs.Common.{◌≡◌, ℕ, Bool, List, [], ◌∷◌, ◌++◌, Option, All, refl, sym, ap, subst, ◌∙◌, append_assoc, map, inl, inr}
-use Rattle.std.specs.Prelude.{Result, Ok, Err, MatchResult}
+use Rattle.std.specs.Prelude.{Result, Ok, Err, IfOk, OnErr}
+use Rattle.cv_io.specs.declared.memory.Memory.{Memory}
 use Rattle.std.proofs.lemmas.List.{append-nil, map-append}
 use Rattle.std.proofs.lemmas.List.Elements.{All-nil, All-push}
 use Rattle.cv_io.specs.declared.leaf.Session.{Session}
@@ -76,12 +77,20 @@ module _ (a b c : Option (List ℕ)) (old mid new : List ℕ) (s : Session) (p q
 
 module _ (a b c : Option (List ℕ)) (old mid new : List ℕ) (s : Session) (p q : List Post) (h : HasPosted a b old s p q mid) where
   -- there is no next frame
-  pub posted-stopped : (faults risen : ℕ) (is_reliable : Bool) (ended : ℕ → Type 0) (stop : Stop) → HasStopped b c mid new faults risen is_reliable stop
-      → MatchResult (read_end stop) (λ end. HasHeard a c old s p ended q new end × IsReadEnd c new faults risen is_reliable end) (λ _. (left : List ℕ) × HasPosted a c old s p q left)
-  posted-stopped f g w ended stops.Ended n = (posted-kept a b c old mid new s p q q h n.0 refl, n.1)
-  posted-stopped f g w ended (stops.Short length) n = (posted-kept a b c old mid new s p q q h n.0 refl, n.1)
-  posted-stopped f g w ended stops.ReadFault n = (posted-kept a b c old mid new s p q q h n.0 refl, n.1)
-  posted-stopped f g w ended stops.Memory n = (mid ++ n.0, posted-read a b c old mid new s p q q h n.0 n.1 refl)
+  pub stopped-heard : (faults risen : ℕ) (is_reliable : Bool) (ended : ℕ → Type 0) (stop : Stop) (result : Result ReadEnd Memory) → HasStopped b c mid new faults risen is_reliable stop
+      → result ≡ read_end stop → IfOk result (HasHeard a c old s p ended q new)
+  stopped-heard f g w ended stops.Ended result n e = subst (λ z. IfOk z (HasHeard a c old s p ended q new)) (sym e) (posted-kept a b c old mid new s p q q h n.0 refl)
+  stopped-heard f g w ended (stops.Short len) result n e = subst (λ z. IfOk z (HasHeard a c old s p ended q new)) (sym e) (posted-kept a b c old mid new s p q q h n.0 refl)
+  stopped-heard f g w ended stops.ReadFault result n e = subst (λ z. IfOk z (HasHeard a c old s p ended q new)) (sym e) (posted-kept a b c old mid new s p q q h n.0 refl)
+  stopped-heard f g w ended stops.Memory result n e = subst (λ z. IfOk z (HasHeard a c old s p ended q new)) (sym e) tt
+
+  pub stopped-memory : (faults risen : ℕ) (is_reliable : Bool) (stop : Stop) (result : Result ReadEnd Memory) → HasStopped b c mid new faults risen is_reliable stop
+      → result ≡ read_end stop → OnErr result ((left : List ℕ) × HasPosted a c old s p q left)
+  stopped-memory f g w stops.Ended result n e = subst (λ z. OnErr z ((left : List ℕ) × HasPosted a c old s p q left)) (sym e) tt
+  stopped-memory f g w (stops.Short len) result n e = subst (λ z. OnErr z ((left : List ℕ) × HasPosted a c old s p q left)) (sym e) tt
+  stopped-memory f g w stops.ReadFault result n e = subst (λ z. OnErr z ((left : List ℕ) × HasPosted a c old s p q left)) (sym e) tt
+  stopped-memory f g w stops.Memory result n e =
+      subst (λ z. OnErr z ((left : List ℕ) × HasPosted a c old s p q left)) (sym e) (mid ++ n.0, posted-read a b c old mid new s p q q h n.0 n.1 refl)
 
 module _ (a c : Option (List ℕ)) (old new : List ℕ) (s : Session) (p q r : List Post) (ended : ℕ → Type 0) where
   -- all frames are posted, and then that the session went
@@ -97,6 +106,6 @@ module _ (a c : Option (List ℕ)) (old new : List ℕ) (s : Session) (p q r : L
   pub reader-posts : (was : ℕ → Type 0) (faults risen : ℕ) (is_reliable : Bool) (end : ReadEnd) → ((at : ℕ) → end ≡ ends.Closed at → ⊥)
       → HasHeard a c old s p was q new end → IsReadEnd c new faults risen is_reliable end → Leaves ended q r s → ReaderPosts a c old s p ended r new end
   reader-posts was f g w ends.Ended other h e l = posted-all h e.unfinished.0 l
-  reader-posts was f g w (ends.Short length) other h e l = posted-all h (short-begins new e.short) l
+  reader-posts was f g w (ends.Short len) other h e l = posted-all h (short-begins new e.short) l
   reader-posts was f g w ends.ReadFault other h e l = posted-all h e.unfinished.0 l
   reader-posts was f g w (ends.Closed at) other h e l = absurd (other at refl)

@@ -1,5 +1,6 @@
 -- Frames of a switch that are passed over one by one.
 use Rattle.std.proofs.Common.{◌≡◌, ◌<◌, ℕ, Bool, true, false, List, [], ◌∷◌, ◌++◌, Option, All, length, refl, sym, ap, subst, ◌∙◌, append_assoc, inl, inr}
+use Rattle.std.specs.List.{flat_map}
 use Rattle.std.proofs.lemmas.List.{append-nil}
 use Rattle.std.proofs.lemmas.List.Concat.{flat_map-append}
 use Rattle.std.proofs.lemmas.List.Elements.{All-nil, All-push}
@@ -17,8 +18,8 @@ use Rattle.sessions.proofs.Bytes.{joined-more, reads-more}
 -- the answer to one more frame
 pub to-switch-more : (passed : List (List ℕ)) (f : List ℕ) → to_switch passed ++ echo f ≡ to_switch (passed ++ f ∷ [])
 to-switch-more passed f =
-    append_assoc (hello_message ++ features_request) _ (echo f)
-    ∙ ap (λ z. (hello_message ++ features_request) ++ z) (ap (λ z. _ ++ z) (sym (append-nil (echo f))) ∙ sym (flat_map-append echo passed (f ∷ [])))
+    append_assoc (hello_message ++ features_request) (flat_map echo passed) (echo f)
+    ∙ ap (λ z. (hello_message ++ features_request) ++ z) (ap (λ z. flat_map echo passed ++ z) (sym (append-nil (echo f))) ∙ sym (flat_map-append echo passed (f ∷ [])))
 
 -- bytes that are read go on from what was left, behind two parts
 goes_on : (old read more hello taken mid left : List ℕ) → old ++ read ≡ hello ++ (taken ++ mid) → mid ++ more ≡ left → old ++ (read ++ more) ≡ hello ++ (taken ++ left)

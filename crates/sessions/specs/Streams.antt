@@ -36,7 +36,7 @@ pub record SourceEnded (left : Option (List ℕ)) (kept : List ℕ) : Type 0 whe
 -- the kept bytes begin with a header that gives this length, which is below 8
 pub record IsCutShort (kept : List ℕ) (len : ℕ) : Type 0 where
   pub short : IsShort kept
-  pub len : len ≡ length_field kept
+  pub shown : len ≡ length_field kept
 
 -- the source failed, which is none that never does, and what is kept is no whole frame
 pub record SourceFailed (kept : List ℕ) (before after : ℕ) (is_reliable : Bool) : Type 0 where

@@ -61,6 +61,10 @@ module _ (session : Session) (most : ℕ) (posts : List Post) (held now_held : O
     pub written : HasWritten sent
     pub posted : (now ≡ sent) ⊎ (now ≡ sent ++ going session ∷ [])
 
+  -- the same; or the sink failed, and nothing could be posted of it
+  abbrev pub HasNoMemory : (failed : Type 0) (now : List Post) → Type 0
+  HasNoMemory failed now = HasWrittenSome now ⊎ (failed × HasWrittenUpTo now)
+
 -- why a writer ended, of a sink whose faults and wants were so many
 abbrev pub IsWriteEnd : (faults risen wants wanted : ℕ) (is_reliable : Bool) → WriteEnd → Type 0
 IsWriteEnd faults risen wants wanted is_reliable ends.WriteFault = SinkFailed faults risen wants wanted is_reliable

@@ -1,8 +1,8 @@
 //! How connections are opened.
-ghost use Rattle.std.specs.Prelude.{◌≡◌, ◌<◌, ◌^◌, OnOk, IfOk, IfErr, MatchResult, length};
+ghost use Rattle.std.specs.Prelude.{◌≡◌, ◌<◌, ◌≤◌, ◌^◌, OnOk, IfOk, IfErr, length};
 ghost use Rattle.sessions.specs.Greetings.{hello_message};
-ghost use Rattle.sessions.specs.Opening.{HasFeatures, IsGreeted, IsKnown, IsNoSwitch, IsNotGreeted, IsNotOpened};
-ghost use Rattle.sessions.specs.InsideOpening.{IsFirst, IsNoFirst, IsNamed, IsNotNamed};
+ghost use Rattle.sessions.specs.Opening.{IsGreeted, IsKnown, IsNoSwitch, IsNotGreeted, IsNotOpened};
+ghost use Rattle.sessions.specs.InsideOpening.{IsNamed, IsNoFirst, IsNotNamed};
 ghost use Rattle.sessions.specs.Streams.{Appends};
 
 use crate::ends::{Greeted, OpenEnd};

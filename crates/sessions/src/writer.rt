@@ -1,7 +1,7 @@
 //! The loop that writes to a peer.
 ghost use Rattle.std.specs.Prelude.{◌≡◌, ◌≤◌, IfOk, OnOk, OnErr};
-ghost use Rattle.sessions.specs.Posts.{MayAdd, second_told};
-ghost use Rattle.sessions.specs.Writing.{HasSent, HasWritten, HasWrittenSome, IsWriteEnd, MayTell, WriterPosts};
+ghost use Rattle.sessions.specs.Streams.{SinkFailed};
+ghost use Rattle.sessions.specs.Writing.{HasNoMemory, HasSent, HasWritten, IsWriteEnd, MayTell, WriterPosts};
 
 use crate::desk::{Desk, Taken};
 use crate::ends::WriteEnd;
@@ -27,14 +27,19 @@ pub fn run_writer<R: Wait, D: Desk, K: Sink, C: Clock>(
     ensures posted { IfOk result (WriterPosts session.now (C.greatest clock.new) (D.posts pass.old) (K.held sink.old) (K.held sink.new)
         (D.ended pass.new session.now) (D.posts pass.new)) }
     ensures end { IfOk result (IsWriteEnd (K.faults sink.old) (K.faults sink.new) (K.wants sink.old) (K.wants sink.new) (K.is_reliable sink.old)) }
-    ensures memory { OnErr result (HasWrittenSome session.now (C.greatest clock.new) (D.posts pass.old) (K.held sink.old) (K.held sink.new) (D.posts pass.new)) }
+    ensures memory { OnErr result (HasNoMemory session.now (C.greatest clock.new) (D.posts pass.old) (K.held sink.old) (K.held sink.new)
+        (SinkFailed (K.faults sink.old) (K.faults sink.new) (K.wants sink.old) (K.wants sink.new) (K.is_reliable sink.old)) (D.posts pass.new)) }
     ensures reliable { K.is_reliable sink.new ≡ K.is_reliable sink.old }
 {
     match send_all(rt, desk, pass, session, sink, clock) {
         Ok(WriteEnd::Closed { at }) => Ok(WriteEnd::Closed { at }),
-        end => {
+        Ok(WriteEnd::WriteFault) => {
             leave(desk, pass, session)?;
-            end
+            Ok(WriteEnd::WriteFault)
+        }
+        Err(memory) => {
+            leave(desk, pass, session)?;
+            Err(memory)
         }
     }
 }
