@@ -1,15 +1,15 @@
 -- Bytes that are read and written piece by piece.
 use Rattle.std.proofs.Common.{◌≡◌, ◌<◌, ◌≤◌, ◌+◌, ◌-◌, ℕ, List, [], ◌∷◌, ◌++◌, Option, Some, None, All, length, take, drop, refl, sym, ap, subst, ◌∙◌, append_assoc, arith, length-drop}
-use Rattle.std.specs.Prelude.{Result, Ok, Err, OnErr, OnOk, true, false}
+use Rattle.std.specs.Prelude.{Bool, Result, Ok, Err, OnErr, OnOk, true, false}
 use Rattle.std.specs.Result.{is_err}
 use Rattle.std.proofs.Math.Seq.{take-add, take-append-add}
 use Rattle.std.proofs.lemmas.List.{append-nil, take_all, take-append-drop}
 use Rattle.std.proofs.lemmas.List.Concat.{flat_map-append}
-use Rattle.cv_io.specs.Outside.{AppendsFirst, TakesNext}
+use Rattle.cv_io.specs.Outside.{AppendsFirst, Rose, TakesNext}
 use Rattle.of10_frames.specs.Frames.{BeginsWithFrame, IsFrame, IsShort}
 use Rattle.of10_frames.specs.Wire.{length_field}
 use Rattle.of10_frames.proofs.Fronts.{length_field-append}
-use Rattle.sessions.specs.Streams.{Appends, AppendsSome, Reads, joined}
+use Rattle.sessions.specs.Streams.{Appends, AppendsSome, Reads, SinkFailed, SourceFailed, joined}
 
 -- before the first read
 pub reads-none : (a : Option (List ℕ)) → Reads a a []
@@ -96,3 +96,17 @@ after-err (Err d) e p = p
 pub after-ok : {T E P : Type 0} (r : Result T E) → is_err r ≡ false → OnOk r P → P
 after-ok (Ok x) e p = p
 after-ok (Err d) e p = absurd (cc)
+
+-- the counts are those as it began
+pub sink-failed : (f m g w x v : ℕ) (s t : Bool) → m ≡ f → x ≡ w → t ≡ s → SinkFailed m g x v t → SinkFailed f g w v s
+sink-failed f m g w x v s t p q r h = record {
+  rose = subst (λ z. Rose z g) p h.rose;
+  want = λ is. subst (λ z. Rose z v) q (h.want (r ∙ is));
+}
+
+pub source-failed : (kept : List ℕ) (f m g : ℕ) (w v : Bool) → m ≡ f → v ≡ w → SourceFailed kept m g v → SourceFailed kept f g w
+source-failed kept f m g w v p q h = record {
+  unfinished = h.unfinished;
+  rose = subst (λ z. Rose z g) p h.rose;
+  unreliable = sym q ∙ h.unreliable;
+}

@@ -1,6 +1,5 @@
 -- Why a switch is not opened.
 use Rattle.std.proofs.Common.{◌≡◌, ◌<◌, ℕ, Bool, true, false, List, [], ◌∷◌, ◌++◌, Option, length, refl, sym, ap, subst, ◌∙◌, inl, inr}
-use Rattle.cv_io.specs.Outside.{Rose}
 use Rattle.of10_frames.specs.Frames.{IsFrame}
 use Rattle.sessions.specs.declared.ends.Greeted.{Greeted}
 use Rattle.sessions.specs.declared.ends.OpenEnd.{OpenEnd}
@@ -12,23 +11,9 @@ use Rattle.sessions.specs.InsideOpening.{IsNamed, IsNoFirst, IsNotNamed}
 use Rattle.sessions.specs.InsideReading.{IsSendEnd, open_end}
 use Rattle.sessions.specs.Opening.{HasFeatures, HasPassed, IsKnown, IsNoSwitch, IsNotGreeted}
 use Rattle.sessions.specs.Reading.{HasNext, HasStopped}
-use Rattle.sessions.specs.Streams.{Appends, AppendsSome, SinkFailed, SourceFailed}
-use Rattle.sessions.proofs.Bytes.{appends-part}
+use Rattle.sessions.specs.Streams.{Appends, AppendsSome}
+use Rattle.sessions.proofs.Bytes.{appends-part, sink-failed, source-failed}
 use Rattle.sessions.proofs.Opens.{passed-kept, passed-more, passed-reply, to-switch-more}
-
--- the counts are those as it began
-sink-failed : (f m g w x v : ℕ) (s t : Bool) → m ≡ f → x ≡ w → t ≡ s → SinkFailed m g x v t → SinkFailed f g w v s
-sink-failed f m g w x v s t p q r h = record {
-  rose = subst (λ z. Rose z g) p h.rose;
-  want = λ is. subst (λ z. Rose z v) q (h.want (r ∙ is));
-}
-
-source-failed : (kept : List ℕ) (f m g : ℕ) (w v : Bool) → m ≡ f → v ≡ w → SourceFailed kept m g v → SourceFailed kept f g w
-source-failed kept f m g w v p q h = record {
-  unfinished = h.unfinished;
-  rose = subst (λ z. Rose z g) p h.rose;
-  unreliable = sym q ∙ h.unreliable;
-}
 
 module _ (dpids : List ℕ) (kf kg kw kv : ℕ) (ks : Bool) (held : Option (List ℕ)) where
   -- the greeting is not written
@@ -98,10 +83,10 @@ module _ (dpids : List ℕ) (kf kg kw kv : ℕ) (ks : Bool) (held : Option (List
       written = written;
     }
 
-    pub is-known : (f : List ℕ) (g : Greeted) → length passed < 64 → HasNext b c mid new f → is_features f ≡ true → IsNamed dpids f g → IsKnown a c old new held now dpids g
-    is-known f g few n is named = record { reply = f; came = features f few n is; switch = named.switch; arp = named.arp }
+    pub is-known : (f r ds : List ℕ) (g : Greeted) → length passed < 64 → HasNext b c mid new f → is_features f ≡ true → r ≡ f → ds ≡ dpids → IsNamed ds r g → IsKnown a c old new held now dpids g
+    is-known f r ds g few n is p q named = let k = subst (λ z. IsNamed z f g) q (subst (λ z. IsNamed ds z g) p named) in record { reply = f; came = features f few n is; switch = k.switch; arp = k.arp }
 
-    pub is-unknown : (sf sg : ℕ) (w : Bool) (f : List ℕ) (end : OpenEnd) → length passed < 64 → HasNext b c mid new f → is_features f ≡ true → IsNotNamed dpids f end
+    is-unknown : (sf sg : ℕ) (w : Bool) (f : List ℕ) (end : OpenEnd) → length passed < 64 → HasNext b c mid new f → is_features f ≡ true → IsNotNamed dpids f end
         → IsNoSwitch a c old new held now dpids sf sg w kf kg kw kv ks end
     is-unknown sf sg w f ends.Ended few n is u = absurd u
     is-unknown sf sg w f (ends.Short len) few n is u = absurd u
@@ -111,6 +96,10 @@ module _ (dpids : List ℕ) (kf kg kw kv : ℕ) (ks : Bool) (held : Option (List
     is-unknown sf sg w f ends.ReadFault few n is u = absurd u
     is-unknown sf sg w f ends.WriteFault few n is u = absurd u
     is-unknown sf sg w f ends.Memory few n is u = absurd u
+
+    pub is-not-known : (sf sg : ℕ) (w : Bool) (f r ds : List ℕ) (end : OpenEnd) → length passed < 64 → HasNext b c mid new f → is_features f ≡ true → r ≡ f → ds ≡ dpids → IsNotNamed ds r end
+        → IsNoSwitch a c old new held now dpids sf sg w kf kg kw kv ks end
+    is-not-known sf sg w f r ds end few n is p q u = is-unknown sf sg w f end few n is (subst (λ z. IsNotNamed z f end) q (subst (λ z. IsNotNamed ds z end) p u))
 
 -- a controller was written its HELLO before its first frame was read for
 pub not-greeted : (a b : Option (List ℕ)) (old new : List ℕ) (held now : Option (List ℕ)) → Appends held now hello_message → (sf sg : ℕ) (w : Bool) (kf kg kw kv : ℕ) (ks : Bool) (end : OpenEnd)

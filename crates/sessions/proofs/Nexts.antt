@@ -1,27 +1,15 @@
 -- The next frame is kept, or read for.
 use Rattle.std.proofs.Common.{◌≡◌, ℕ, Bool, List, [], ◌∷◌, ◌++◌, Option, take, refl, sym, ap, subst, ◌∙◌, append_assoc}
 use Rattle.cv_io.specs.Outside.{Rose, TakesNext}
-use Rattle.of10_frames.specs.Frames.{IsFrame, IsUnfinished}
+use Rattle.of10_frames.specs.Frames.{IsUnfinished}
 use Rattle.sessions.specs.declared.incoming.Stop.{Stop}
 use Rattle.sessions.specs.declared.incoming.Stop.TheVariants as stops
-use Rattle.sessions.specs.InsideReading.{IsKeptStop, IsReadStop}
-use Rattle.sessions.specs.Reading.{HasKept, HasNext, HasStopped}
-use Rattle.sessions.specs.Streams.{IsCutShort, Reads}
+use Rattle.sessions.specs.InsideReading.{IsReadStop}
+use Rattle.sessions.specs.Reading.{HasStopped}
+use Rattle.sessions.specs.Streams.{Reads}
 use Rattle.sessions.proofs.Bytes.{reads-more, reads-one}
 
 module _ (a b : Option (List ℕ)) (old mid read : List ℕ) (reads : Reads a b read) (kept : mid ≡ old ++ read) where
-  -- what is kept holds a whole frame
-  pub next-kept : (new frame : List ℕ) → IsFrame frame × (mid ≡ frame ++ new) → HasNext a b old new frame
-  next-kept new frame h = record { read = read; next = reads; whole = h.0; parts = sym kept ∙ h.1 }
-
-  -- it shows a length that is too short, or there is no memory
-  pub stops-kept : (new : List ℕ) (f g : ℕ) (w : Bool) (stop : Stop) → new ≡ mid → IsKeptStop mid stop → HasStopped a b old new f g w stop
-  stops-kept new f g w stops.Ended e h = absurd h
-  stops-kept new f g w (stops.Short len) e h =
-      (record { read = read; next = reads; parts = e ∙ kept }, subst (λ z. IsCutShort z length) (sym e) h)
-  stops-kept new f g w stops.ReadFault e h = absurd h
-  stops-kept new f g w stops.Memory e h = (read, reads)
-
   -- nothing more is read
   pub stops-read : (c : Option (List ℕ)) (f m g : ℕ) (w v : Bool) (stop : Stop) → IsUnfinished mid → m ≡ f → v ≡ w → IsReadStop b c m g v stop → HasStopped a c old mid f g w stop
   stops-read c f m g w v stops.Ended u e i h =

@@ -55,10 +55,12 @@ module _ (before after : Option (List ℕ)) (old : List ℕ) (session : Session)
     pub whole : IsFrame refused
     pub front : HasPosted now (refused ++ left)
 
-  -- what is posted before the session is told to be gone, by how the reading ended
-  abbrev pub HasHeard : (ended : ℕ → Type 0) (now : List Post) (left : List ℕ) → ReadEnd → Type 0
-  HasHeard ended now left (ends.Closed at) = HasFoundEnded now left × ended at
-  HasHeard ended now left _ = HasPosted now left
+  -- what is posted where no further frame comes, and why none does
+  abbrev pub HasHeard : (now : List Post) (left : List ℕ) (faults risen : ℕ) → Bool → Stop → Type 0
+  HasHeard now left faults risen is_reliable stops.Ended = HasPosted now left × SourceEnded after left
+  HasHeard now left faults risen is_reliable (stops.Short length) = HasPosted now left × IsCutShort left length
+  HasHeard now left faults risen is_reliable stops.ReadFault = HasPosted now left × SourceFailed left faults risen is_reliable
+  HasHeard now left faults risen is_reliable stops.Memory = (rest : List ℕ) × HasPosted now rest
 
   -- every frame is posted, and then that the session went
   pub record HasPostedAll (ended : ℕ → Type 0) (now : List Post) (left : List ℕ) : Type 0 where

@@ -35,10 +35,10 @@ pub fn run_reader<R: Wait, D: Desk, S: Source>(
     ensures reliable { S.is_reliable source.new ≡ S.is_reliable source.old }
 {
     match hear_all(rt, alloc, desk, pass, session, framer, source) {
-        Ok(ReadEnd::Closed { at }) => Ok(ReadEnd::Closed { at }),
-        end => {
+        Ok(at) => Ok(ReadEnd::Closed { at }),
+        Err(stop) => {
             leave(desk, pass, session)?;
-            end
+            stop.end()
         }
     }
 }

@@ -1,6 +1,6 @@
 use Rattle.std.proofs.Common.{◌≡◌, ◌++◌, ◌∙◌, refl}
-use Rattle.sessions.proofs.Bytes.{in_any_case}
-use Rattle.sessions.proofs.Framed.{posted-ended, posted-more, posted-none, stopped-heard, stopped-memory}
+use Rattle.std.proofs.lemmas.Result.{err_from_is_err_and}
+use Rattle.sessions.proofs.Framed.{posted-ended, posted-more, posted-none, posted-seen, posted-stopped}
 use Rattle.sessions.proofs.hearing.hear_frames.Goals as goal
 
 pub loop-init : goal.loop-init
@@ -11,36 +11,34 @@ loop-init g c = record {
   reliable = refl;
 }
 
-pub returns-in-Err-clause-heard : goal.returns-in-Err-clause-heard
-returns-in-Err-clause-heard g c =
-    stopped-heard (g.S.Source.remaining c.args.source.now) (g.S.Source.remaining c.loop.source) (g.S.Source.remaining c.next_frame.new.source) c.args.framer.now c.loop.framer c.next_frame.new.framer c.args.session.now
-    (g.D.Desk.posts c.args.pass.now) (g.D.Desk.posts c.loop.pass) c.loop.invariant.posted (g.S.Source.faults c.loop.source) (g.S.Source.faults c.next_frame.new.source) (g.S.Source.is_reliable c.loop.source)
-    (g.D.Desk.ended c.loop.pass c.args.session.now) c.in-Err.stop c.end.result c.in-Err.ensures.stop c.end.ensures
+pub returns-in_err-frame-clause-stop : goal.returns-in_err-frame-clause-stop
+returns-in_err-frame-clause-stop g c =
+    let p = err_from_is_err_and c.from_residual-in_err-frame.result c.from_residual-in_err-frame.ensures.1 in
+    rw (p.1, p.2) (posted-stopped (g.S.Source.remaining c.args.source.now) (g.S.Source.remaining c.loop.source) (g.S.Source.remaining c.next_frame.new.source) c.args.framer.now c.loop.framer c.next_frame.new.framer c.args.session.now
+    (g.D.Desk.posts c.args.pass.now) (g.D.Desk.posts c.loop.pass) (g.S.Source.faults c.args.source.now) (g.S.Source.faults c.loop.source) (g.S.Source.faults c.next_frame.new.source) (g.S.Source.is_reliable c.args.source.now) (g.S.Source.is_reliable c.loop.source)
+    c.in_err-frame.field-0.0 c.loop.invariant.posted c.loop.invariant.faults c.loop.invariant.reliable c.in_err-frame.ensures.stop)
 
-pub returns-in-Err-clause-memory : goal.returns-in-Err-clause-memory
-returns-in-Err-clause-memory g c =
-    stopped-memory (g.S.Source.remaining c.args.source.now) (g.S.Source.remaining c.loop.source) (g.S.Source.remaining c.next_frame.new.source) c.args.framer.now c.loop.framer c.next_frame.new.framer c.args.session.now
-    (g.D.Desk.posts c.args.pass.now) (g.D.Desk.posts c.loop.pass) c.loop.invariant.posted (g.S.Source.faults c.loop.source) (g.S.Source.faults c.next_frame.new.source) (g.S.Source.is_reliable c.loop.source)
-    c.in-Err.stop c.end.result c.in-Err.ensures.stop c.end.ensures
+pub returns-in_err-at-clause-stop : goal.returns-in_err-at-clause-stop
+returns-in_err-at-clause-stop g c =
+    let p = err_from_is_err_and c.from_residual-in_err-at.result c.from_residual-in_err-at.ensures.1 in
+    rw (p.1, p.2) (
+      c.in_ok-frame.frame ++ c.next_frame.new.framer,
+      posted-seen (g.S.Source.remaining c.args.source.now) (g.S.Source.remaining c.loop.source) (g.S.Source.remaining c.next_frame.new.source) c.args.framer.now c.loop.framer c.next_frame.new.framer c.args.session.now
+          (g.D.Desk.posts c.args.pass.now) (g.D.Desk.posts c.loop.pass) (g.D.Desk.posts c.hear.new.pass) c.loop.invariant.posted c.in_ok-frame.frame c.in_ok-frame.ensures.frame c.in_err-at.ensures.memory,
+    )
 
-pub returns-in_err-at-clause-memory : goal.returns-in_err-at-clause-memory
-returns-in_err-at-clause-memory g c =
-    let e = posted-ended (g.S.Source.remaining c.args.source.now) (g.S.Source.remaining c.loop.source) (g.S.Source.remaining c.next_frame.new.source) c.args.framer.now c.loop.framer c.next_frame.new.framer c.args.session.now
-    (g.D.Desk.posts c.args.pass.now) (g.D.Desk.posts c.loop.pass) (g.D.Desk.posts c.hear.new.pass) c.loop.invariant.posted c.in-Ok.frame c.in-Ok.ensures.frame c.in_err-at.ensures.memory in
-    in_any_case c.from_residual.result (c.in-Ok.frame ++ c.next_frame.new.framer, e.front)
-
-pub returns-in-Closed-clause-heard : goal.returns-in-Closed-clause-heard
-returns-in-Closed-clause-heard g c = (
+pub returns-in-Closed-clause-closed : goal.returns-in-Closed-clause-closed
+returns-in-Closed-clause-closed g c = (
   posted-ended (g.S.Source.remaining c.args.source.now) (g.S.Source.remaining c.loop.source) (g.S.Source.remaining c.next_frame.new.source) c.args.framer.now c.loop.framer c.next_frame.new.framer c.args.session.now
-      (g.D.Desk.posts c.args.pass.now) (g.D.Desk.posts c.loop.pass) (g.D.Desk.posts c.hear.new.pass) c.loop.invariant.posted c.in-Ok.frame c.in-Ok.ensures.frame (rw c.in-Closed.is at c.in_ok-at.ensures.posted),
+      (g.D.Desk.posts c.args.pass.now) (g.D.Desk.posts c.loop.pass) (g.D.Desk.posts c.hear.new.pass) c.loop.invariant.posted c.in_ok-frame.frame c.in_ok-frame.ensures.frame (rw c.in-Closed.is at c.in_ok-at.ensures.posted),
   rw c.in-Closed.is at c.in_ok-at.ensures.closed,
 )
 
 pub loop-preserved : goal.loop-preserved
 loop-preserved g c = record {
   posted = posted-more (g.S.Source.remaining c.args.source.now) (g.S.Source.remaining c.loop.source) (g.S.Source.remaining c.next_frame.new.source) c.args.framer.now c.loop.framer c.next_frame.new.framer c.args.session.now
-      (g.D.Desk.posts c.args.pass.now) (g.D.Desk.posts c.loop.pass) (g.D.Desk.posts c.hear.new.pass) c.loop.invariant.posted c.in-Ok.frame c.in-Ok.ensures.frame (rw c.in_default.is at c.in_ok-at.ensures.posted);
+      (g.D.Desk.posts c.args.pass.now) (g.D.Desk.posts c.loop.pass) (g.D.Desk.posts c.hear.new.pass) c.loop.invariant.posted c.in_ok-frame.frame c.in_ok-frame.ensures.frame (rw c.in_default.is at c.in_ok-at.ensures.posted);
   admits = c.hear.ensures.pass;
-  faults = c.in-Ok.ensures.quiet ∙ c.loop.invariant.faults;
+  faults = c.in_ok-frame.ensures.quiet ∙ c.loop.invariant.faults;
   reliable = c.next_frame.ensures.reliable ∙ c.loop.invariant.reliable;
 }
