@@ -1,6 +1,6 @@
 -- Bytes that are read and written piece by piece.
 use Rattle.std.proofs.Common.{◌≡◌, ◌<◌, ◌≤◌, ◌+◌, ◌-◌, ℕ, List, [], ◌∷◌, ◌++◌, Option, Some, None, All, length, take, drop, refl, sym, ap, subst, ◌∙◌, append_assoc, arith, length-drop}
-use Rattle.std.specs.Prelude.{Bool, Result, Ok, Err, OnErr, OnOk, true, false}
+use Rattle.std.specs.Prelude.{Bool, Result, Ok, Err, IfErr, OnErr, OnOk, true, false}
 use Rattle.std.specs.Result.{is_err}
 use Rattle.std.proofs.Math.Seq.{take-add, take-append-add}
 use Rattle.std.proofs.lemmas.List.{append-nil, take_all, take-append-drop}
@@ -110,3 +110,8 @@ source-failed kept f m g w v p q h = record {
   rose = subst (λ z. Rose z g) p h.rose;
   unreliable = sym q ∙ h.unreliable;
 }
+
+-- a failure says no less
+pub if-err-weaker : {T E : Type 0} (r : Result T E) (P Q : E → Type 0) → ((e : E) → P e → Q e) → IfErr r P → IfErr r Q
+if-err-weaker (Ok x) P Q f h = tt
+if-err-weaker (Err e) P Q f h = f e h

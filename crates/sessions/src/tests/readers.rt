@@ -89,3 +89,28 @@ fn a_source_that_fails(rt: HostRuntime) -> Result<(), Fail> {
     assert!(rt; pass.calls.as_slice() == [Call::Gone].as_slice());
     Ok(())
 }
+
+// A frame is whole wherever it was cut between what the framer keeps and what is read.
+#[test]
+fn kept_bytes_come_first(rt: HostRuntime) -> Result<(), Fail> {
+    let alloc = rt.alloc();
+    for cut in 0..9usize {
+        let mut pass = Log::new(alloc, 9, 0);
+        let mut framer = Framer::new(alloc);
+        framer.feed(&BARRIER[..cut])?;
+        let bytes = Bytes::from_slice(alloc, &BARRIER[cut..])?;
+        let mut source = MemSource::new(bytes, List::new(alloc));
+        let end = run_reader(
+            &rt,
+            alloc,
+            &Book {},
+            &mut pass,
+            &SESSION,
+            &mut framer,
+            &mut source,
+        )?;
+        assert_eq!(rt; end, ReadEnd::Ended);
+        assert!(rt; pass.calls.as_slice() == [Call::Hear, Call::Gone].as_slice());
+    }
+    Ok(())
+}

@@ -13,7 +13,7 @@ loop-init g c = record {
 
 pub returns-in_err-frame-clause-stop : goal.returns-in_err-frame-clause-stop
 returns-in_err-frame-clause-stop g c =
-    let p = err_from_is_err_and c.from_residual-in_err-frame.result c.from_residual-in_err-frame.ensures.1 in
+    let p = err_from_is_err_and c.from_residual.result c.from_residual.ensures.1 in
     rw (p.1, p.2) (posted-stopped (g.S.Source.remaining c.args.source.now) (g.S.Source.remaining c.loop.source) (g.S.Source.remaining c.next_frame.new.source) c.args.framer.now c.loop.framer c.next_frame.new.framer c.args.session.now
     (g.D.Desk.posts c.args.pass.now) (g.D.Desk.posts c.loop.pass) (g.S.Source.faults c.args.source.now) (g.S.Source.faults c.loop.source) (g.S.Source.faults c.next_frame.new.source) (g.S.Source.is_reliable c.args.source.now) (g.S.Source.is_reliable c.loop.source)
     c.in_err-frame.field-0.0 c.loop.invariant.posted c.loop.invariant.faults c.loop.invariant.reliable c.in_err-frame.ensures.stop)

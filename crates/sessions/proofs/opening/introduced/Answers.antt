@@ -1,10 +1,10 @@
 use Rattle.std.proofs.Common.{◌≡◌, ◌<◌, ◌+◌, ◌++◌, ◌∷◌, [], true, false, length, arith, refl, subst, sym, ◌∙◌, length-append}
-use Rattle.std.proofs.lemmas.Result.{IfOk-weaker, MatchResult-weaker, err_from_is_err_and}
+use Rattle.std.proofs.lemmas.Result.{IfOk-weaker, err_from_is_err_and}
 use Rattle.sessions.specs.Greetings.{echo, is_features, to_switch}
-use Rattle.sessions.specs.InsideOpening.{IsNamed}
-use Rattle.sessions.specs.Opening.{IsKnown}
+use Rattle.sessions.specs.InsideOpening.{IsNamed, IsNotNamed}
+use Rattle.sessions.specs.Opening.{IsKnown, IsNoSwitch}
 use Rattle.sessions.specs.Streams.{Appends}
-use Rattle.sessions.proofs.Bytes.{appends-more}
+use Rattle.sessions.proofs.Bytes.{appends-more, if-err-weaker}
 use Rattle.sessions.proofs.Failing.{answer-fails, frame-fails, is-known, is-not-known}
 use Rattle.sessions.proofs.Opens.{passed-more, passed-none, to-switch-more}
 use Rattle.sessions.proofs.opening.introduced.Goals as goal
@@ -50,11 +50,15 @@ returns-then-is_features-clause-end g c =
     let i = c.loop.invariant in
     let few : length i.passed < 64 = omega (arith, i.many, c.loop-test.true) in
     let is : is_features c.in_ok-frame.frame ≡ true = subst (λ z. is_features z ≡ true) c.as_slice.ensures (sym c.is_features.ensures ∙ c.if-is_features.true) in
-    MatchResult-weaker c.named.result c.named.ensures.unknown (λ x t. t)
+    if-err-weaker c.named.result (IsNotNamed c.as_slice-then-is_features.result.now c.as_slice-then-is_features-2.result.now)
+    (IsNoSwitch (g.S.Source.remaining c.args.source.now) (g.S.Source.remaining c.next_frame.new.source) c.args.framer.now c.next_frame.new.framer (g.K.Sink.held c.args.sink.now) (g.K.Sink.held c.loop.sink) c.args.dpids.now
+    (g.S.Source.faults c.args.source.now) (g.S.Source.faults c.next_frame.new.source) (g.S.Source.is_reliable c.args.source.now)
+    (g.K.Sink.faults c.args.sink.now) (g.K.Sink.faults c.loop.sink) (g.K.Sink.wants c.args.sink.now) (g.K.Sink.wants c.loop.sink) (g.K.Sink.is_reliable c.args.sink.now))
     (λ end h. is-not-known c.args.dpids.now (g.K.Sink.faults c.args.sink.now) (g.K.Sink.faults c.loop.sink) (g.K.Sink.wants c.args.sink.now) (g.K.Sink.wants c.loop.sink) (g.K.Sink.is_reliable c.args.sink.now)
     (g.K.Sink.held c.args.sink.now) (g.S.Source.remaining c.args.source.now) (g.S.Source.remaining c.loop.source) (g.S.Source.remaining c.next_frame.new.source) (g.K.Sink.held c.loop.sink)
     c.args.framer.now c.loop.framer c.next_frame.new.framer i.passed i.came i.written (g.S.Source.faults c.args.source.now) (g.S.Source.faults c.next_frame.new.source) (g.S.Source.is_reliable c.args.source.now)
     c.in_ok-frame.frame c.as_slice-then-is_features-2.result.now c.as_slice-then-is_features.result.now end few c.in_ok-frame.ensures.frame is c.as_slice-then-is_features-2.ensures c.as_slice-then-is_features.ensures h)
+    c.named.ensures.unknown
 
 pub returns-in_err-answer-clause-end : goal.returns-in_err-answer-clause-end
 returns-in_err-answer-clause-end g c =
