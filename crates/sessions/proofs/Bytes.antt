@@ -1,12 +1,12 @@
 -- Bytes that are read and written piece by piece.
-use Rattle.std.proofs.Common.{◌≡◌, ◌<◌, ◌≤◌, ◌+◌, ◌-◌, ℕ, List, [], ◌∷◌, ◌++◌, Option, Some, None, All, length, take, drop, refl, sym, ap, subst, ◌∙◌, append_assoc, arith, length-drop}
+use Rattle.std.proofs.Common.{◌≡◌, ◌≤◌, ◌+◌, ◌-◌, ℕ, List, [], ◌∷◌, ◌++◌, Option, Some, None, length, take, drop, refl, sym, ap, subst, ◌∙◌, append_assoc, arith, length-drop}
 use Rattle.std.specs.Prelude.{Bool, Result, Ok, Err, IfErr, OnErr, OnOk, true, false}
 use Rattle.std.specs.Result.{is_err}
 use Rattle.std.proofs.Math.Seq.{take-add, take-append-add}
 use Rattle.std.proofs.lemmas.List.{append-nil, take_all, take-append-drop}
 use Rattle.std.proofs.lemmas.List.Concat.{flat_map-append}
 use Rattle.cv_io.specs.Outside.{AppendsFirst, Rose, TakesNext}
-use Rattle.of10_frames.specs.Frames.{BeginsWithFrame, IsFrame, IsShort}
+use Rattle.of10_frames.specs.Frames.{BeginsWithFrame, IsShort}
 use Rattle.of10_frames.specs.Wire.{length_field}
 use Rattle.of10_frames.proofs.Fronts.{length_field-append}
 use Rattle.sessions.specs.Streams.{Appends, AppendsSome, Reads, SinkFailed, SourceFailed, joined}

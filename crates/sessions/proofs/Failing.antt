@@ -1,12 +1,11 @@
 -- Why a switch is not opened.
-use Rattle.std.proofs.Common.{◌≡◌, ◌<◌, ℕ, Bool, true, false, List, [], ◌∷◌, ◌++◌, Option, length, refl, sym, ap, subst, ◌∙◌, inl, inr}
-use Rattle.of10_frames.specs.Frames.{IsFrame}
+use Rattle.std.proofs.Common.{◌≡◌, ◌<◌, ℕ, Bool, true, false, List, [], ◌∷◌, ◌++◌, Option, length, refl, subst, inl, inr}
 use Rattle.sessions.specs.declared.ends.Greeted.{Greeted}
 use Rattle.sessions.specs.declared.ends.OpenEnd.{OpenEnd}
 use Rattle.sessions.specs.declared.ends.OpenEnd.TheVariants as ends
 use Rattle.sessions.specs.declared.incoming.Stop.{Stop}
 use Rattle.sessions.specs.declared.incoming.Stop.TheVariants as stops
-use Rattle.sessions.specs.Greetings.{dpid_of, echo, features_request, hello_message, is_features, place_of, to_switch}
+use Rattle.sessions.specs.Greetings.{echo, features_request, hello_message, is_features, to_switch}
 use Rattle.sessions.specs.InsideOpening.{IsNamed, IsNoFirst, IsNotNamed}
 use Rattle.sessions.specs.InsideReading.{IsSendEnd, open_end}
 use Rattle.sessions.specs.Opening.{HasFeatures, HasPassed, IsKnown, IsNoSwitch, IsNotGreeted}

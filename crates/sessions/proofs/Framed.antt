@@ -1,11 +1,11 @@
 -- Frames that are posted one by one.
-use Rattle.std.proofs.Common.{◌≡◌, ℕ, Bool, List, [], ◌∷◌, ◌++◌, Option, All, refl, sym, ap, subst, ◌∙◌, append_assoc, inl, inr, ◌⊎◌}
-use Rattle.std.specs.Prelude.{Result, Ok, Err, IfOk, OnErr}
+use Rattle.std.proofs.Common.{◌≡◌, ℕ, Bool, List, [], ◌∷◌, ◌++◌, Option, refl, sym, ap, subst, ◌∙◌, append_assoc, inl, inr, ◌⊎◌}
+use Rattle.std.specs.Prelude.{Result, IfOk, OnErr}
 use Rattle.cv_io.specs.declared.memory.Memory.{Memory}
 use Rattle.std.proofs.lemmas.List.{append-nil, map-append}
 use Rattle.std.proofs.lemmas.List.Elements.{All-nil, All-push}
 use Rattle.cv_io.specs.declared.leaf.Session.{Session}
-use Rattle.of10_frames.specs.Frames.{BeginsWithFrame, IsCut, IsFrame}
+use Rattle.of10_frames.specs.Frames.{BeginsWithFrame, IsFrame}
 use Rattle.sessions.specs.declared.desk.Post.{Post}
 use Rattle.sessions.specs.declared.ends.ReadEnd.{ReadEnd}
 use Rattle.sessions.specs.declared.incoming.Stop.{Stop}

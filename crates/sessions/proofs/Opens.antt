@@ -1,18 +1,14 @@
 -- Frames of a switch that are passed over one by one.
-use Rattle.std.proofs.Common.{◌≡◌, ◌<◌, ℕ, Bool, true, false, List, [], ◌∷◌, ◌++◌, Option, All, length, refl, sym, ap, subst, ◌∙◌, append_assoc, inl, inr}
+use Rattle.std.proofs.Common.{◌≡◌, ℕ, true, false, List, [], ◌∷◌, ◌++◌, Option, sym, ap, ◌∙◌, append_assoc}
 use Rattle.std.specs.List.{flat_map}
 use Rattle.std.proofs.lemmas.List.{append-nil}
 use Rattle.std.proofs.lemmas.List.Concat.{flat_map-append}
 use Rattle.std.proofs.lemmas.List.Elements.{All-nil, All-push}
 use Rattle.of10_frames.specs.Frames.{IsFrame}
-use Rattle.sessions.specs.declared.incoming.Stop.{Stop}
-use Rattle.sessions.specs.declared.incoming.Stop.TheVariants as stops
 use Rattle.sessions.specs.Greetings.{echo, features_request, hello_message, is_features, is_hello, to_switch}
-use Rattle.sessions.specs.InsideOpening.{IsNoFirst}
-use Rattle.sessions.specs.InsideReading.{open_end}
-use Rattle.sessions.specs.Opening.{HasPassed, IsBeginning, IsNoSwitch, IsWaiting}
-use Rattle.sessions.specs.Reading.{HasKept, HasNext, HasStopped}
-use Rattle.sessions.specs.Streams.{Appends, Reads, joined}
+use Rattle.sessions.specs.Opening.{HasPassed}
+use Rattle.sessions.specs.Reading.{HasKept, HasNext}
+use Rattle.sessions.specs.Streams.{Reads, joined}
 use Rattle.sessions.proofs.Bytes.{joined-more, reads-more}
 
 -- the answer to one more frame

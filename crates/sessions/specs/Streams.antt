@@ -1,8 +1,8 @@
 -- What is read of a source and written to a sink, and what is kept of what was read.
-use Rattle.std.specs.Prelude.{◌≡◌, ℕ, Bool, true, false, List, [], ◌++◌, Option, Some, None, All, take, ⊤}
+use Rattle.std.specs.Prelude.{◌≡◌, ℕ, Bool, true, false, List, [], ◌++◌, Option, Some, None, take, ⊤}
 use Rattle.std.specs.List.{flat_map}
 use Rattle.cv_io.specs.Outside.{Rose}
-use Rattle.of10_frames.specs.Frames.{BeginsWithFrame, IsFrame, IsShort, IsUnfinished}
+use Rattle.of10_frames.specs.Frames.{IsShort, IsUnfinished}
 use Rattle.of10_frames.specs.Wire.{length_field}
 
 -- one after the other

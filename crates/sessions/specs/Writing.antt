@@ -1,5 +1,5 @@
 -- What a writer posts and writes.
-use Rattle.std.specs.Prelude.{◌≡◌, ◌⊎◌, ◌≤◌, ℕ, List, [], ◌∷◌, ◌++◌, Option, All, take, true, Bool, ⊤}
+use Rattle.std.specs.Prelude.{◌≡◌, ◌⊎◌, ◌≤◌, ℕ, List, [], ◌∷◌, ◌++◌, Option, All, take, Bool, ⊤}
 use Rattle.std.specs.List.{flat_map}
 use Rattle.cv_io.specs.declared.leaf.Session.{Session}
 use Rattle.events.specs.declared.event.Event.{Event}

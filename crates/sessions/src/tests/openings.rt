@@ -9,6 +9,15 @@ const HELLO: &[u8] = &[1, 0, 0, 8, 0, 0, 0, 0];
 
 const LATER_HELLO: &[u8] = &[4, 0, 0, 8, 0, 0, 0, 1];
 
+const EARLIER_HELLO: &[u8] = &[0, 0, 0, 8, 0, 0, 0, 1];
+
+const SHORT: &[u8] = &[1, 0, 0, 7];
+
+/// FEATURES_REPLYs that are passed over: one without its fixed part, and one of a later version.
+const CUT_FEATURES: &[u8] = &[1, 6, 0, 8, 0, 0, 0, 0];
+
+const LATER_FEATURES: &[u8] = &[4, 6, 0, 8, 0, 0, 0, 0];
+
 const ECHO: &[u8] = &[1, 2, 0, 10, 0, 0, 0, 9, 0xaa, 0xbb];
 
 const ECHOED: &[u8] = &[1, 3, 0, 10, 0, 0, 0, 9, 0xaa, 0xbb];
@@ -66,53 +75,55 @@ fn member<R: Wait>(
     Ok((opened, sink.held))
 }
 
+/// Whether a switch that sends these bytes is opened so, and is sent these.
+fn opens<R: Wait>(
+    rt: &R,
+    alloc: Global,
+    sent: &[&[u8]],
+    want: Result<Greeted, OpenEnd>,
+    written: &[&[u8]],
+) -> Result<bool, Memory> {
+    let (opened, held) = switch(rt, alloc, bytes_of(alloc, sent)?, &[], &[])?;
+    Ok(opened == want && held == bytes_of(alloc, written)?)
+}
+
 #[test]
-fn switches(rt: HostRuntime) -> Result<(), Fail> {
-    let alloc = rt.alloc();
-    let known = Greeted {
+fn known_switches(rt: HostRuntime) -> Result<(), Fail> {
+    let a = rt.alloc();
+    let known = Ok(Greeted {
         switch: 0,
         arp: true,
-    };
-    let rows: [(&[&[u8]], Result<Greeted, OpenEnd>, &[&[u8]]); 12] = [
-        (&[], Err(OpenEnd::Ended), &[GREETING]),
-        (&[HELLO], Err(OpenEnd::Ended), &[GREETING]),
-        (&[&HELLO[..5]], Err(OpenEnd::Ended), &[GREETING]),
-        (
-            &[&[1, 0, 0, 7]],
-            Err(OpenEnd::Short { length: 7 }),
-            &[GREETING],
-        ),
-        (
-            &[HELLO, &[1, 0, 0, 0]],
-            Err(OpenEnd::Short { length: 0 }),
-            &[GREETING],
-        ),
-        (&[ECHO, HELLO], Err(OpenEnd::NoHello), &[GREETING]),
-        (
-            &[&[0, 0, 0, 8, 0, 0, 0, 0]],
-            Err(OpenEnd::NoHello),
-            &[GREETING],
-        ),
-        (&[HELLO, FEATURES], Ok(known), &[GREETING]),
-        (&[LATER_HELLO, HELLO, FEATURES], Ok(known), &[GREETING]),
-        (&[HELLO, ECHO, FEATURES], Ok(known), &[GREETING, ECHOED]),
-        (
-            &[HELLO, STRANGE],
-            Err(OpenEnd::Unknown { dpid: 9 }),
-            &[GREETING],
-        ),
-        // a FEATURES_REPLY that is cut short, and one of a later version, are passed over
-        (
-            &[HELLO, &[1, 6, 0, 8, 0, 0, 0, 0], &[4, 6, 0, 8, 0, 0, 0, 0]],
-            Err(OpenEnd::Ended),
-            &[GREETING],
-        ),
-    ];
-    for (sent, want, written) in rows {
-        let (opened, held) = switch(&rt, alloc, bytes_of(alloc, sent)?, &[], &[])?;
-        assert_eq!(rt; opened, want);
-        assert!(rt; held == bytes_of(alloc, written)?);
-    }
+    });
+    let unknown = Err(OpenEnd::Unknown { dpid: 9 });
+    assert!(rt; opens(&rt, a, &[HELLO, FEATURES], known, &[GREETING])?);
+    assert!(rt; opens(&rt, a, &[LATER_HELLO, HELLO, FEATURES], known, &[GREETING])?);
+    assert!(rt; opens(&rt, a, &[HELLO, ECHO, FEATURES], known, &[GREETING, ECHOED])?);
+    assert!(rt; opens(&rt, a, &[HELLO, STRANGE], unknown, &[GREETING])?);
+    Ok(())
+}
+
+#[test]
+fn other_peers(rt: HostRuntime) -> Result<(), Fail> {
+    let a = rt.alloc();
+    let ended = Err(OpenEnd::Ended);
+    let short = Err(OpenEnd::Short { length: 7 });
+    let other = Err(OpenEnd::NoHello);
+    assert!(rt; opens(&rt, a, &[], ended, &[GREETING])?);
+    assert!(rt; opens(&rt, a, &[HELLO], ended, &[GREETING])?);
+    assert!(rt; opens(&rt, a, &[&HELLO[..5]], ended, &[GREETING])?);
+    assert!(rt;
+        opens(
+            &rt,
+            a,
+            &[HELLO, CUT_FEATURES, LATER_FEATURES],
+            ended,
+            &[GREETING]
+        )?
+    );
+    assert!(rt; opens(&rt, a, &[SHORT], short, &[GREETING])?);
+    assert!(rt; opens(&rt, a, &[HELLO, SHORT], short, &[GREETING])?);
+    assert!(rt; opens(&rt, a, &[ECHO, HELLO], other, &[GREETING])?);
+    assert!(rt; opens(&rt, a, &[EARLIER_HELLO], other, &[GREETING])?);
     Ok(())
 }
 
@@ -148,23 +159,27 @@ fn switches_that_close(rt: HostRuntime) -> Result<(), Fail> {
     Ok(())
 }
 
+/// Whether a controller that sends these bytes is opened so, and is sent a HELLO.
+fn greets<R: Wait>(
+    rt: &R,
+    alloc: Global,
+    sent: &[&[u8]],
+    want: Result<(), OpenEnd>,
+) -> Result<bool, Memory> {
+    let (opened, held) = member(rt, alloc, bytes_of(alloc, sent)?, &[], &[])?;
+    Ok(opened == want && held.as_slice() == HELLO)
+}
+
 #[test]
 fn controllers(rt: HostRuntime) -> Result<(), Fail> {
-    let alloc = rt.alloc();
-    let rows: [(&[&[u8]], Result<(), OpenEnd>); 7] = [
-        (&[], Err(OpenEnd::Ended)),
-        (&[&HELLO[..7]], Err(OpenEnd::Ended)),
-        (&[&[1, 0, 0, 3]], Err(OpenEnd::Short { length: 3 })),
-        (&[ECHO], Err(OpenEnd::NoHello)),
-        (&[HELLO], Ok(())),
-        (&[LATER_HELLO], Ok(())),
-        (&[HELLO, ECHO], Ok(())),
-    ];
-    for (sent, want) in rows {
-        let (opened, held) = member(&rt, alloc, bytes_of(alloc, sent)?, &[], &[])?;
-        assert_eq!(rt; opened, want);
-        assert!(rt; held.as_slice() == HELLO);
-    }
+    let a = rt.alloc();
+    assert!(rt; greets(&rt, a, &[], Err(OpenEnd::Ended))?);
+    assert!(rt; greets(&rt, a, &[&HELLO[..7]], Err(OpenEnd::Ended))?);
+    assert!(rt; greets(&rt, a, &[SHORT], Err(OpenEnd::Short { length: 7 }))?);
+    assert!(rt; greets(&rt, a, &[ECHO], Err(OpenEnd::NoHello))?);
+    assert!(rt; greets(&rt, a, &[HELLO], Ok(()))?);
+    assert!(rt; greets(&rt, a, &[LATER_HELLO], Ok(()))?);
+    assert!(rt; greets(&rt, a, &[HELLO, ECHO], Ok(()))?);
     Ok(())
 }
 

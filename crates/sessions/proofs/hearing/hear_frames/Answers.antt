@@ -1,4 +1,4 @@
-use Rattle.std.proofs.Common.{◌≡◌, ◌++◌, ◌∙◌, refl}
+use Rattle.std.proofs.Common.{◌++◌, ◌∙◌, refl}
 use Rattle.std.proofs.lemmas.Result.{err_from_is_err_and}
 use Rattle.sessions.proofs.Framed.{posted-ended, posted-more, posted-none, posted-seen, posted-stopped}
 use Rattle.sessions.proofs.hearing.hear_frames.Goals as goal

@@ -1,5 +1,4 @@
 use Rattle.std.proofs.lemmas.Result.{MatchResult-weaker, err_from_is_err_and}
-use Rattle.sessions.specs.Opening.{IsNotGreeted}
 use Rattle.sessions.proofs.Failing.{not-greeted}
 use Rattle.sessions.proofs.opening.open_member.Goals as goal
 

@@ -1,4 +1,4 @@
-use Rattle.std.proofs.Common.{◌≡◌, ◌∙◌, ap, subst, sym, inl}
+use Rattle.std.proofs.Common.{◌∙◌, subst, sym, inl}
 use Rattle.sessions.specs.Streams.{Appends, AppendsSome}
 use Rattle.sessions.specs.Writing.{HasWritten}
 use Rattle.sessions.proofs.Bytes.{after-err, after-ok, in_any_case}
