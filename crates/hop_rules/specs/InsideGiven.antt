@@ -1,0 +1,83 @@
+-- The rules of a virtual switch that were handed over, as they are kept.
+use Rattle.std.specs.Prelude.{◌≡◌, ℕ, ◌+◌, ◌*◌, ◌%◌, ◌^◌, Option, Some, None, List, [], ◌∷◌, ◌++◌, filter_map, map, option_map, IsPermutation}
+use Rattle.cv_io.specs.declared.leaf.Leaf.{Leaf}
+use Rattle.match_index.specs.declared.item.Item.{Item}
+use Rattle.rule_ancestry.specs.Holding.{Held, id_of, item_of}
+use Rattle.policy_meaning.specs.declared.rule.Rule.{Rule}
+use Rattle.of10_match.specs.Fields.{MatchOf}
+use Rattle.hop_rules.specs.InsideListing.{item_for}
+use Rattle.hop_rules.specs.Standing.{asked, over}
+use Rattle.hop_rules.specs.declared.exits.Exit.{Exit}
+use Rattle.hop_rules.specs.declared.standing.Departure.{Departure}
+
+-- a mark with another number in it
+abbrev pub mixed : ℕ → ℕ → ℕ
+mixed mark number = ((mark * 0x9e3779b97f4a7c15) % 2 ^ 64 + number) % 2 ^ 64
+
+abbrev pub leaves_mark : List Leaf → ℕ → ℕ
+leaves_mark [] mark = mark
+leaves_mark (l ∷ ls) mark = leaves_mark ls (mixed (mixed mark l.member) l.kind)
+
+abbrev pub port_mark : Option ℕ → ℕ
+port_mark None = 0
+port_mark (Some port) = 1 + port
+
+-- the mark by which a rule is found
+abbrev pub mark_of : Rule → ℕ
+mark_of r = mixed (leaves_mark r.ancestry 0) (port_mark r.m.in_port)
+
+-- the rules with their ids, and what is listed of them
+pub record GivenOf : Type 0 where
+  pub exits : List Exit
+  pub rules : List (Held Rule)
+  pub items : List Item
+
+-- what a rule asks where its link leads, if it leads over one
+abbrev pub asks_by : Rule → Option Departure → Option MatchOf
+asks_by r l = option_map (asked r.m) l
+
+-- a rule as it is listed: by what it asks there
+abbrev pub listed : List Exit → Held Rule → Option Item
+listed exits h = option_map (item_for h.id) (asks_by h.item (over exits h.item.tail))
+
+-- exactly these rules are listed, of those that lead over a link
+abbrev pub AreListed : GivenOf → List (Held Rule) → Type 0
+AreListed g rules = IsPermutation g.items (filter_map (listed g.exits) rules)
+
+-- a rule leaves, and its id is noted
+pub record TakesOne (old new : GivenOf) (ids ids' : List ℕ) (rule : Rule) : Type 0 where
+  pub id : ℕ
+  pub noted : ids' ≡ ids ++ id ∷ []
+  pub rules : IsPermutation old.rules (record { id = id; item = rule } ∷ new.rules)
+  pub listed : AreListed old old.rules → AreListed new new.rules
+  pub exits : new.exits ≡ old.exits
+
+-- rules leave, which had these ids
+pub record Takes (old new : GivenOf) (ids : List ℕ) (rules : List Rule) : Type 0 where
+  pub going : List (Held Rule)
+  pub was : IsPermutation old.rules (going ++ new.rules)
+  pub ids_are : map id_of going ≡ ids
+  pub rules_are : map item_of going ≡ rules
+  pub listed : AreListed old old.rules → AreListed new new.rules
+  pub exits : new.exits ≡ old.exits
+
+-- rules come, under these ids, and aren't listed
+pub record Puts (old new : GivenOf) (ids : List ℕ) (rules : List Rule) : Type 0 where
+  pub coming : List (Held Rule)
+  pub is : IsPermutation new.rules (coming ++ old.rules)
+  pub ids_are : map id_of coming ≡ ids
+  pub rules_are : map item_of coming ≡ rules
+  pub items : new.items ≡ old.items
+  pub exits : new.exits ≡ old.exits
+
+-- some rules are there
+abbrev pub AreThere : List (Held Rule) → List Rule → Type 0
+AreThere held rules = (rest : List Rule) × IsPermutation (map item_of held) (rules ++ rest)
+
+-- rules of these ids are there, and all others are listed
+pub record AreUnlisted (g : GivenOf) (ids : List ℕ) : Type 0 where
+  pub coming : List (Held Rule)
+  pub kept : List (Held Rule)
+  pub all : IsPermutation g.rules (coming ++ kept)
+  pub ids_are : map id_of coming ≡ ids
+  pub listed : AreListed g kept

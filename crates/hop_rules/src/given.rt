@@ -1,0 +1,274 @@
+//! The rules of a virtual switch that were handed over, each under an id.
+ghost use Rattle.std.specs.Prelude.{◌≡◌, ◌++◌, ◌∷◌, [], IfOk, IfSome, OnOk, IsPermutation, IsSome, List, Some, false, map, true};
+ghost use Rattle.std.specs.List.Sorted.{IsStrictlySortedBy};
+ghost use Rattle.std.specs.Ordering.{nat_cmp};
+ghost use Rattle.match_index.specs.Items.{ids_of};
+ghost use Rattle.match_index.specs.Questions.{is_meeting};
+ghost use Rattle.std.specs.Option.{option_copied};
+ghost use Rattle.rule_ancestry.specs.Holding.{id_of, item_at};
+ghost use Rattle.policy_meaning.specs.declared.rule.Rule.{Rule};
+ghost use Rattle.hop_rules.specs.Standing.{over as over_of};
+ghost use Rattle.hop_rules.specs.InsideGiven.{AreListed, AreThere, AreUnlisted, Puts, Takes, TakesOne, asks_by, leaves_mark, mark_of, mixed as mixed_of};
+
+use crate::exits::Exit;
+use crate::listing::{hide_one, show};
+use crate::standing::{asked, over};
+use cv_io::{Duplicate, Leaf, List, Memory};
+use match_index::Index;
+use of10_match::Match;
+use policy_meaning::Rule;
+use rule_ancestry::{Filed, Store};
+use std::alloc::Global;
+use std::marker::Model;
+
+/// An odd number whose multiples have bits everywhere.
+const FACTOR: u64 = 0x9e37_79b9_7f4a_7c15;
+
+/// Another number in a mark.
+fn mixed(mark: u64, number: u64) -> u64
+    ensures { result ≡ mixed_of mark number }
+{
+    mark.wrapping_mul(FACTOR).wrapping_add(number)
+}
+
+/// A mark of leaves.
+fn mark_of_leaves(leaves: &[Leaf]) -> u64
+    ensures { result ≡ leaves_mark leaves.now 0 }
+{
+    let mut mark = 0;
+    for leaf in leaves {
+        mark = mixed(mixed(mark, u64::from(leaf.member)), leaf.kind);
+    }
+    mark
+}
+
+/// A number that tells most rules apart.
+fn mark(rule: &Rule) -> u64
+    ensures { result ≡ mark_of rule.now }
+{
+    let port = match rule.m.in_port {
+        None => 0,
+        Some(port) => 1 + u64::from(port),
+    };
+    mixed(mark_of_leaves(rule.ancestry.as_slice()), port)
+}
+
+/// A rule that is found by its mark.
+#[derive(Drop)]
+pub(crate) struct Marked {
+    rule: Rule,
+    marks: List<u64>,
+}
+
+impl Model for Marked {
+    ghost use Rattle.std.specs.Prelude.{◌≡◌, [], ◌∷◌};
+    ghost use Rattle.policy_meaning.specs.declared.rule.Rule.{Rule};
+    ghost use Rattle.hop_rules.specs.InsideGiven.{mark_of};
+
+    ghost Value = { Rule };
+
+    ghost view = { λ marked. marked.rule };
+
+    ghost invariant = { λ marked. marked.marks ≡ mark_of marked.rule ∷ [] };
+}
+
+impl Marked {
+    fn of(alloc: Global, rule: &Rule) -> Result<Marked, Memory>
+        ensures { IfOk result (λ marked. marked ≡ rule.now) }
+    {
+        Ok(Marked {
+            rule: rule.copy()?,
+            marks: List::from_slice(alloc, &[mark(rule)])?,
+        })
+    }
+}
+
+impl Duplicate for Marked {
+    fn copy(&self) -> Result<Marked, Memory> {
+        Ok(Marked {
+            rule: self.rule.copy()?,
+            marks: self.marks.copied()?,
+        })
+    }
+}
+
+impl Filed for Marked {
+    type Name = u64;
+
+    ghost borne = { λ rule. mark_of rule ∷ [] };
+
+    fn names(&self) -> &[u64] {
+        self.marks.as_slice()
+    }
+}
+
+/// The rules of a virtual switch that were handed over. Those that lead over a link are found by what
+/// they ask where it leads; the last come ones only once they are listed.
+#[derive(Drop)]
+pub(crate) struct Given {
+    alloc: Global,
+    exits: List<Exit>,
+    store: Store<Marked>,
+    index: Index,
+}
+
+impl Model for Given {
+    ghost use Rattle.hop_rules.specs.InsideGiven.{GivenOf};
+
+    ghost Value = { GivenOf };
+
+    ghost view = { λ g. record { exits = g.exits; rules = g.store; items = g.index.items } };
+}
+
+impl Given {
+    /// No rules of a virtual switch of these exits.
+    pub(crate) fn new(alloc: Global, exits: List<Exit>) -> Given
+        ensures { result ≡ record { exits = exits; rules = []; items = [] } }
+    {
+        Given {
+            alloc,
+            exits,
+            store: Store::new(alloc),
+            index: Index::new(alloc),
+        }
+    }
+
+    pub(crate) fn exits(&self) -> &[Exit]
+        ensures { result.now ≡ self.now.exits }
+    {
+        self.exits.as_slice()
+    }
+
+    /// The rule of an id. No two are held under one.
+    pub(crate) fn rule(&self, id: usize) -> Option<&Rule>
+        ensures rule { option_copied result ≡ item_at self.now.rules id }
+        ensures rising { IsStrictlySortedBy nat_cmp (map id_of self.now.rules) }
+    {
+        let _count = self.store.len();
+        match self.store.get(id) {
+            Some(marked) => Some(&marked.rule),
+            None => None,
+        }
+    }
+
+    /// Whether the rule of an id is this one.
+    fn is_at(&self, id: usize, rule: &Rule) -> bool
+        ensures yes { result ≡ true → item_at self.now.rules id ≡ Some rule.now }
+        ensures no { result ≡ false → item_at self.now.rules id ≡ Some rule.now → ⊥ }
+    {
+        match self.rule(id) {
+            Some(found) => *found == *rule,
+            None => false,
+        }
+    }
+
+    /// The id of a rule that is there.
+    fn find(&self, rule: &Rule) -> Result<Option<usize>, Memory>
+        ensures found { IfOk result (λ found. IfSome found (λ id. item_at self.now.rules id ≡ Some rule.now)) }
+        ensures there { AreThere self.now.rules (rule.now ∷ []) → IfOk result IsSome }
+    {
+        // That no two are held under one id.
+        let _count = self.store.len();
+        for id in self.store.descend(mark(rule))? {
+            if self.is_at(id, rule) {
+                return Ok(Some(id));
+            }
+        }
+        Ok(None)
+    }
+
+    /// Takes a rule out, and notes the id that it had. A rule that isn't there is answered as want of
+    /// memory.
+    fn take_one(&mut self, rule: &Rule, ids: &mut Vec<usize>) -> Result<(), Memory>
+        ensures { OnOk result (TakesOne self.old self.new ids.old.items ids.new.items rule.now) }
+    {
+        // That no two are held under one id.
+        let _count = self.store.len();
+        let Some(id) = self.find(rule)? else {
+            return Err(Memory);
+        };
+        ids.push(id)?;
+        hide_one(&mut self.index, id);
+        self.store.remove(id);
+        Ok(())
+    }
+
+    /// Takes rules out, and gives the ids that they had. Rules that aren't there are answered as want of
+    /// memory.
+    pub(crate) fn take(&mut self, gone: &[Rule]) -> Result<Vec<usize>, Memory>
+        ensures { IfOk result (λ ids. Takes self.old self.new ids.items gone.now) }
+    {
+        let mut ids = Vec::new(self.alloc);
+        for rule in gone {
+            self.take_one(rule, &mut ids)?;
+        }
+        Ok(ids)
+    }
+
+    /// Puts rules in, and gives their ids.
+    pub(crate) fn put(&mut self, come: &[Rule]) -> Result<Vec<usize>, Memory>
+        ensures { IfOk result (λ ids. Puts self.old self.new ids.items come.now) }
+    {
+        let mut ids = Vec::new(self.alloc);
+        for rule in come {
+            let id = self.store.add(Marked::of(self.alloc, rule)?)?;
+            ids.push(id)?;
+        }
+        Ok(ids)
+    }
+
+    /// What a rule of an id asks where its link leads, if it leads over one.
+    fn asked_at(&self, id: usize) -> Option<Match>
+        ensures { (rule : Rule) → item_at self.now.rules id ≡ Some rule → result ≡ asks_by rule (over_of self.now.exits rule.tail) }
+    {
+        let rule = self.rule(id)?;
+        let departure = over(self.exits.as_slice(), &rule.tail)?;
+        Some(asked(&rule.m, &departure))
+    }
+
+    /// Lists the rules of these ids, where all others are.
+    pub(crate) fn list(&mut self, ids: &[usize]) -> Result<(), Memory>
+        requires { AreUnlisted self.old ids.now }
+        ensures listed { OnOk result (AreListed self.new self.new.rules) }
+        ensures rules { self.new.rules ≡ self.old.rules }
+        ensures exits { self.new.exits ≡ self.old.exits }
+    {
+        // That no two are held under one id.
+        let _count = self.store.len();
+        for id in ids {
+            let asked = self.asked_at(*id);
+            show(&mut self.index, *id, asked)?;
+        }
+        Ok(())
+    }
+
+    /// The ids of the listed rules that ask, where their links lead, something that overlaps.
+    pub(crate) fn meeting(&self, m: &Match) -> Result<Vec<usize>, Memory>
+        ensures { IfOk result (λ ids. IsPermutation ids.items (ids_of (is_meeting m.now) self.now.items)) }
+    {
+        let found = self.index.meeting(m)?;
+        numbers(self.alloc, found.as_slice())
+    }
+}
+
+/// Ids as an index has them.
+pub(crate) fn numbers(alloc: Global, ids: &[u64]) -> Result<Vec<usize>, Memory>
+    ensures { IfOk result (λ numbers. numbers.items ≡ ids.now) }
+{
+    let mut numbers = Vec::with_capacity(alloc, ids.len())?;
+    for id in ids {
+        numbers.push(*id as usize)?;
+    }
+    Ok(numbers)
+}
+
+impl Duplicate for Given {
+    fn copy(&self) -> Result<Given, Memory> {
+        Ok(Given {
+            alloc: self.alloc,
+            exits: self.exits.copied()?,
+            store: self.store.copy()?,
+            index: self.index.copy()?,
+        })
+    }
+}
