@@ -12,7 +12,7 @@ use Rattle.policy_meaning.specs.Hops.{hop_rule}
 use Rattle.policy_meaning.specs.declared.rule.Rule.{Rule}
 use Rattle.made_rules.specs.Rules.{rule_of, rules_in}
 use Rattle.made_rules.specs.declared.made.Made.{Made}
-use Rattle.hop_rules.specs.InsideNodes.{Arrival, NodeOf, Once, arrivals, arrive, arriving, held_at, leads_there, made_of_pair, pair_by}
+use Rattle.hop_rules.specs.Nodes.{Arrival, NodeOf, Once, arrivals, arrive, arriving, held_at, leads_there, made_of_pair, pair_by}
 use Rattle.hop_rules.specs.Standing.{departing, exit_of, leads_back, leaving, over}
 use Rattle.hop_rules.specs.declared.exits.Exit.{Exit}
 use Rattle.hop_rules.specs.declared.standing.Departure.{Departure}

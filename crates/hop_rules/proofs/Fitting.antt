@@ -18,7 +18,7 @@ use Rattle.policy_meaning.proofs.Lists.{all-filter_map, all-flat_map, all-map}
 use Rattle.policy_meaning.proofs.Meeting.{some_met, some_pulled}
 use Rattle.policy_meaning.proofs.Normality.{normal-at_port, normal-everything, normal-without_port}
 use Rattle.policy_meaning.proofs.Peers.{leading, peer-size, positive}
-use Rattle.hop_rules.specs.InsideNodes.{IsAt, IsOwn}
+use Rattle.hop_rules.specs.Nodes.{IsAt, IsOwn}
 use Rattle.hop_rules.proofs.Names.{is-same, itself}
 
 turned-same : (p q : ℕ) → (p == q) ≡ true → (q == p) ≡ true

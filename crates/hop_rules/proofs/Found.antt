@@ -1,6 +1,7 @@
 -- The ids of rules that an index finds.
 use Rattle.std.proofs.Common.{◌≡◌, ℕ, Bool, true, false, List, [], ◌∷◌, Option, Some, None, refl, ap, sym, ◌∙◌, map, cond}
 use Rattle.std.specs.Prelude.{IsPermutation, filter, filter_map, option_map}
+use Rattle.std.specs.List.{cons_option}
 use Rattle.std.proofs.lemmas.List.Sorted.{IsPermutation-map, IsPermutation-trans}
 use Rattle.list_change.proofs.Kept.{permuted-filter}
 use Rattle.list_change.proofs.Permute.{by-equation}
@@ -14,32 +15,44 @@ use Rattle.rule_ancestry.specs.Holding.{Held, id_of, item_at}
 use Rattle.made_rules.specs.Rules.{rule_of, rules_in}
 use Rattle.made_rules.specs.declared.made.Made.{Made}
 use Rattle.hop_rules.proofs.HeldRules.{rule-at}
-use Rattle.hop_rules.specs.InsideListing.{IsNumbered, item_for}
-use Rattle.hop_rules.specs.InsideNodes.{found}
+use Rattle.hop_rules.specs.Items.{IsNumbered, item_for}
+use Rattle.hop_rules.specs.Nodes.{found}
 
 -- each is found under its id
 pub found-numbered : IsNumbered found
 found-numbered h e s = let z : item_for h.id h.item.m ≡ e = cc in ap (λ (i : Item). i.id) (sym z)
 
-module _ (m : MatchOf) where
-  -- the rules that overlap
-  abbrev pub meets : Held Rule → Bool
-  meets h = overlaps m h.item.m
+-- an index finds rules, each by a match of it, if there is one
+abbrev pub meets_by : MatchOf → Option MatchOf → Bool
+meets_by m None = false
+meets_by m (Some n) = overlaps m n
 
-  ids-cond : (h : Held Rule) (rest : List Item) (more : List (Held Rule)) (t : Bool) → map (λ (e : Item). e.id) rest ≡ map id_of more →
-      map (λ (e : Item). e.id) (cond t (item_for h.id h.item.m ∷ rest) rest) ≡ map id_of (cond t (h ∷ more) more)
-  ids-cond h rest more true e = ap (λ z. h.id ∷ z) e
-  ids-cond h rest more false e = e
+module _ (by : Held Rule → Option MatchOf) (m : MatchOf) where
+  shown-one : (h : Held Rule) (o : Option MatchOf) (items : List Item) (more : List (Held Rule)) → ids_of (is_meeting m) items ≡ map id_of more →
+      ids_of (is_meeting m) (cons_option (option_map (item_for h.id) o) items) ≡ map id_of (cond (meets_by m o) (h ∷ more) more)
+  shown-one h None items more e = e
+  shown-one h (Some n) items more e = at (overlaps m n)
+    where
+      at : (t : Bool) → map (λ (i : Item). i.id) (cond t (item_for h.id n ∷ filter (is_meeting m) items) (filter (is_meeting m) items)) ≡ map id_of (cond t (h ∷ more) more)
+      at true = ap (λ z. h.id ∷ z) e
+      at false = e
 
-  ids-found : (hs : List (Held Rule)) → ids_of (is_meeting m) (filter_map found hs) ≡ map id_of (filter meets hs)
-  ids-found [] = refl
-  ids-found (h ∷ hs) = ids-cond h (filter (is_meeting m) (filter_map found hs)) (filter meets hs) (meets h) (ids-found hs)
+  shown-ids : (hs : List (Held Rule)) → ids_of (is_meeting m) (filter_map (λ h. option_map (item_for h.id) (by h)) hs) ≡ map id_of (filter (λ h. meets_by m (by h)) hs)
+  shown-ids [] = refl
+  shown-ids (h ∷ hs) = shown-one h (by h) (filter_map (λ h. option_map (item_for h.id) (by h)) hs) (filter (λ h. meets_by m (by h)) hs) (shown-ids hs)
 
-  pub found-ids : (items : List Item) (hs : List (Held Rule)) → IsPermutation items (filter_map found hs) → IsPermutation (ids_of (is_meeting m) items) (map id_of (filter meets hs))
-  found-ids items hs h =
-      IsPermutation-trans _ (ids_of (is_meeting m) (filter_map found hs)) _
-      (IsPermutation-map (λ (e : Item). e.id) _ _ (permuted-filter (is_meeting m) items (filter_map found hs) h))
-      (by-equation _ _ (ids-found hs))
+  pub found-by : (items : List Item) (hs : List (Held Rule)) → IsPermutation items (filter_map (λ h. option_map (item_for h.id) (by h)) hs) → IsPermutation (ids_of (is_meeting m) items) (map id_of (filter (λ h. meets_by m (by h)) hs))
+  found-by items hs h =
+      IsPermutation-trans _ (ids_of (is_meeting m) (filter_map (λ h. option_map (item_for h.id) (by h)) hs)) _
+      (IsPermutation-map (λ (e : Item). e.id) _ _ (permuted-filter (is_meeting m) items _ h))
+      (by-equation _ _ (shown-ids hs))
+
+-- the rules that overlap
+abbrev pub meets : MatchOf → Held Rule → Bool
+meets m h = overlaps m h.item.m
+
+pub found-ids : (m : MatchOf) (items : List Item) (hs : List (Held Rule)) → IsPermutation items (filter_map found hs) → IsPermutation (ids_of (is_meeting m) items) (map id_of (filter (meets m) hs))
+found-ids m items hs h = found-by (λ (h : Held Rule). Some h.item.m) m items hs h
 
 mapped-twice : (o : Option Made) → option_map (λ (m : Made). m.rule.m) o ≡ option_map (λ (r : Rule). r.m) (option_map rule_of o)
 mapped-twice None = refl

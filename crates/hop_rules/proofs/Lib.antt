@@ -5,6 +5,7 @@ pub mod Arriving
 pub mod Scratch
 pub mod Making
 pub mod Fitting
+pub mod Under
 pub mod Walking
 pub mod Candidates
 pub mod Numbered
@@ -17,3 +18,6 @@ pub mod Nth
 pub mod Showing
 pub mod Listing
 pub mod Single
+pub mod Changing
+pub mod Joined
+pub mod Met

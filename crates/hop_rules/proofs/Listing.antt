@@ -3,8 +3,8 @@ use Rattle.std.proofs.Common.{◌≡◌, ℕ, List, Option, Some, None, ap, sym}
 use Rattle.std.specs.Prelude.{option_map}
 use Rattle.of10_match.specs.Fields.{MatchOf}
 use Rattle.match_index.specs.declared.item.Item.{Item}
-use Rattle.hop_rules.specs.InsideGiven.{asks_by, listed}
-use Rattle.hop_rules.specs.InsideListing.{IsNumbered, item_for}
+use Rattle.hop_rules.specs.Handed.{asks_by, listed}
+use Rattle.hop_rules.specs.Items.{IsNumbered, item_for}
 use Rattle.hop_rules.specs.Standing.{over}
 use Rattle.hop_rules.specs.declared.exits.Exit.{Exit}
 

@@ -24,7 +24,7 @@ use Rattle.policy_meaning.proofs.Normality.{normal-at_port}
 use Rattle.rule_ancestry.specs.Holding.{Held, id_of, item_at}
 use Rattle.made_rules.specs.Rules.{rules_in}
 use Rattle.made_rules.specs.declared.made.Made.{Made}
-use Rattle.hop_rules.specs.InsideNodes.{Arrival, IsAt, IsOwn, NodeOf, Once, arrivals, arrive, held_at, hop_way, leads_there, lone_by, made_alone, made_of_pair, pair_by}
+use Rattle.hop_rules.specs.Nodes.{Arrival, IsAt, IsOwn, NodeOf, Once, arrivals, arrive, held_at, hop_way, leads_there, lone_by, made_alone, made_of_pair, pair_by}
 use Rattle.hop_rules.specs.Standing.{asked, departing, exit_of, leaving, over, standing}
 use Rattle.hop_rules.specs.declared.exits.Exit.{Exit}
 use Rattle.hop_rules.specs.declared.standing.Departure.{Departure}

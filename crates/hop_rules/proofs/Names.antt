@@ -18,7 +18,8 @@ use Rattle.policy_meaning.specs.declared.rule.Rule.{Rule}
 use Rattle.made_rules.specs.Rules.{is_made_of, is_one_of, same_origin}
 use Rattle.made_rules.specs.declared.made.Made.{Made}
 use Rattle.made_rules.specs.declared.made.Origin.{Origin}
-use Rattle.hop_rules.specs.InsideNodes.{Arrival, arrived, gone_at, hop_way, leads_there, lone_by, lost_there, made_alone, made_of_pair, own, pair_by}
+use Rattle.hop_rules.specs.Nodes.{Arrival, arrived, hop_way, leads_there, lone_by, made_alone, made_of_pair, own, pair_by}
+use Rattle.hop_rules.specs.Turns.{gone_at, lost_there}
 use Rattle.hop_rules.specs.Standing.{departing, exit_of, leads_back, leaving, over, standing}
 use Rattle.hop_rules.specs.declared.exits.Exit.{Exit}
 use Rattle.hop_rules.specs.declared.node.Turn.{Turn}

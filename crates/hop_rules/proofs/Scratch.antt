@@ -14,7 +14,7 @@ use Rattle.of10_actions.specs.Fields.{RewriteOf}
 use Rattle.of10_actions.specs.declared.effects.Tail.{Tail}
 use Rattle.of10_actions.specs.declared.effects.Tail.TheVariants.{Nothing, Pass, Link}
 use Rattle.rule_ancestry.specs.Holding.{Held, item_of}
-use Rattle.policy_meaning.specs.Hops.{at_node, hop_lone, hop_rule, hops_on, leads, peer_of}
+use Rattle.policy_meaning.specs.Hops.{Fabric, at_node, hop_lone, hop_rule, hop_size, hops_on, leads, node, peer_of, peers_size}
 use Rattle.policy_meaning.specs.LeafRules.{rule_met}
 use Rattle.policy_meaning.specs.declared.network.Link.{Link as LinkOf}
 use Rattle.policy_meaning.specs.declared.network.Onward.{Onward}
@@ -22,7 +22,7 @@ use Rattle.policy_meaning.specs.declared.network.Place.{Place}
 use Rattle.policy_meaning.specs.declared.rule.Rule.{Rule}
 use Rattle.made_rules.specs.Rules.{rule_of, rules_in}
 use Rattle.made_rules.specs.declared.made.Made.{Made}
-use Rattle.hop_rules.specs.InsideNodes.{Arrival, NodeOf, Once, arrivals, arriving, held_at, hop_way, leads_there, lone_by, made_of_pair, pair_by}
+use Rattle.hop_rules.specs.Nodes.{Arrival, IsMadeOf, IsOf, NodeOf, Once, arrivals, arriving, held_at, hop_way, leads_there, lone_by, made_of_pair, pair_by}
 use Rattle.hop_rules.proofs.Arriving.{here, leaving-all, one-arrival}
 use Rattle.hop_rules.proofs.Names.{itself, leaving-there}
 use Rattle.hop_rules.proofs.Lists.{flat-permuted}
@@ -144,3 +144,16 @@ module _ (at : Place) (size : ℕ) (exits : List Exit) (below : List NodeOf) (th
       (IsPermutation-trans _ (flat_map (λ (h : Held Rule). map rule_of (by_one w ys h)) rules) _ (by-equation _ _ (map-flat rule_of (by_one w ys) rules))
       (IsPermutation-trans _ (flat_map (λ (h : Held Rule). opt_flat F (G h.item)) rules) _ (flat-permuted (λ (h : Held Rule). map rule_of (by_one w ys h)) (λ (h : Held Rule). opt_flat F (G h.item)) (λ h. stood-made h.id (G h.item)) rules)
       (by-equation _ _ (sym (flat-filter F G (map item_of rules) ∙ flat-mapped item_of (λ a. opt_flat F (G a)) rules))))))
+
+-- the rules of a node from scratch, for one hop more
+pub from-scratch : (f : Fabric) (n : ℕ) (at : Place) (exits : List Exit) (rules : List (Held Rule)) (below : List NodeOf) (held : List (Held Made)) → map exit_link exits ≡ f.links at.v → Once (map (λ (e : Exit). e.place) exits) →
+    IsPermutation (map item_of rules) (f.rules at.v) → AllByRecursion (IsOf f n below) exits → IsMadeOf at (peers_size (hop_size f n) (f.links at.v)) exits rules below held →
+    IsPermutation (map rule_of (map item_of held)) (node f (suc n) at.v at.port)
+from-scratch f n at exits rules below held links once given nodes whole =
+    let size = peers_size (hop_size f n) (f.links at.v) in
+    let F = λ (l : List LinkOf) (a : Rule). hops_on (leads a.tail l at.port) (node f n) size (at_node at.v at.port a) in
+    let G = λ (a : Rule). rule_met a (at_port at.port) in
+    IsPermutation-trans _ _ _ (IsPermutation-map rule_of _ _ whole)
+    (IsPermutation-trans _ _ _ (made-scratch at size exits below (node f n) once nodes rules)
+    (IsPermutation-trans _ _ _ (by-equation _ _ (ap (λ l. flat_map (F l) (filter_map G (map item_of rules))) links))
+    (permuted-flat_map (F (f.links at.v)) _ _ (permuted-filter_map G _ _ given))))

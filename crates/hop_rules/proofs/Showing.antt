@@ -10,7 +10,7 @@ use Rattle.match_index.specs.declared.item.Item.{Item}
 use Rattle.policy_meaning.specs.declared.rule.Rule.{Rule}
 use Rattle.rule_ancestry.specs.Holding.{Held, id_of, item_at}
 use Rattle.made_rules.proofs.Ids.{Rising, item-there}
-use Rattle.hop_rules.specs.InsideListing.{IsNumbered}
+use Rattle.hop_rules.specs.Items.{IsNumbered}
 use Rattle.hop_rules.proofs.Nth.{id-at, nth}
 use Rattle.hop_rules.proofs.Shown.{next-first, next-hidden, next-shown}
 

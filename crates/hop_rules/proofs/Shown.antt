@@ -16,7 +16,7 @@ use Rattle.rule_ancestry.specs.Holding.{Held, id_of, is_other}
 use Rattle.made_rules.proofs.Ids.{Rising, one-each}
 use Rattle.rule_ancestry.proofs.StoreLemmas.{eq-same, eq-other}
 use Rattle.std.proofs.lemmas.Bool.{cases_eq}
-use Rattle.hop_rules.specs.InsideListing.{IsNumbered, item_for}
+use Rattle.hop_rules.specs.Items.{IsNumbered, item_for}
 use Rattle.hop_rules.proofs.Names.{is-same}
 use Rattle.hop_rules.proofs.Numbered.{one-kept}
 

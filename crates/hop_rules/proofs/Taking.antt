@@ -16,7 +16,7 @@ use Rattle.rule_ancestry.proofs.Lists.{found-all}
 use Rattle.rule_ancestry.proofs.StoreLemmas.{eq-other, eq-same}
 use Rattle.rule_ancestry.specs.Names.{bears}
 use Rattle.made_rules.proofs.Ids.{Rising}
-use Rattle.hop_rules.specs.InsideGiven.{AreThere, mark_of}
+use Rattle.hop_rules.specs.Handed.{AreThere, mark_of}
 use Rattle.hop_rules.proofs.Names.{is-same}
 
 -- ---- it leaves

@@ -1,6 +1,7 @@
 pub mod Links
 pub mod Standing
-pub mod InsideListing
-pub mod InsideGiven
-pub mod InsideNodes
-pub mod Tables
+pub mod Under
+pub mod Items
+pub mod Handed
+pub mod Nodes
+pub mod Turns

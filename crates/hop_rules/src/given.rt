@@ -1,14 +1,13 @@
 //! The rules of a virtual switch that were handed over, each under an id.
-ghost use Rattle.std.specs.Prelude.{◌≡◌, ◌++◌, ◌∷◌, [], IfOk, IfSome, OnOk, IsPermutation, IsSome, List, Some, false, map, true};
-ghost use Rattle.std.specs.List.Sorted.{IsStrictlySortedBy};
-ghost use Rattle.std.specs.Ordering.{nat_cmp};
+ghost use Rattle.std.specs.Prelude.{◌≡◌, ◌≤◌, ◌++◌, ◌∷◌, [], IfOk, IfSome, OnErr, OnOk, IsPermutation, IsSome, List, Some, false, filter_map, length, map, true};
 ghost use Rattle.match_index.specs.Items.{ids_of};
 ghost use Rattle.match_index.specs.Questions.{is_meeting};
 ghost use Rattle.std.specs.Option.{option_copied};
-ghost use Rattle.rule_ancestry.specs.Holding.{id_of, item_at};
+ghost use Rattle.rule_ancestry.specs.Holding.{item_at};
 ghost use Rattle.policy_meaning.specs.declared.rule.Rule.{Rule};
 ghost use Rattle.hop_rules.specs.Standing.{over as over_of};
-ghost use Rattle.hop_rules.specs.InsideGiven.{AreListed, AreThere, AreUnlisted, Puts, Takes, TakesOne, asks_by, leaves_mark, mark_of, mixed as mixed_of};
+ghost use Rattle.hop_rules.specs.Handed.{AreListed, AreThere, AreUnlisted, Puts, Takes, TakesOne, asks_by, leaves_mark, listed, mark_of, mixed as mixed_of};
+ghost use Rattle.hop_rules.specs.Under.{Rises};
 
 use crate::exits::Exit;
 use crate::listing::{hide_one, show};
@@ -63,7 +62,7 @@ pub(crate) struct Marked {
 impl Model for Marked {
     ghost use Rattle.std.specs.Prelude.{◌≡◌, [], ◌∷◌};
     ghost use Rattle.policy_meaning.specs.declared.rule.Rule.{Rule};
-    ghost use Rattle.hop_rules.specs.InsideGiven.{mark_of};
+    ghost use Rattle.hop_rules.specs.Handed.{mark_of};
 
     ghost Value = { Rule };
 
@@ -102,10 +101,32 @@ impl Filed for Marked {
     }
 }
 
+/// What a rule of an id asks where its link leads, if it leads over one.
+fn asked_at(store: &Store<Marked>, exits: &[Exit], id: usize) -> Option<Match>
+    ensures { (rule : Rule) → item_at store.now id ≡ Some rule → result ≡ asks_by rule (over_of exits.now rule.tail) }
+{
+    let marked = store.get(id)?;
+    let departure = over(exits, &marked.rule.tail)?;
+    Some(asked(&marked.rule.m, &departure))
+}
+
+/// Lists the rules of these ids, where all others are. This takes no memory.
+fn list_all(index: &mut Index, store: &Store<Marked>, exits: &[Exit], ids: &[usize])
+    requires room { length ids.now ≤ index.old.room }
+    requires unlisted { AreUnlisted (record { exits = exits.now; rules = store.now; items = index.old.items }) ids.now }
+    ensures { IsPermutation index.new.items (filter_map (listed exits.now) store.now) }
+{
+    // That no two are held under one id.
+    let _count = store.len();
+    for id in ids {
+        show(index, *id, asked_at(store, exits, *id));
+    }
+}
+
 /// The rules of a virtual switch that were handed over. Those that lead over a link are found by what
 /// they ask where it leads; the last come ones only once they are listed.
 #[derive(Drop)]
-pub(crate) struct Given {
+pub struct Given {
     alloc: Global,
     exits: List<Exit>,
     store: Store<Marked>,
@@ -113,7 +134,7 @@ pub(crate) struct Given {
 }
 
 impl Model for Given {
-    ghost use Rattle.hop_rules.specs.InsideGiven.{GivenOf};
+    ghost use Rattle.hop_rules.specs.Handed.{GivenOf};
 
     ghost Value = { GivenOf };
 
@@ -122,7 +143,7 @@ impl Model for Given {
 
 impl Given {
     /// No rules of a virtual switch of these exits.
-    pub(crate) fn new(alloc: Global, exits: List<Exit>) -> Given
+    pub fn new(alloc: Global, exits: List<Exit>) -> Given
         ensures { result ≡ record { exits = exits; rules = []; items = [] } }
     {
         Given {
@@ -133,16 +154,16 @@ impl Given {
         }
     }
 
-    pub(crate) fn exits(&self) -> &[Exit]
+    pub fn exits(&self) -> &[Exit]
         ensures { result.now ≡ self.now.exits }
     {
         self.exits.as_slice()
     }
 
     /// The rule of an id. No two are held under one.
-    pub(crate) fn rule(&self, id: usize) -> Option<&Rule>
+    pub fn rule(&self, id: usize) -> Option<&Rule>
         ensures rule { option_copied result ≡ item_at self.now.rules id }
-        ensures rising { IsStrictlySortedBy nat_cmp (map id_of self.now.rules) }
+        ensures rising { Rises self.now.rules }
     {
         let _count = self.store.len();
         match self.store.get(id) {
@@ -194,8 +215,8 @@ impl Given {
     }
 
     /// Takes rules out, and gives the ids that they had. Rules that aren't there are answered as want of
-    /// memory.
-    pub(crate) fn take(&mut self, gone: &[Rule]) -> Result<Vec<usize>, Memory>
+    /// memory, which leaves rules that are to be made anew.
+    pub fn take(&mut self, gone: &[Rule]) -> Result<Vec<usize>, Memory>
         ensures { IfOk result (λ ids. Takes self.old self.new ids.items gone.now) }
     {
         let mut ids = Vec::new(self.alloc);
@@ -205,8 +226,8 @@ impl Given {
         Ok(ids)
     }
 
-    /// Puts rules in, and gives their ids.
-    pub(crate) fn put(&mut self, come: &[Rule]) -> Result<Vec<usize>, Memory>
+    /// Puts rules in, and gives their ids. Want of memory leaves rules that are to be made anew.
+    pub fn put(&mut self, come: &[Rule]) -> Result<Vec<usize>, Memory>
         ensures { IfOk result (λ ids. Puts self.old self.new ids.items come.now) }
     {
         let mut ids = Vec::new(self.alloc);
@@ -217,33 +238,21 @@ impl Given {
         Ok(ids)
     }
 
-    /// What a rule of an id asks where its link leads, if it leads over one.
-    fn asked_at(&self, id: usize) -> Option<Match>
-        ensures { (rule : Rule) → item_at self.now.rules id ≡ Some rule → result ≡ asks_by rule (over_of self.now.exits rule.tail) }
-    {
-        let rule = self.rule(id)?;
-        let departure = over(self.exits.as_slice(), &rule.tail)?;
-        Some(asked(&rule.m, &departure))
-    }
-
     /// Lists the rules of these ids, where all others are.
-    pub(crate) fn list(&mut self, ids: &[usize]) -> Result<(), Memory>
+    pub fn list(&mut self, ids: &[usize]) -> Result<(), Memory>
         requires { AreUnlisted self.old ids.now }
         ensures listed { OnOk result (AreListed self.new self.new.rules) }
         ensures rules { self.new.rules ≡ self.old.rules }
         ensures exits { self.new.exits ≡ self.old.exits }
+        ensures memory { OnErr result (self.new ≡ self.old) }
     {
-        // That no two are held under one id.
-        let _count = self.store.len();
-        for id in ids {
-            let asked = self.asked_at(*id);
-            show(&mut self.index, *id, asked)?;
-        }
+        self.index.reserve(ids.len())?;
+        list_all(&mut self.index, &self.store, self.exits.as_slice(), ids);
         Ok(())
     }
 
     /// The ids of the listed rules that ask, where their links lead, something that overlaps.
-    pub(crate) fn meeting(&self, m: &Match) -> Result<Vec<usize>, Memory>
+    pub fn meeting(&self, m: &Match) -> Result<Vec<usize>, Memory>
         ensures { IfOk result (λ ids. IsPermutation ids.items (ids_of (is_meeting m.now) self.now.items)) }
     {
         let found = self.index.meeting(m)?;
@@ -252,7 +261,7 @@ impl Given {
 }
 
 /// Ids as an index has them.
-pub(crate) fn numbers(alloc: Global, ids: &[u64]) -> Result<Vec<usize>, Memory>
+pub fn numbers(alloc: Global, ids: &[u64]) -> Result<Vec<usize>, Memory>
     ensures { IfOk result (λ numbers. numbers.items ≡ ids.now) }
 {
     let mut numbers = Vec::with_capacity(alloc, ids.len())?;

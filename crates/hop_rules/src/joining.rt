@@ -1,18 +1,21 @@
 //! What rules make at the node of a port.
-ghost use Rattle.std.specs.Prelude.{◌≡◌, ◌+◌, ◌*◌, ◌≤◌, ◌<◌, ◌^◌, ◌++◌, ◌∷◌, [], IfOk, OnOk, Some, IsPermutation, List, ℕ, option_map, option_to_list, filter_map, length, true};
-ghost use Rattle.std.specs.List.{AllByRecursion, count_by};
+ghost use Rattle.std.specs.Prelude.{◌≡◌, ◌+◌, ◌*◌, ◌≤◌, ◌<◌, ◌^◌, ◌++◌, ◌∷◌, [], OnOk, Some, IsPermutation, List, ℕ, count_by, filter_map, length, option_map, option_to_list, true};
+ghost use Rattle.std.specs.List.{AllByRecursion};
 ghost use Rattle.alg_priority.specs.Levels.{concat_level};
 ghost use Rattle.of10_match.specs.Matching.{overlaps};
 ghost use Rattle.op_compose.specs.Composition.{Joins, joined};
 ghost use Rattle.op_compose.specs.declared.op.Op.TheVariants.{Hop};
 ghost use Rattle.policy_meaning.specs.Hops.{hop_lone};
 ghost use Rattle.policy_meaning.specs.declared.rule.Rule.{Rule};
-ghost use Rattle.rule_ancestry.specs.Holding.{Held, item_at};
-ghost use Rattle.list_change.specs.Pairing.{by_one, by_right};
+ghost use Rattle.rule_ancestry.specs.Holding.{Held};
+ghost use Rattle.list_change.specs.Pairing.{by_one};
 ghost use Rattle.made_rules.specs.Rules.{rules_in};
-ghost use Rattle.hop_rules.specs.InsideGiven.{AreListed};
-ghost use Rattle.hop_rules.specs.InsideNodes.{IsAt, IsOwn, IsSetUp, leads_there, leads_to as leads_to_of, held_at, arrive, arrivals, arrived as arrived_of, could, hop_way, made_alone, made_of_pair, own as own_of, pair_by};
+ghost use Rattle.hop_rules.specs.Handed.{AreListed};
+ghost use Rattle.hop_rules.specs.Nodes.{CanMake, IsAt, IsOwn, IsSetUp, arrivals, arrived as arrived_of, could, held_at, hop_way};
+ghost use Rattle.hop_rules.specs.Nodes.{leads_over, leads_to as leads_to_of, made_alone, made_left, made_of_pair, own as own_of, pair_with};
 ghost use Rattle.hop_rules.specs.Standing.{asked as asked_of, leaving as leaving_of};
+ghost use Rattle.hop_rules.specs.Turns.{left_cost};
+ghost use Rattle.hop_rules.specs.Under.{held_under, under};
 ghost use Rattle.hop_rules.specs.declared.exits.Exit.{Exit};
 
 use crate::given::Given;
@@ -26,7 +29,7 @@ use std::alloc::Global;
 use std::sync::ledger::Ledger;
 
 /// The name, among what a rule is made of, of a rule of the virtual switch: a leaf of its nodes.
-pub(crate) fn own(id: usize) -> Origin
+pub fn own(id: usize) -> Origin
     ensures { result ≡ own_of id }
 {
     Origin::Leaf(Leaf {
@@ -36,7 +39,7 @@ pub(crate) fn own(id: usize) -> Origin
 }
 
 /// The name of a rule to which the link of a place leads.
-pub(crate) fn arrived(place: u32, id: usize) -> Origin
+pub fn arrived(place: u32, id: usize) -> Origin
     ensures { result ≡ arrived_of place id }
 {
     Origin::Rule { operand: place, id }
@@ -44,19 +47,19 @@ pub(crate) fn arrived(place: u32, id: usize) -> Origin
 
 /// A rule and its id.
 #[derive(Clone, Copy)]
-pub(crate) struct Numbered<'a> {
-    pub(crate) id: usize,
-    pub(crate) rule: &'a Rule,
+pub struct Numbered<'a> {
+    pub id: usize,
+    pub rule: &'a Rule,
 }
 
 /// What a node makes rules of: the rules of the virtual switch, and those of the nodes to which links
 /// lead, which have `size` levels.
 #[derive(Clone, Copy)]
-pub(crate) struct Around<'a> {
-    pub(crate) at: Place,
-    pub(crate) size: u64,
-    pub(crate) given: &'a Given,
-    pub(crate) below: &'a [Node],
+pub struct Around<'a> {
+    pub at: Place,
+    pub size: u64,
+    pub given: &'a Given,
+    pub below: &'a [Node],
 }
 
 /// Appends the rule that a rule which stands at the node makes alone. This is one step.
@@ -79,7 +82,7 @@ fn add_alone<'a, G: Ledger>(
 
 /// Appends the rule, if there is one, that a rule which stands at the node makes with one to which the
 /// link of a place leads. This is one step.
-fn add_pair<'a, G: Ledger>(
+pub fn add_pair<'a, G: Ledger>(
     alloc: Global,
     size: u64,
     here: Numbered<'a>,
@@ -100,6 +103,55 @@ fn add_pair<'a, G: Ledger>(
     Ok(())
 }
 
+/// Appends what a rule which stands at the node makes with the one of an id where its link leads.
+fn add_pair_at<'a, G: Ledger>(
+    alloc: Global,
+    size: u64,
+    here: Numbered<'a>,
+    departure: &Departure,
+    there: &Node,
+    id: usize,
+    fresh: &mut Vec<Made>,
+    steps: &mut Steps<G>,
+) -> Result<(), Memory>
+    requires leaving { (exits : List Exit) × (port : ℕ) × (leaving_of exits port here.rule.now.tail ≡ Some departure.now) }
+    requires arriving { AllByRecursion (λ (b : Held Rule). IsAt size departure.now.exit.peer.port b.item) (rules_in there.now.held) }
+    requires own { (own : ℕ) × IsOwn own here.rule.now × (own * size < 2 ^ 64) }
+    ensures pushed { OnOk result (fresh.new.items ≡ fresh.old.items ++ filter_map (pair_with size here.entry.id here.entry.rule.now departure.now) (held_under (rules_in there.now.held) id)) }
+    ensures steps { steps.new ≤ steps.old + 1 }
+{
+    match there.rule(id) {
+        Some(rule) => {
+            let there = Numbered { id, rule };
+            add_pair(alloc, size, here, departure.exit.place, there, fresh, steps)
+        }
+        None => Ok(()),
+    }
+}
+
+/// Appends what a rule which stands at the node makes with those of these ids where its link leads.
+fn add_each_pair<'a, G: Ledger>(
+    alloc: Global,
+    size: u64,
+    here: Numbered<'a>,
+    departure: &Departure,
+    there: &Node,
+    ids: &[usize],
+    fresh: &mut Vec<Made>,
+    steps: &mut Steps<G>,
+) -> Result<(), Memory>
+    requires leaving { (exits : List Exit) × (port : ℕ) × (leaving_of exits port here.rule.now.tail ≡ Some departure.now) }
+    requires arriving { AllByRecursion (λ (b : Held Rule). IsAt size departure.now.exit.peer.port b.item) (rules_in there.now.held) }
+    requires own { (own : ℕ) × IsOwn own here.rule.now × (own * size < 2 ^ 64) }
+    ensures pushed { OnOk result (fresh.new.items ≡ fresh.old.items ++ filter_map (pair_with size here.entry.id here.entry.rule.now departure.now) (under (rules_in there.now.held) ids.now)) }
+    ensures steps { OnOk result (steps.new ≤ steps.old + length ids.now) }
+{
+    for id in ids {
+        add_pair_at(alloc, size, here, departure, there, *id, fresh, steps)?;
+    }
+    Ok(())
+}
+
 /// Appends what a rule which stands at the node makes with those that it could meet where its link
 /// leads.
 fn add_pairs<'a, G: Ledger>(
@@ -115,73 +167,45 @@ fn add_pairs<'a, G: Ledger>(
     requires read { there.now.read ≡ true }
     requires arriving { AllByRecursion (λ (b : Held Rule). IsAt size departure.now.exit.peer.port b.item) (rules_in there.now.held) }
     requires own { (own : ℕ) × IsOwn own here.rule.now × (own * size < 2 ^ 64) }
-    ensures pushed { OnOk result (IsPermutation fresh.new.items (fresh.old.items ++ filter_map (λ y. pair_by size here.entry.id here.entry.rule.now y (Some departure.now)) (arrive departure.now.exit.place there.now.held))) }
-    ensures steps { steps.new ≤ steps.old + count_by (λ (b : Held Rule). overlaps (asked_of here.entry.rule.now.m departure.now) b.item.m) (rules_in there.now.held) }
+    ensures pushed { OnOk result (IsPermutation fresh.new.items (fresh.old.items ++ filter_map (pair_with size here.entry.id here.entry.rule.now departure.now) (rules_in there.now.held))) }
+    ensures steps { OnOk result (steps.new ≤ steps.old + count_by (λ (b : Held Rule). overlaps (asked_of here.entry.rule.now.m departure.now) b.item.m) (rules_in there.now.held)) }
 {
-    for id in there.meeting(&asked(&here.rule.m, departure))? {
-        if let Some(rule) = there.rule(id) {
-            let there = Numbered { id, rule };
-            add_pair(alloc, size, here, departure.exit.place, there, fresh, steps)?;
-        }
-    }
-    Ok(())
+    let ids = there.meeting(&asked(&here.rule.m, departure))?;
+    add_each_pair(alloc, size, here, departure, there, &ids, fresh, steps)
 }
 
-/// Appends what a rule of the virtual switch makes.
-pub(crate) fn add_by_left<'a, G: Ledger>(
-    alloc: Global,
-    around: Around<'a>,
-    id: usize,
-    fresh: &mut Vec<Made>,
-    steps: &mut Steps<G>,
-) -> Result<(), Memory>
-    requires around { (own : ℕ) × IsSetUp own around.size around.given.now around.below.now }
-    ensures pushed { (rule : Rule) → item_at around.entry.given.now.rules id ≡ Some rule → OnOk result (IsPermutation fresh.new.items (fresh.old.items ++ by_one (hop_way around.entry.at around.entry.size around.entry.given.now.exits) (arrivals around.entry.below.now around.entry.given.now.exits) (record { id = id; item = rule }))) }
-    ensures steps { (rule : Rule) → item_at around.entry.given.now.rules id ≡ Some rule → steps.new ≤ steps.old + (1 + count_by (could around.entry.at around.entry.given.now.exits (record { id = id; item = rule })) (arrivals around.entry.below.now around.entry.given.now.exits)) }
-{
-    let Some(rule) = around.given.rule(id) else {
-        return Ok(());
-    };
-    let Some(stood) = standing(alloc, around.at, rule)? else {
-        return Ok(());
-    };
-    let here = Numbered { id, rule: &stood };
-    match leaving(around.given.exits(), around.at.port, &stood.tail) {
-        None => add_alone(alloc, around.size, here, fresh, steps),
-        Some(departure) => {
-            let there = &around.below[departure.exit.place as usize];
-            add_pairs(alloc, around.size, here, &departure, there, fresh, steps)
-        }
-    }
-}
-
-/// Whether what has this tail goes on, from a port, over the link of a place.
-fn leads_to(given: &Given, port: u16, rule: &Rule, place: u32) -> bool
-    ensures { result ≡ leads_to_of given.now.exits port rule.now.tail place }
-{
-    match leaving(given.exits(), port, &rule.tail) {
-        Some(departure) => departure.exit.place == place,
-        None => false,
-    }
-}
-
-/// Appends what a rule of the virtual switch makes with one to which the link of a place leads.
-fn add_one_by_right<'a, G: Ledger>(
+/// Appends what a rule makes which stands at the node and leads over a link.
+fn add_over<'a, G: Ledger>(
     alloc: Global,
     around: Around<'a>,
     here: Numbered<'a>,
-    place: u32,
-    there: Numbered<'a>,
+    departure: &Departure,
     fresh: &mut Vec<Made>,
     steps: &mut Steps<G>,
 ) -> Result<(), Memory>
-    requires level { concat_level here.rule.now.level there.rule.now.level around.size < 2 ^ 64 }
-    ensures pushed { OnOk result (fresh.new.items ≡ fresh.old.items ++ option_to_list ((hop_way around.entry.at around.entry.size around.entry.given.now.exits).pair (record { id = here.entry.id; item = here.entry.rule.now }) (record { place = place; held = record { id = there.entry.id; item = there.entry.rule.now } }))) }
-    ensures steps { steps.new ≤ steps.old + 1 }
+    requires around { CanMake around.size around.given.now around.below.now here.rule.now }
+    requires leaving { leaving_of around.given.now.exits around.at.port here.rule.now.tail ≡ Some departure.now }
+    ensures pushed { OnOk result (IsPermutation fresh.new.items (fresh.old.items ++ filter_map (pair_with around.entry.size here.entry.id here.entry.rule.now departure.now) (rules_in (held_at around.entry.below.now departure.now.exit.place)))) }
+    ensures steps { OnOk result (steps.new ≤ steps.old + count_by (λ (b : Held Rule). overlaps (asked_of here.entry.rule.now.m departure.now) b.item.m) (rules_in (held_at around.entry.below.now departure.now.exit.place))) }
 {
-    if !leads_to(around.given, around.at.port, here.rule, place) {
-        return Ok(());
+    match around.below.get(departure.exit.place as usize) {
+        Some(there) => add_pairs(alloc, around.size, here, departure, there, fresh, steps),
+        None => Ok(()),
     }
+}
+
+/// Appends what a rule of the virtual switch makes.
+fn add_by_left<'a, G: Ledger>(
+    alloc: Global,
+    around: Around<'a>,
+    here: Numbered<'a>,
+    fresh: &mut Vec<Made>,
+    steps: &mut Steps<G>,
+) -> Result<(), Memory>
+    requires around { CanMake around.size around.given.now around.below.now here.rule.now }
+    ensures pushed { OnOk result (IsPermutation fresh.new.items (fresh.old.items ++ by_one (hop_way around.entry.at around.entry.size around.entry.given.now.exits) (arrivals around.entry.below.now around.entry.given.now.exits) (record { id = here.entry.id; item = here.entry.rule.now }))) }
+    ensures steps { OnOk result (steps.new ≤ steps.old + (1 + count_by (could around.entry.at around.entry.given.now.exits (record { id = here.entry.id; item = here.entry.rule.now })) (arrivals around.entry.below.now around.entry.given.now.exits))) }
+{
     let Some(stood) = standing(alloc, around.at, here.rule)? else {
         return Ok(());
     };
@@ -189,36 +213,47 @@ fn add_one_by_right<'a, G: Ledger>(
         id: here.id,
         rule: &stood,
     };
-    add_pair(alloc, around.size, here, place, there, fresh, steps)
+    match leaving(around.given.exits(), around.at.port, &stood.tail) {
+        None => add_alone(alloc, around.size, here, fresh, steps),
+        Some(departure) => add_over(alloc, around, here, &departure, fresh, steps),
+    }
 }
 
-/// Appends what a rule to which the link of a place leads makes with the listed rules of the virtual
-/// switch.
-pub(crate) fn add_by_right<'a, G: Ledger>(
+/// Appends what the rule of the virtual switch of an id makes.
+fn add_by_left_at<'a, G: Ledger>(
     alloc: Global,
     around: Around<'a>,
-    place: u32,
     id: usize,
     fresh: &mut Vec<Made>,
     steps: &mut Steps<G>,
 ) -> Result<(), Memory>
     requires around { (own : ℕ) × IsSetUp own around.size around.given.now around.below.now }
-    requires exit { leads_there place around.given.now.exits ≡ true }
-    ensures pushed { (rule : Rule) → item_at (rules_in (held_at around.entry.below.now place)) id ≡ Some rule → (rest kept : List (Held Rule)) → IsPermutation around.entry.given.now.rules (rest ++ kept) → AreListed around.entry.given.now kept
-        → OnOk result (IsPermutation fresh.new.items (fresh.old.items ++ filter_map (λ h. (hop_way around.entry.at around.entry.size around.entry.given.now.exits).pair h (record { place = place; held = record { id = id; item = rule } })) kept)) }
+    ensures pushed { OnOk result (IsPermutation fresh.new.items (fresh.old.items ++ made_left around.entry.at around.entry.size around.entry.given.now.exits (arrivals around.entry.below.now around.entry.given.now.exits) (held_under around.entry.given.now.rules id))) }
+    ensures steps { OnOk result (steps.new ≤ steps.old + left_cost around.entry.at around.entry.given.now.exits (arrivals around.entry.below.now around.entry.given.now.exits) (held_under around.entry.given.now.rules id)) }
 {
-    let Some(node) = around.below.get(place as usize) else {
-        return Ok(());
-    };
-    let Some(rule) = node.rule(id) else {
-        return Ok(());
-    };
-    let there = Numbered { id, rule };
-    for id in around.given.meeting(&rule.m)? {
-        if let Some(rule) = around.given.rule(id) {
+    match around.given.rule(id) {
+        Some(rule) => {
             let here = Numbered { id, rule };
-            add_one_by_right(alloc, around, here, place, there, fresh, steps)?;
+            add_by_left(alloc, around, here, fresh, steps)
         }
+        None => Ok(()),
+    }
+}
+
+/// Appends what the rules of the virtual switch of these ids make.
+pub fn add_all_by_left<'a, G: Ledger>(
+    alloc: Global,
+    around: Around<'a>,
+    come: &[usize],
+    fresh: &mut Vec<Made>,
+    steps: &mut Steps<G>,
+) -> Result<(), Memory>
+    requires around { (own : ℕ) × IsSetUp own around.size around.given.now around.below.now }
+    ensures pushed { OnOk result (IsPermutation fresh.new.items (fresh.old.items ++ made_left around.entry.at around.entry.size around.entry.given.now.exits (arrivals around.entry.below.now around.entry.given.now.exits) (under around.entry.given.now.rules come.now))) }
+    ensures steps { OnOk result (steps.new ≤ steps.old + left_cost around.entry.at around.entry.given.now.exits (arrivals around.entry.below.now around.entry.given.now.exits) (under around.entry.given.now.rules come.now)) }
+{
+    for id in come {
+        add_by_left_at(alloc, around, *id, fresh, steps)?;
     }
     Ok(())
 }

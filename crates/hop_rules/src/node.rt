@@ -1,14 +1,14 @@
 //! The rules of the node of a port.
-ghost use Rattle.std.specs.Prelude.{◌≡◌, ◌++◌, ◌∷◌, [], IfOk, OnOk, IsPermutation, filter, filter_map, map, option_map, true};
-ghost use Rattle.std.specs.List.Sorted.{IsStrictlySortedBy};
+ghost use Rattle.std.specs.Prelude.{◌≡◌, ◌≤◌, ◌++◌, ◌∷◌, [], IfOk, OnErr, OnOk, IsPermutation, filter, filter_map, length, map, option_map, true};
 ghost use Rattle.std.specs.Option.{option_copied};
-ghost use Rattle.std.specs.Ordering.{nat_cmp};
 ghost use Rattle.of10_match.specs.Matching.{overlaps};
 ghost use Rattle.rule_ancestry.specs.Holding.{Held, id_of, item_at, item_of};
 ghost use Rattle.policy_meaning.specs.declared.rule.Rule.{Rule};
 ghost use Rattle.made_rules.specs.Rules.{rules_in};
 ghost use Rattle.made_rules.specs.declared.made.Made.{Made};
-ghost use Rattle.hop_rules.specs.InsideNodes.{AreHidden, IsChange, found, no_turn};
+ghost use Rattle.hop_rules.specs.Nodes.{found};
+ghost use Rattle.hop_rules.specs.Turns.{AreHidden, IsChange, IsFoundBefore, no_turn};
+ghost use Rattle.hop_rules.specs.Under.{Rises};
 
 use crate::given::numbers;
 use crate::listing::{hide, show};
@@ -23,14 +23,14 @@ use std::marker::Model;
 
 /// What changed of rules that are known by ids: those that went and those that came.
 #[derive(Drop)]
-pub(crate) struct Turn {
-    pub(crate) gone: List<usize>,
-    pub(crate) come: List<usize>,
+pub struct Turn {
+    pub gone: List<usize>,
+    pub come: List<usize>,
 }
 
 /// The rules of the node of a port. Those of a node that others read are found by what they hold.
 #[derive(Drop)]
-pub(crate) struct Node {
+pub struct Node {
     alloc: Global,
     store: Store<Made>,
     index: Index,
@@ -40,7 +40,7 @@ pub(crate) struct Node {
 impl Model for Node {
     ghost use Rattle.std.specs.Prelude.{◌≡◌, true, IsPermutation, filter_map};
     ghost use Rattle.made_rules.specs.Rules.{rules_in};
-    ghost use Rattle.hop_rules.specs.InsideNodes.{NodeOf, found};
+    ghost use Rattle.hop_rules.specs.Nodes.{NodeOf, found};
 
     ghost Value = { NodeOf };
 
@@ -50,7 +50,7 @@ impl Model for Node {
 }
 
 impl Turn {
-    pub(crate) fn none(alloc: Global) -> Turn
+    pub fn none(alloc: Global) -> Turn
         ensures { result ≡ no_turn }
     {
         Turn {
@@ -59,7 +59,7 @@ impl Turn {
         }
     }
 
-    pub(crate) fn is_none(&self) -> bool
+    pub fn is_none(&self) -> bool
         ensures { result ≡ true → self.now ≡ no_turn }
     {
         self.gone.is_empty() && self.come.is_empty()
@@ -88,22 +88,56 @@ fn match_at(store: &Store<Made>, id: usize) -> Option<Match>
     Some(made.rule.m)
 }
 
-/// The rules of these ids are found by what they hold.
-fn show_all(index: &mut Index, store: &Store<Made>, ids: &[usize]) -> Result<(), Memory>
-    requires { AreHidden index.old.items store.now ids.now }
-    ensures { OnOk result (IsPermutation index.new.items (filter_map found (rules_in store.now))) }
+/// The rules of these ids are found by what they hold. This takes no memory.
+fn show_all(index: &mut Index, store: &Store<Made>, ids: &[usize])
+    requires room { length ids.now ≤ index.old.room }
+    requires hidden { AreHidden index.old.items store.now ids.now }
+    ensures { IsPermutation index.new.items (filter_map found (rules_in store.now)) }
 {
     // That no two are held under one id.
     let _count = store.len();
     for id in ids {
-        show(index, *id, match_at(store, *id))?;
+        show(index, *id, match_at(store, *id));
     }
-    Ok(())
+}
+
+/// The rules of a node that is read are found as they are once they changed. This takes no memory.
+fn renew(index: &mut Index, store: &Store<Made>, turn: &Turn, is_read: bool)
+    requires room { is_read ≡ true → length turn.now.come ≤ index.old.room }
+    requires turned { is_read ≡ true → IsFoundBefore index.old.items store.now turn.now }
+    ensures { is_read ≡ true → IsPermutation index.new.items (filter_map found (rules_in store.now)) }
+{
+    if !is_read {
+        return;
+    }
+    hide(index, turn.gone.as_slice());
+    show_all(index, store, turn.come.as_slice());
+}
+
+/// Room in the index of a node that is read.
+fn make_room(index: &mut Index, is_read: bool, count: usize) -> Result<(), Memory>
+    ensures items { index.new.items ≡ index.old.items }
+    ensures room { OnOk result (is_read ≡ true → count ≤ index.new.room) }
+{
+    if !is_read {
+        return Ok(());
+    }
+    index.reserve(count)
+}
+
+/// The ids of the rules that go and of those that come.
+fn turn_of(alloc: Global, change: &Change) -> Result<Turn, Memory>
+    ensures { IfOk result (λ turn. turn ≡ record { gone = change.now.gone; come = change.now.come }) }
+{
+    Ok(Turn {
+        gone: List::from_slice(alloc, change.gone())?,
+        come: List::from_slice(alloc, change.come())?,
+    })
 }
 
 impl Node {
     /// A node without rules.
-    pub(crate) fn new(alloc: Global, is_read: bool) -> Node
+    pub fn new(alloc: Global, is_read: bool) -> Node
         ensures { result ≡ record { held = []; read = is_read } }
     {
         Node {
@@ -115,7 +149,7 @@ impl Node {
     }
 
     /// The node of this one rule, which is read.
-    pub(crate) fn of(alloc: Global, made: Made) -> Result<Node, Memory>
+    pub fn of(alloc: Global, made: Made) -> Result<Node, Memory>
         ensures held { IfOk result (λ node. map item_of node.held ≡ made ∷ []) }
         ensures read { IfOk result (λ node. node.read ≡ true) }
     {
@@ -133,9 +167,9 @@ impl Node {
     }
 
     /// The rule of an id. No two are held under one.
-    pub(crate) fn rule(&self, id: usize) -> Option<&Rule>
+    pub fn rule(&self, id: usize) -> Option<&Rule>
         ensures rule { option_copied result ≡ item_at (rules_in self.now.held) id }
-        ensures rising { IsStrictlySortedBy nat_cmp (map id_of (rules_in self.now.held)) }
+        ensures rising { Rises (rules_in self.now.held) }
     {
         let _count = self.store.len();
         match self.store.get(id) {
@@ -145,43 +179,49 @@ impl Node {
     }
 
     /// The ids of the rules, rising.
-    pub(crate) fn ids(&self) -> Result<Vec<usize>, Memory>
+    pub fn ids(&self) -> Result<Vec<usize>, Memory>
         ensures { IfOk result (λ ids. ids.items ≡ map id_of (rules_in self.now.held)) }
     {
         self.store.ids()
     }
 
     /// The ids of the rules whose match overlaps, of a node that is read.
-    pub(crate) fn meeting(&self, m: &Match) -> Result<Vec<usize>, Memory>
+    pub fn meeting(&self, m: &Match) -> Result<Vec<usize>, Memory>
         requires { self.now.read ≡ true }
-        ensures { IfOk result (λ ids. IsPermutation ids.items (map id_of (filter (λ (h : Held Rule). overlaps m.now h.item.m) (rules_in self.now.held)))) }
+        ensures ids { IfOk result (λ ids. IsPermutation ids.items (map id_of (filter (λ (h : Held Rule). overlaps m.now h.item.m) (rules_in self.now.held)))) }
+        ensures rising { OnOk result (Rises (rules_in self.now.held)) }
     {
+        let _count = self.store.len();
         let found = self.index.meeting(m)?;
-        numbers(self.alloc, found.as_slice())
+        let ids = numbers(self.alloc, found.as_slice())?;
+        Ok(ids)
     }
 
     /// Rules that are made of some of these go, and some come; what is made anew stays. What goes is
     /// handed out.
-    pub(crate) fn change(
+    pub fn change(
         &mut self,
         lost: &[Origin],
         fresh: Vec<Made>,
     ) -> Result<(Turn, Vec<Made>), Memory>
         ensures change { IfOk result (λ turned. IsChange self.old.held self.new.held lost.now fresh.items turned.0 turned.1.items) }
         ensures read { self.new.read ≡ self.old.read }
+        ensures memory { OnErr result (self.new ≡ self.old) }
     {
-        let lost = made_of(self.alloc, &self.store, lost)?;
-        let change = Change::ready(self.alloc, &mut self.store, &lost, fresh)?;
-        let turn = Turn {
-            gone: List::from_slice(self.alloc, change.gone())?,
-            come: List::from_slice(self.alloc, change.come())?,
-        };
-        let left = change.settle(&mut self.store);
-        if self.is_read {
-            hide(&mut self.index, turn.gone.as_slice());
-            show_all(&mut self.index, &self.store, turn.come.as_slice())?;
+        let gone = made_of(self.alloc, &self.store, lost)?;
+        make_room(&mut self.index, self.is_read, fresh.len())?;
+        let change = Change::ready(self.alloc, &mut self.store, &gone, fresh)?;
+        match turn_of(self.alloc, &change) {
+            Ok(turn) => {
+                let left = change.settle(&mut self.store);
+                renew(&mut self.index, &self.store, &turn, self.is_read);
+                Ok((turn, left))
+            }
+            Err(wanted) => {
+                change.undo(&mut self.store);
+                Err(wanted)
+            }
         }
-        Ok((turn, left))
     }
 }
 

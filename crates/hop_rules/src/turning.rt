@@ -1,16 +1,18 @@
 //! The rules of a node change, as those change of which it makes them.
-ghost use Rattle.std.specs.Prelude.{◌≡◌, ◌++◌, ℕ, IfOk, OnOk, IsPermutation, List, filter_map, flat_map, map, true};
+ghost use Rattle.std.specs.Prelude.{◌≡◌, ◌+◌, ◌≤◌, ◌++◌, ℕ, IfOk, OnErr, OnOk, IsPermutation, List, filter_map, flat_map, map, true};
 ghost use Rattle.std.specs.List.{AllByRecursion};
-ghost use Rattle.list_change.specs.Pairing.{by_left, by_one, by_right};
-ghost use Rattle.rule_ancestry.specs.Holding.{Held, id_of};
-ghost use Rattle.made_rules.specs.Rules.{rules_in};
-ghost use Rattle.hop_rules.specs.InsideGiven.{AreListed};
-ghost use Rattle.hop_rules.specs.declared.exits.Exit.{Exit};
+ghost use Rattle.rule_ancestry.specs.Holding.{Held};
 ghost use Rattle.policy_meaning.specs.declared.rule.Rule.{Rule};
-ghost use Rattle.hop_rules.specs.InsideNodes.{IsMadeOf, IsOwnTurn, IsSetUp, IsTold, IsTurnedAt, NodeOf, arrivals, arrived as arrived_of, come_at, come_there as come_there_of, gone_at, held_at, hop_way, leads_there, lost_there, own as own_of};
+ghost use Rattle.hop_rules.specs.Handed.{AreListed};
+ghost use Rattle.hop_rules.specs.Nodes.{IsMadeOf, IsSetUp, NodeOf, arrivals, arrived as arrived_of, leads_there};
+ghost use Rattle.hop_rules.specs.Nodes.{made_left, made_right, own as own_of};
+ghost use Rattle.hop_rules.specs.Turns.{AreTurned, IsOwnTurn, IsTold, came_there, come_at, gone_at, left_cost, lost_there, right_cost, stayed};
+ghost use Rattle.hop_rules.specs.Under.{AreFound, under};
+ghost use Rattle.hop_rules.specs.declared.exits.Exit.{Exit};
 
 use crate::exits::Exit;
-use crate::joining::{Around, add_by_left, add_by_right, arrived, own};
+use crate::joining::{Around, add_all_by_left, arrived, own};
+use crate::meeting::add_all_by_right;
 use crate::node::{Node, Turn};
 use cv_io::{Memory, Steps};
 use made_rules::{Made, Origin};
@@ -66,41 +68,25 @@ fn lost_origins(
     Ok(lost)
 }
 
-/// Appends what the rules that come to the virtual switch make.
-fn add_all_by_left<'a, G: Ledger>(
+/// Appends what the rules make that come to the nodes to which these exits lead.
+fn add_by_exits<'a, G: Ledger>(
     alloc: Global,
     around: Around<'a>,
-    come: &[usize],
-    fresh: &mut Vec<Made>,
-    steps: &mut Steps<G>,
-) -> Result<(), Memory>
-    requires { (own : ℕ) × IsSetUp own around.size around.given.now around.below.now }
-    ensures { (coming rest : List (Held Rule)) → IsPermutation around.entry.given.now.rules (coming ++ rest) → map id_of coming ≡ come.now
-        → OnOk result (IsPermutation fresh.new.items (fresh.old.items ++ flat_map (by_one (hop_way around.entry.at around.entry.size around.entry.given.now.exits) (arrivals around.entry.below.now around.entry.given.now.exits)) coming)) }
-{
-    for id in come {
-        add_by_left(alloc, around, *id, fresh, steps)?;
-    }
-    Ok(())
-}
-
-/// Appends what the rules that come where an exit leads make.
-fn add_all_by_right<'a, G: Ledger>(
-    alloc: Global,
-    around: Around<'a>,
-    place: u32,
-    come: &[usize],
+    exits: &[Exit],
+    turns: &[Turn],
     fresh: &mut Vec<Made>,
     steps: &mut Steps<G>,
 ) -> Result<(), Memory>
     requires around { (own : ℕ) × IsSetUp own around.size around.given.now around.below.now }
-    requires exit { leads_there place around.given.now.exits ≡ true }
-    ensures { (coming rest : List (Held Rule)) → IsPermutation (rules_in (held_at around.entry.below.now place)) (coming ++ rest) → map id_of coming ≡ come.now
-        → (others kept : List (Held Rule)) → IsPermutation around.entry.given.now.rules (others ++ kept) → AreListed around.entry.given.now kept
-        → OnOk result (IsPermutation fresh.new.items (fresh.old.items ++ flat_map (λ y. filter_map (λ h. (hop_way around.entry.at around.entry.size around.entry.given.now.exits).pair h y) kept) (map (λ h. record { place = place; held = h }) coming))) }
+    requires exits { AllByRecursion (λ (e : Exit). leads_there e.place around.given.now.exits ≡ true) exits.now }
+    ensures pushed { (kept : List (Held Rule)) → AreListed around.entry.given.now kept → AreFound around.entry.given.now.rules kept
+        → OnOk result (IsPermutation fresh.new.items (fresh.old.items ++ made_right around.entry.at around.entry.size around.entry.given.now.exits kept (came_there around.entry.below.now turns.now exits.now))) }
+    ensures steps { (kept : List (Held Rule)) → AreListed around.entry.given.now kept → AreFound around.entry.given.now.rules kept
+        → OnOk result (steps.new ≤ steps.old + right_cost around.entry.at around.entry.given.now.exits kept (came_there around.entry.below.now turns.now exits.now)) }
 {
-    for id in come {
-        add_by_right(alloc, around, place, *id, fresh, steps)?;
+    for exit in exits {
+        let come = come_there(turns, exit.place);
+        add_all_by_right(alloc, around, exit.place, come, fresh, steps)?;
     }
     Ok(())
 }
@@ -115,21 +101,21 @@ fn made_fresh<'a, G: Ledger>(
     steps: &mut Steps<G>,
 ) -> Result<Vec<Made>, Memory>
     requires { (own : ℕ) × IsSetUp own around.size around.given.now around.below.now }
-    ensures { (coming kept : List (Held Rule)) → IsPermutation around.entry.given.now.rules (coming ++ kept) → map id_of coming ≡ come.now → AreListed around.entry.given.now kept
-        → (before : List NodeOf) → (ts : AllByRecursion (λ (e : Exit). IsTurnedAt before around.entry.below.now turns.now e.place) around.entry.given.now.exits)
-        → IfOk result (λ fresh. IsPermutation fresh.items (by_left (hop_way around.entry.at around.entry.size around.entry.given.now.exits) coming (arrivals around.entry.below.now around.entry.given.now.exits) ++ by_right (hop_way around.entry.at around.entry.size around.entry.given.now.exits) kept (come_there_of before around.entry.below.now turns.now around.entry.given.now.exits ts))) }
+    ensures made { (kept : List (Held Rule)) → AreListed around.entry.given.now kept → AreFound around.entry.given.now.rules kept
+        → IfOk result (λ fresh. IsPermutation fresh.items (made_left around.entry.at around.entry.size around.entry.given.now.exits (arrivals around.entry.below.now around.entry.given.now.exits) (under around.entry.given.now.rules come.now)
+            ++ made_right around.entry.at around.entry.size around.entry.given.now.exits kept (came_there around.entry.below.now turns.now around.entry.given.now.exits))) }
+    ensures steps { (kept : List (Held Rule)) → AreListed around.entry.given.now kept → AreFound around.entry.given.now.rules kept
+        → OnOk result (steps.new ≤ steps.old + (left_cost around.entry.at around.entry.given.now.exits (arrivals around.entry.below.now around.entry.given.now.exits) (under around.entry.given.now.rules come.now)
+            + right_cost around.entry.at around.entry.given.now.exits kept (came_there around.entry.below.now turns.now around.entry.given.now.exits))) }
 {
     let mut fresh = Vec::new(alloc);
     add_all_by_left(alloc, around, come, &mut fresh, steps)?;
-    for exit in around.given.exits() {
-        let come = come_there(turns, exit.place);
-        add_all_by_right(alloc, around, exit.place, come, &mut fresh, steps)?;
-    }
+    add_by_exits(alloc, around, around.given.exits(), turns, &mut fresh, steps)?;
     Ok(fresh)
 }
 
-/// A node's rules change, if those change of which it makes them. What goes is handed out.
-pub(crate) fn change_node<'a, G: Ledger>(
+/// A node's rules change, as those did of which it makes them. What goes is handed out.
+pub fn change_node<'a, G: Ledger>(
     alloc: Global,
     around: Around<'a>,
     node: &mut Node,
@@ -138,12 +124,18 @@ pub(crate) fn change_node<'a, G: Ledger>(
     steps: &mut Steps<G>,
 ) -> Result<(Turn, Vec<Made>), Memory>
     requires { (own : ℕ) × IsSetUp own around.size around.given.now around.below.now }
+    // What the node held were the rules that it is to make of what was there; now they are those that it
+    // is to make of what is there.
     ensures made { (xs : List (Held Rule)) → (before : List NodeOf) → IsOwnTurn xs around.entry.given.now own_turn.now
-        → AllByRecursion (λ (e : Exit). IsTurnedAt before around.entry.below.now turns.now e.place) around.entry.given.now.exits
+        → AreTurned before around.entry.below.now turns.now around.entry.given.now.exits
         → IsMadeOf around.entry.at around.entry.size around.entry.given.now.exits xs before node.old.held
         → OnOk result (IsMadeOf around.entry.at around.entry.size around.entry.given.now.exits around.entry.given.now.rules around.entry.below.now node.new.held) }
     ensures told { IfOk result (λ turned. IsTold node.old.held node.new.held turned.0 turned.1.items) }
+    ensures steps { (xs : List (Held Rule)) → IsOwnTurn xs around.entry.given.now own_turn.now
+        → OnOk result (steps.new ≤ steps.old + (left_cost around.entry.at around.entry.given.now.exits (arrivals around.entry.below.now around.entry.given.now.exits) (under around.entry.given.now.rules own_turn.now.come)
+            + right_cost around.entry.at around.entry.given.now.exits (stayed around.entry.given.now own_turn.now.come) (came_there around.entry.below.now turns.now around.entry.given.now.exits))) }
     ensures read { node.new.read ≡ node.old.read }
+    ensures memory { OnErr result (node.new ≡ node.old) }
 {
     let exits = around.given.exits();
     let lost = lost_origins(alloc, exits, own_turn.gone.as_slice(), turns)?;

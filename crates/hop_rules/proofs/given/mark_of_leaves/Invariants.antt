@@ -1,5 +1,5 @@
 use Rattle.std.proofs.Common.{◌≡◌, drop}
-use Rattle.hop_rules.specs.InsideGiven.{leaves_mark}
+use Rattle.hop_rules.specs.Handed.{leaves_mark}
 use Rattle.hop_rules.proofs.given.mark_of_leaves.Given as goal
 
 abbrev pub invariant-loop-leaf : goal.invariant-loop-leaf

@@ -1,5 +1,5 @@
 use Rattle.std.proofs.Common.{◌≡◌, ◌++◌, map, take}
-use Rattle.hop_rules.specs.InsideNodes.{arrived}
+use Rattle.hop_rules.specs.Nodes.{arrived}
 use Rattle.hop_rules.proofs.turning.add_arrived.Given as goal
 
 abbrev pub invariant-loop-id : goal.invariant-loop-id

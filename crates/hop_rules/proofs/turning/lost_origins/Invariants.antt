@@ -1,5 +1,6 @@
 use Rattle.std.proofs.Common.{◌≡◌, ◌++◌, drop, map, take}
-use Rattle.hop_rules.specs.InsideNodes.{lost_there, own}
+use Rattle.hop_rules.specs.Nodes.{own}
+use Rattle.hop_rules.specs.Turns.{lost_there}
 use Rattle.hop_rules.proofs.turning.lost_origins.Given as goal
 
 abbrev pub invariant-loop-id : goal.invariant-loop-id

@@ -7,7 +7,7 @@ use Rattle.std.proofs.lemmas.Iterator.Consumers.{YieldsList-end}
 use Rattle.made_rules.proofs.Ids.{Rising}
 use Rattle.rule_ancestry.specs.Holding.{id_of}
 use Rattle.rule_ancestry.specs.Names.{bears}
-use Rattle.hop_rules.specs.InsideGiven.{GivenOf, mark_of}
+use Rattle.hop_rules.specs.Handed.{GivenOf, mark_of}
 use Rattle.hop_rules.proofs.Taking.{Misses, marked, not-there}
 use Rattle.hop_rules.proofs.given.Given.find.Goals as goal
 

@@ -4,7 +4,7 @@ use Rattle.std.proofs.lemmas.List.Sorted.{IsPermutation-sym}
 use Rattle.std.proofs.lemmas.Result.{IfOk-weaker}
 use Rattle.match_index.specs.Items.{ids_of}
 use Rattle.match_index.specs.Questions.{is_meeting}
-use Rattle.hop_rules.specs.InsideGiven.{GivenOf}
+use Rattle.hop_rules.specs.Handed.{GivenOf}
 use Rattle.hop_rules.proofs.given.Given.meeting.Goals as goal
 
 pub returns : goal.returns

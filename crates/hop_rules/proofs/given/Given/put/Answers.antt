@@ -6,7 +6,7 @@ use Rattle.list_change.proofs.Permute.{by-equation}
 use Rattle.match_index.proofs.Lists.{take_pushed}
 use Rattle.policy_meaning.specs.declared.rule.Rule.{Rule}
 use Rattle.rule_ancestry.specs.Holding.{Held, id_of, item_of}
-use Rattle.hop_rules.specs.InsideGiven.{GivenOf}
+use Rattle.hop_rules.specs.Handed.{GivenOf}
 use Rattle.hop_rules.proofs.given.Given.put.Invariants.{HaveCome}
 use Rattle.hop_rules.proofs.given.Given.put.Goals as goal
 

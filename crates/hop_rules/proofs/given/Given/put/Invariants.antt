@@ -3,7 +3,7 @@ use Rattle.std.specs.Prelude.{IsPermutation}
 use Rattle.match_index.specs.Items.{IndexOf}
 use Rattle.policy_meaning.specs.declared.rule.Rule.{Rule}
 use Rattle.rule_ancestry.specs.Holding.{Held, id_of, item_of}
-use Rattle.hop_rules.specs.InsideGiven.{GivenOf}
+use Rattle.hop_rules.specs.Handed.{GivenOf}
 use Rattle.hop_rules.proofs.given.Given.put.Given as goal
 
 -- these rules came so far, under these ids

@@ -5,7 +5,7 @@ use Rattle.list_change.proofs.Permute.{by-equation}
 use Rattle.match_index.proofs.Lists.{take_pushed}
 use Rattle.policy_meaning.specs.declared.rule.Rule.{Rule}
 use Rattle.rule_ancestry.specs.Holding.{Held, id_of, item_of}
-use Rattle.hop_rules.specs.InsideGiven.{GivenOf, Takes, TakesOne}
+use Rattle.hop_rules.specs.Handed.{GivenOf, Takes, TakesOne}
 use Rattle.hop_rules.proofs.given.Given.take.Goals as goal
 
 gone-more : (first now new : GivenOf) (ids ids' : List ℕ) (rules : List Rule) (i : ℕ) (rule : Rule) → i < length rules → rule ≡ get_or rules i rule

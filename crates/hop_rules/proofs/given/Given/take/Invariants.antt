@@ -1,5 +1,5 @@
 use Rattle.std.proofs.Common.{take}
-use Rattle.hop_rules.specs.InsideGiven.{Takes}
+use Rattle.hop_rules.specs.Handed.{Takes}
 use Rattle.hop_rules.proofs.given.Given.take.Given as goal
 
 abbrev pub invariant-loop-rule : goal.invariant-loop-rule

@@ -2,7 +2,7 @@ use Rattle.std.proofs.Common.{◌≡◌, ◌∙◌, ◌∷◌, ap, refl, sym, su
 use Rattle.std.specs.Prelude.{IfSome, IsPermutation, filter, filter_map}
 use Rattle.made_rules.proofs.Ids.{Rising}
 use Rattle.rule_ancestry.specs.Holding.{is_other, item_at}
-use Rattle.hop_rules.specs.InsideGiven.{GivenOf, TakesOne, listed}
+use Rattle.hop_rules.specs.Handed.{GivenOf, TakesOne, listed}
 use Rattle.hop_rules.proofs.Listing.{listed-numbered}
 use Rattle.hop_rules.proofs.Taking.{taken-out}
 use Rattle.hop_rules.proofs.given.Given.take_one.Goals as goal
@@ -20,6 +20,6 @@ returns c =
       noted = c.in_ok-push.ensures.items;
       rules = subst (λ z. IsPermutation c.self.inside.store (record { id = id; item = c.args.rule.now } ∷ z)) rest (taken-out c.self.inside.store id c.args.rule.now up there);
       listed = λ h. subst (λ z. IsPermutation c.hide_one.new.index.items (filter_map (listed c.self.inside.exits) z)) rest
-        (c.hide_one.ensures (listed c.self.inside.exits) (listed-numbered c.self.inside.exits) c.self.inside.store h);
+        (c.hide_one.ensures.items (listed c.self.inside.exits) (listed-numbered c.self.inside.exits) c.self.inside.store h);
       exits = refl;
     })

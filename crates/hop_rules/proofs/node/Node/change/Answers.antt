@@ -1,13 +1,10 @@
-use Rattle.std.proofs.Common.{not, refl, sym}
-use Rattle.std.specs.Prelude.{filter}
-use Rattle.std.proofs.lemmas.List.Sorted.{IsPermutation-filter_both}
-use Rattle.made_rules.specs.Rules.{is_held_of}
+use Rattle.std.proofs.Common.{◌≡◌, ◌∙◌, ap, arith, length, refl, subst, sym}
+use Rattle.std.specs.Prelude.{IsPermutation, filter_map}
+use Rattle.made_rules.specs.Rules.{rules_in}
+use Rattle.incr_compile.proofs.Carrying.{found-held}
+use Rattle.hop_rules.specs.Nodes.{NodeOf, found}
+use Rattle.hop_rules.proofs.Changing.{come-count, ready-change, ready-turned}
 use Rattle.hop_rules.proofs.node.Node.change.Goals as goal
 
 pub ready-requires : goal.ready-requires
-ready-requires c = record {
-  items = filter (is_held_of c.args.lost.now) c.self.inside.store;
-  rest = filter (λ h. not (is_held_of c.args.lost.now h)) c.self.inside.store;
-  ids_are = sym c.in_ok-lost.ensures;
-  all = IsPermutation-filter_both (is_held_of c.args.lost.now) (λ h. not (is_held_of c.args.lost.now h)) (λ h. refl) c.self.inside.store;
-}
+ready-requires c = found-held c.self.inside.store c.args.lost.now c.deref.result.now (c.deref.ensures.value ∙ c.in_ok-gone.ensures)

@@ -2,7 +2,7 @@ use Rattle.std.proofs.Common.{◌≡◌, ◌∙◌, ap, map}
 use Rattle.std.proofs.lemmas.Result.{IfOk-weaker}
 use Rattle.rule_ancestry.specs.Holding.{id_of}
 use Rattle.made_rules.specs.Rules.{rules_in}
-use Rattle.hop_rules.specs.InsideNodes.{NodeOf}
+use Rattle.hop_rules.specs.Nodes.{NodeOf}
 use Rattle.hop_rules.proofs.HeldRules.{same-ids}
 use Rattle.hop_rules.proofs.node.Node.ids.Goals as goal
 

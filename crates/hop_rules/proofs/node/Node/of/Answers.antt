@@ -5,8 +5,8 @@ use Rattle.made_rules.specs.Rules.{rules_in}
 use Rattle.made_rules.specs.declared.made.Made.{Made}
 use Rattle.match_index.specs.Items.{IndexOf}
 use Rattle.rule_ancestry.specs.Holding.{Held, item_of}
-use Rattle.hop_rules.specs.InsideListing.{item_for}
-use Rattle.hop_rules.specs.InsideNodes.{found}
+use Rattle.hop_rules.specs.Items.{item_for}
+use Rattle.hop_rules.specs.Nodes.{found}
 use Rattle.hop_rules.proofs.Single.{single}
 use Rattle.hop_rules.proofs.node.Node.of.Goals as goal
 

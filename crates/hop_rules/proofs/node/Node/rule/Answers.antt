@@ -4,7 +4,7 @@ use Rattle.std.specs.List.Sorted.{IsStrictlySortedBy}
 use Rattle.std.specs.Ordering.{nat_cmp}
 use Rattle.rule_ancestry.specs.Holding.{id_of, item_at}
 use Rattle.made_rules.specs.Rules.{rule_of, rules_in}
-use Rattle.hop_rules.specs.InsideNodes.{NodeOf}
+use Rattle.hop_rules.specs.Nodes.{NodeOf}
 use Rattle.hop_rules.proofs.HeldRules.{rule-at, same-ids}
 use Rattle.hop_rules.proofs.node.Node.rule.Goals as goal
 

@@ -5,7 +5,7 @@ use Rattle.match_index.specs.declared.item.Item.{Item}
 use Rattle.rule_ancestry.specs.Holding.{Held, id_of, item_of}
 use Rattle.policy_meaning.specs.declared.rule.Rule.{Rule}
 use Rattle.of10_match.specs.Fields.{MatchOf}
-use Rattle.hop_rules.specs.InsideListing.{item_for}
+use Rattle.hop_rules.specs.Items.{item_for}
 use Rattle.hop_rules.specs.Standing.{asked, over}
 use Rattle.hop_rules.specs.declared.exits.Exit.{Exit}
 use Rattle.hop_rules.specs.declared.standing.Departure.{Departure}
