@@ -21,3 +21,4 @@ pub mod Single
 pub mod Changing
 pub mod Joined
 pub mod Met
+pub mod Came

@@ -100,7 +100,7 @@ is-same k j e = elim (cases_eq j k) [
 ]
 
 -- an exit that is found is there
-or-true : (b c : Bool) → c ≡ true → (b || c) ≡ true
+pub or-true : (b c : Bool) → c ≡ true → (b || c) ≡ true
 or-true true c e = refl
 or-true false c e = e
 

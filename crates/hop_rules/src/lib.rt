@@ -19,3 +19,6 @@ pub use given::Given;
 pub use joining::Around;
 pub use node::{Node, Turn};
 pub use turning::change_node;
+
+#[cfg(test)]
+mod tests;
