@@ -1,6 +1,6 @@
 -- Loops over the exits of a virtual switch.
-use Rattle.std.proofs.Common.{◌≡◌, ℕ, ◌+◌, ◌<◌, ◌≤◌, ◌==◌, ◌||◌, true, List, [], ◌∷◌, ◌++◌, length, get_or, take, map, refl, sym, ap, subst, ◌∙◌, append_assoc, arith}
-use Rattle.std.specs.Prelude.{IsPermutation, count_by, filter_map, flat_map, sum_by}
+use Rattle.std.proofs.Common.{◌≡◌, ℕ, ◌+◌, ◌<◌, ◌≤◌, ◌==◌, ◌||◌, true, List, [], ◌∷◌, ◌++◌, Result, Ok, Err, length, get_or, take, map, refl, sym, ap, subst, ◌∙◌, append_assoc, arith}
+use Rattle.std.specs.Prelude.{IsPermutation, OnOk, count_by, filter_map, flat_map, sum_by}
 use Rattle.std.proofs.lemmas.Grind.{flat_map-append}
 use Rattle.std.proofs.lemmas.List.{append-nil, take_more}
 use Rattle.std.proofs.lemmas.List.Sums.{sum_by-append}
@@ -60,3 +60,7 @@ lead-on e all (x ∷ es) a = (or-true (x.place == e.place) _ a.0, lead-on e all 
 pub all-lead : (es : List Exit) → AllByRecursion (λ (x : Exit). leads_there x.place es ≡ true) es
 all-lead [] = tt
 all-lead (e ∷ es) = (ap (λ t. t || leads_there e.place es) (itself e.place), lead-on e es es (all-lead es))
+
+pub ok-always : {T E : Type 0} (P : Type 0) (r : Result T E) → P → OnOk r P
+ok-always P (Ok x) p = p
+ok-always P (Err e) p = tt

@@ -16,15 +16,13 @@ use Rattle.made_rules.specs.declared.made.Origin.{Origin}
 use Rattle.made_rules.specs.declared.stay.Stay.{Stay}
 use Rattle.made_rules.proofs.Changes.{front}
 use Rattle.made_rules.proofs.Ids.{without-all}
-use Rattle.incr_compile.specs.Compiling.{rules_held}
-use Rattle.incr_compile.proofs.Told.{told-apart}
-use Rattle.incr_compile.proofs.Whole.{settled-items}
 use Rattle.hop_rules.specs.Nodes.{found}
 use Rattle.hop_rules.specs.Turns.{AreHidden, IsChange, IsFoundBefore, Turned}
 use Rattle.hop_rules.specs.declared.node.Turn.{Turn}
 use Rattle.hop_rules.proofs.HeldRules.{same-ids}
+use Rattle.hop_rules.proofs.Settled.{settled-apart, settled-items}
 
-pub rules-are : (hs : List (Held Made)) → map item_of (rules_in hs) ≡ rules_held hs
+pub rules-are : (hs : List (Held Made)) → map item_of (rules_in hs) ≡ map rule_of (map item_of hs)
 rules-are [] = refl
 rules-are (h ∷ hs) = ap (λ z. h.item.rule ∷ z) (rules-are hs)
 
@@ -60,7 +58,7 @@ module _ (before now new : List (Held Made)) (lost : List ℕ) (fresh : List Mad
       turned = ready-turned turn t;
       rising = subst (IsStrictlySortedBy nat_cmp) (same-ids before) r.rises;
       left_are = ap (map rule_of) l ∙ sym (rules-are r.going);
-      apart = told-apart before now lost fresh change r (map item_of (rules_in r.going)) (map item_of (rules_in r.coming)) (rules-are r.going) (rules-are r.coming);
+      apart = settled-apart before now lost fresh change r (map item_of (rules_in r.going)) (map item_of (rules_in r.coming)) (rules-are r.going) (rules-are r.coming);
     };
     items = IsPermutation-trans _ _ _ (IsPermutation-map item_of _ _ p)
         (IsPermutation-trans _ _ _ (settled-items before now lost fresh change r (is_made_of origins) e)

@@ -16,9 +16,10 @@ pub mod Found
 pub mod HeldRules
 pub mod Nth
 pub mod Showing
-pub mod Listing
+pub mod Listed
 pub mod Single
-pub mod Changing
 pub mod Joined
-pub mod Met
+pub mod Reached
 pub mod Came
+pub mod Settled
+pub mod Changing

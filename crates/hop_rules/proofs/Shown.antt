@@ -44,7 +44,7 @@ module _ {X : Type 0} (p : X → Bool) where
   none-found [] e = refl
   none-found (x ∷ xs) e = none-cond x xs (find p xs) (p x) (none-found xs) e
 
-  any-permuted : (xs ys : List X) → IsPermutation xs ys → list_any p xs ≡ list_any p ys
+  pub any-permuted : (xs ys : List X) → IsPermutation xs ys → list_any p xs ≡ list_any p ys
   any-permuted xs ys h = any_count p xs ∙ ap (nat_lt 0) (sym (count-permuted p xs ys h)) ∙ sym (any_count p ys)
 
 others-stay : (id : ℕ) (items : List Item) → AllByRecursion (λ j. (id == j) ≡ false) (map (λ (e : Item). e.id) items) → filter (λ e. not (has_id id e)) items ≡ items

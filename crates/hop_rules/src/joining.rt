@@ -13,7 +13,7 @@ ghost use Rattle.made_rules.specs.Rules.{rules_in};
 ghost use Rattle.hop_rules.specs.Handed.{AreListed};
 ghost use Rattle.hop_rules.specs.Nodes.{CanMake, IsAt, IsOwn, IsSetUp, arrivals, arrived as arrived_of, could, held_at, hop_way};
 ghost use Rattle.hop_rules.specs.Nodes.{leads_over, leads_to as leads_to_of, made_alone, made_left, made_of_pair, own as own_of, pair_with};
-ghost use Rattle.hop_rules.specs.Standing.{asked as asked_of, leaving as leaving_of};
+ghost use Rattle.hop_rules.specs.Standing.{asked as asked_of, leaving as leaving_of, standing as standing_of};
 ghost use Rattle.hop_rules.specs.Turns.{left_cost};
 ghost use Rattle.hop_rules.specs.Under.{held_under, under};
 ghost use Rattle.hop_rules.specs.declared.exits.Exit.{Exit};
@@ -194,6 +194,26 @@ fn add_over<'a, G: Ledger>(
     }
 }
 
+/// Appends what a rule makes which stands at the node: alone, or over a link.
+fn add_stood<'a, G: Ledger>(
+    alloc: Global,
+    around: Around<'a>,
+    here: Numbered<'a>,
+    fresh: &mut Vec<Made>,
+    steps: &mut Steps<G>,
+) -> Result<(), Memory>
+    requires { CanMake around.size around.given.now around.below.now here.rule.now }
+    ensures pushed { (a : Rule) → standing_of around.entry.at a ≡ Some here.entry.rule.now
+        → OnOk result (IsPermutation fresh.new.items (fresh.old.items ++ by_one (hop_way around.entry.at around.entry.size around.entry.given.now.exits) (arrivals around.entry.below.now around.entry.given.now.exits) (record { id = here.entry.id; item = a }))) }
+    ensures steps { (a : Rule) → standing_of around.entry.at a ≡ Some here.entry.rule.now
+        → OnOk result (steps.new ≤ steps.old + (1 + count_by (could around.entry.at around.entry.given.now.exits (record { id = here.entry.id; item = a })) (arrivals around.entry.below.now around.entry.given.now.exits))) }
+{
+    match leaving(around.given.exits(), around.at.port, &here.rule.tail) {
+        None => add_alone(alloc, around.size, here, fresh, steps),
+        Some(departure) => add_over(alloc, around, here, &departure, fresh, steps),
+    }
+}
+
 /// Appends what a rule of the virtual switch makes.
 fn add_by_left<'a, G: Ledger>(
     alloc: Global,
@@ -202,20 +222,20 @@ fn add_by_left<'a, G: Ledger>(
     fresh: &mut Vec<Made>,
     steps: &mut Steps<G>,
 ) -> Result<(), Memory>
-    requires around { CanMake around.size around.given.now around.below.now here.rule.now }
+    requires { CanMake around.size around.given.now around.below.now here.rule.now }
     ensures pushed { OnOk result (IsPermutation fresh.new.items (fresh.old.items ++ by_one (hop_way around.entry.at around.entry.size around.entry.given.now.exits) (arrivals around.entry.below.now around.entry.given.now.exits) (record { id = here.entry.id; item = here.entry.rule.now }))) }
     ensures steps { OnOk result (steps.new ≤ steps.old + (1 + count_by (could around.entry.at around.entry.given.now.exits (record { id = here.entry.id; item = here.entry.rule.now })) (arrivals around.entry.below.now around.entry.given.now.exits))) }
 {
-    let Some(stood) = standing(alloc, around.at, here.rule)? else {
-        return Ok(());
-    };
-    let here = Numbered {
-        id: here.id,
-        rule: &stood,
-    };
-    match leaving(around.given.exits(), around.at.port, &stood.tail) {
-        None => add_alone(alloc, around.size, here, fresh, steps),
-        Some(departure) => add_over(alloc, around, here, &departure, fresh, steps),
+    let stood = standing(alloc, around.at, here.rule)?;
+    match stood {
+        Some(rule) => {
+            let stands = Numbered {
+                id: here.id,
+                rule: &rule,
+            };
+            add_stood(alloc, around, stands, fresh, steps)
+        }
+        None => Ok(()),
     }
 }
 

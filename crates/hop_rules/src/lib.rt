@@ -20,5 +20,3 @@ pub use joining::Around;
 pub use node::{Node, Turn};
 pub use turning::change_node;
 
-#[cfg(test)]
-mod tests;

@@ -48,14 +48,17 @@ fn add_met<'a, G: Ledger>(
     if !leads_to(around.given, around.at.port, here.rule, place) {
         return Ok(());
     }
-    let Some(stood) = standing(alloc, around.at, here.rule)? else {
-        return Ok(());
-    };
-    let here = Numbered {
-        id: here.id,
-        rule: &stood,
-    };
-    add_pair(alloc, around.size, here, place, there, fresh, steps)
+    let stood = standing(alloc, around.at, here.rule)?;
+    match stood {
+        Some(rule) => {
+            let stands = Numbered {
+                id: here.id,
+                rule: &rule,
+            };
+            add_pair(alloc, around.size, stands, place, there, fresh, steps)
+        }
+        None => Ok(()),
+    }
 }
 
 /// Appends what the rule of the virtual switch of an id makes with one to which the link of a place

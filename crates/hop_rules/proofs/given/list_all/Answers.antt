@@ -4,7 +4,7 @@ use Rattle.rule_ancestry.specs.Holding.{item_at}
 use Rattle.hop_rules.specs.Handed.{asks_by, listed}
 use Rattle.hop_rules.specs.Items.{item_for}
 use Rattle.hop_rules.specs.Standing.{over}
-use Rattle.hop_rules.proofs.Listing.{listed-numbered}
+use Rattle.hop_rules.proofs.Listed.{listed-numbered}
 use Rattle.hop_rules.proofs.Showing.{all-shown, none-yet, one-more, still-hidden}
 use Rattle.hop_rules.proofs.given.list_all.Goals as goal
 

@@ -12,7 +12,7 @@ use Rattle.hop_rules.specs.Nodes.{CanMeet, arrival, held_at, made_right}
 use Rattle.hop_rules.specs.Turns.{right_cost}
 use Rattle.hop_rules.specs.Under.{under}
 use Rattle.hop_rules.proofs.Joined.{got-held, got-none}
-use Rattle.hop_rules.proofs.Met.{all-meet}
+use Rattle.hop_rules.proofs.Reached.{all-meet}
 use Rattle.hop_rules.proofs.Under.{under-none}
 use Rattle.hop_rules.proofs.meeting.add_all_by_right.Goals as goal
 

@@ -5,7 +5,7 @@ use Rattle.match_index.specs.Items.{ids_of}
 use Rattle.match_index.specs.Questions.{is_meeting}
 use Rattle.policy_meaning.specs.declared.rule.Rule.{Rule}
 use Rattle.rule_ancestry.specs.Holding.{Held}
-use Rattle.hop_rules.proofs.Met.{met-count, met-walked}
+use Rattle.hop_rules.proofs.Reached.{met-count, met-walked}
 use Rattle.hop_rules.proofs.meeting.add_by_right.Goals as goal
 
 pub returns-clause-pushed : goal.returns-clause-pushed

@@ -19,7 +19,7 @@ pub returns-in-Some-clause-pushed : goal.returns-in-Some-clause-pushed
 returns-in-Some-clause-pushed g c kept listed found =
     let a = c.args.around in
     let h : Held Rule = record { id = c.args.id; item = c.in-Some.rule.now } in
-    let one = filter_map (λ k. (hop_way a.at a.size a.given.now.exits).pair k (arrival c.args.place h)) kept in
+    let one = filter_map (λ (k : Held Rule). (hop_way a.at a.size a.given.now.exits).pair k (arrival c.args.place h)) kept in
     on_ok_weaker c.add_by_right.result
     (λ p. subst (λ z. IsPermutation c.add_by_right.new.fresh.items (c.args.fresh.now.items ++ z))
       (sym (append-nil one) ∙ ap (λ (hs : List (Held Rule)). made_right a.at a.size a.given.now.exits kept (map (arrival c.args.place) hs)) (sym (held-some (rules_in c.args.node.now.held) c.args.id c.in-Some.rule.now (sym c.in-Some.ensures.rule)))) p)

@@ -7,8 +7,9 @@ use Rattle.made_rules.specs.Rules.{is_made_of}
 use Rattle.made_rules.specs.declared.made.Made.{Made}
 use Rattle.made_rules.specs.declared.made.Origin.{Origin}
 use Rattle.hop_rules.specs.Nodes.{IsMadeOf, arrivals, made_left, made_right, own}
-use Rattle.hop_rules.specs.Turns.{came_there, lost_there, stayed}
+use Rattle.hop_rules.specs.Turns.{came_there, left_cost, lost_there, right_cost, stayed}
 use Rattle.hop_rules.specs.Under.{under}
+use Rattle.hop_rules.proofs.Came.{ok-always}
 use Rattle.hop_rules.proofs.Turns.{node-turns, stayed-found, stayed-listed}
 use Rattle.hop_rules.proofs.turning.change_node.Goals as goal
 
@@ -31,4 +32,12 @@ pub returns-clause-told : goal.returns-clause-told
 returns-clause-told g c = IfOk-weaker c.change.result _ _ (λ turned k. k.told) c.change.ensures.change
 
 pub returns-clause-steps : goal.returns-clause-steps
-returns-clause-steps g c xs o = ?
+returns-clause-steps g c xs o =
+    let a = c.args.around in
+    let given = a.given.now in
+    let es = given.exits in
+    let turn = c.args.own_turn.now in
+    let kept = stayed given turn.come in
+    ok-always _ c.change.result
+    (subst (λ ids. c.made_fresh-fresh.new.steps ≤ c.args.steps.now + (left_cost a.at es (arrivals a.below.now es) (under given.rules ids) + right_cost a.at es kept (came_there a.below.now c.args.turns.now es)))
+      c.as_slice-2.ensures (c.in_ok-fresh.ensures.steps kept (stayed-listed xs given turn o) (stayed-found given turn.come o.risen)))

@@ -3,7 +3,7 @@ use Rattle.std.specs.Prelude.{IfSome, IsPermutation, filter, filter_map}
 use Rattle.made_rules.proofs.Ids.{Rising}
 use Rattle.rule_ancestry.specs.Holding.{is_other, item_at}
 use Rattle.hop_rules.specs.Handed.{GivenOf, TakesOne, listed}
-use Rattle.hop_rules.proofs.Listing.{listed-numbered}
+use Rattle.hop_rules.proofs.Listed.{listed-numbered}
 use Rattle.hop_rules.proofs.Taking.{taken-out}
 use Rattle.hop_rules.proofs.given.Given.take_one.Goals as goal
 
