@@ -1,5 +1,5 @@
 -- What loops over the rules of a node make of a rule that stands at the node of a port.
-use Rattle.std.proofs.Common.{◌≡◌, ℕ, zero, suc, ◌+◌, ◌*◌, ◌<◌, ◌≤◌, ◌^◌, ◌==◌, ◌&&◌, ◌||◌, Bool, true, false, List, [], ◌∷◌, ◌++◌, Option, Some, None, length, refl, sym, ap, subst, ◌∙◌, map, cond, arith}
+use Rattle.std.proofs.Common.{◌≡◌, ℕ, zero, suc, ◌+◌, ◌*◌, ◌<◌, ◌≤◌, ◌^◌, ◌==◌, ◌&&◌, ◌||◌, Bool, true, false, List, [], ◌∷◌, ◌++◌, Option, Some, None, refl, sym, ap, subst, ◌∙◌, map, cond, arith}
 use Rattle.std.specs.Prelude.{IfSome, IsPermutation, count_by, filter, filter_map, option_map, option_to_list, slice_get}
 use Rattle.std.specs.List.{AllByRecursion}
 use Rattle.std.specs.Option.{option_map_or}
@@ -29,7 +29,7 @@ use Rattle.hop_rules.proofs.Making.{all-unmet, pushed-pair}
 use Rattle.hop_rules.proofs.Names.{is-same, itself, leaving-there}
 use Rattle.hop_rules.proofs.Numbered.{one-kept}
 use Rattle.hop_rules.proofs.Under.{held-none, held-some}
-use Rattle.hop_rules.proofs.Walking.{candidates-count, walked}
+use Rattle.hop_rules.proofs.Walking.{walked}
 
 -- ---- levels fit
 pub pair-level : (own size : ℕ) (a b : Rule) → IsOwn own a → b.level < size → own * size < 2 ^ 64 → concat_level a.level b.level size < 2 ^ 64
@@ -45,9 +45,9 @@ pair-pushed exits port dep size id a held bid b old new e there now =
     let h : Held Rule = record { id = bid; item = b } in
     now
     ∙ ap (λ z. old ++ z)
-      (ap option_to_list (pushed-pair exits port dep size id dep.exit.place a h e (itself dep.exit.place))
-      ∙ sym (one-kept (pair_with size id a dep h))
-      ∙ ap (filter_map (pair_with size id a dep)) (sym (held-some held bid b there)))
+    (ap option_to_list (pushed-pair exits port dep size id dep.exit.place a h e (itself dep.exit.place))
+    ∙ sym (one-kept (pair_with size id a dep h))
+    ∙ ap (filter_map (pair_with size id a dep)) (sym (held-some held bid b there)))
 
 -- where nothing is held under an id nothing is made
 pub nothing-pushed : {R C : Type 0} (f : Held R → Option C) (held : List (Held R)) (id : ℕ) (old : List C) → item_at held id ≡ None → old ≡ old ++ filter_map f (held_under held id)
@@ -112,8 +112,8 @@ module _ (a : Rule) (dep : Departure) where
   could-count at exits below h e l =
       let there : leads_there dep.exit.place exits ≡ true = subst (λ o. IfSome o (λ (d : Departure). leads_there d.exit.place exits ≡ true)) l (leaving-there exits at.port a.tail) in
       let s : count_by (could at exits h) (arrivals below exits) ≡ count_by (λ y. could_by a y (Some dep)) (arrivals below exits) =
-        ap (λ o. count_by (λ y. option_map_or (λ (x : Rule). could_by x y (leaving exits at.port x.tail)) o false) (arrivals below exits)) e
-        ∙ ap (λ o. count_by (λ y. could_by a y o) (arrivals below exits)) l in
+      ap (λ o. count_by (λ y. option_map_or (λ (x : Rule). could_by x y (leaving exits at.port x.tail)) o false) (arrivals below exits)) e
+      ∙ ap (λ o. count_by (λ y. could_by a y o) (arrivals below exits)) l in
       let k = here-count (rules_in (held_at below dep.exit.place)) in
       let t = there-count below (λ y. could_by a y (Some dep)) dep.exit.place exits there in
       omega arith

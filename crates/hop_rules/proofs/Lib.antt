@@ -23,3 +23,4 @@ pub mod Reached
 pub mod Came
 pub mod Settled
 pub mod Changing
+pub mod Noted

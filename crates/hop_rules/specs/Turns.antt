@@ -1,5 +1,5 @@
 -- How the rules of a node change, as those do of which it makes them, and the steps that this takes.
-use Rattle.std.specs.Prelude.{◌≡◌, ℕ, ◌+◌, List, [], ◌∷◌, ◌++◌, IsPermutation, count_by, filter, filter_map, flat_map, map, not, slice_get, sum_by}
+use Rattle.std.specs.Prelude.{◌≡◌, ℕ, ◌+◌, List, [], ◌++◌, IsPermutation, count_by, filter, filter_map, flat_map, map, not, slice_get, sum_by}
 use Rattle.std.specs.List.{AllByRecursion}
 use Rattle.std.specs.Option.{option_map_or}
 use Rattle.list_change.specs.Changes.{Apart}

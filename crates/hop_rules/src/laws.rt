@@ -1,5 +1,5 @@
 //! Laws of the nodes of ports. The functions do nothing; their clauses say what is proved.
-ghost use Rattle.std.specs.Prelude.{◌≡◌, ◌<◌, ℕ, suc, IsPermutation, List, map};
+ghost use Rattle.std.specs.Prelude.{◌≡◌, ℕ, suc, IsPermutation, List, map};
 ghost use Rattle.std.specs.List.{AllByRecursion};
 ghost use Rattle.policy_meaning.specs.Hops.{Fabric, hop_size, node, peers_size};
 ghost use Rattle.policy_meaning.specs.declared.network.Place.{Place};

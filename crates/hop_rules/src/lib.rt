@@ -19,4 +19,3 @@ pub use given::Given;
 pub use joining::Around;
 pub use node::{Node, Turn};
 pub use turning::change_node;
-

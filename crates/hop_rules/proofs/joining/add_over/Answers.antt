@@ -1,4 +1,4 @@
-use Rattle.std.proofs.Common.{◌≡◌, ◌∙◌, ◌++◌, ◌+◌, ◌≤◌, List, ap, arith, subst, sym, true}
+use Rattle.std.proofs.Common.{◌≡◌, ◌∙◌, ◌++◌, ◌+◌, ◌≤◌, List, ap, subst, sym, true}
 use Rattle.std.specs.Prelude.{IsPermutation, count_by, filter_map}
 use Rattle.std.specs.List.{AllByRecursion}
 use Rattle.std.proofs.lemmas.List.{append-nil}
@@ -36,7 +36,7 @@ returns-in-Some-clause-pushed g c =
     let f = pair_with c.args.around.size c.args.here.id c.args.here.rule.now c.args.departure.now in
     on_ok_weaker c.add_pairs.result
     (λ p. subst (λ held. IsPermutation c.add_pairs.new.fresh.items (c.args.fresh.now.items ++ filter_map f (rules_in held)))
-      (sym (got-held c.args.around.below.now c.args.departure.now.exit.place c.in-Some.there.now (sym c.in-Some.ensures))) p)
+    (sym (got-held c.args.around.below.now c.args.departure.now.exit.place c.in-Some.there.now (sym c.in-Some.ensures))) p)
     c.add_pairs.ensures.pushed
 
 pub returns-in-Some-clause-steps : goal.returns-in-Some-clause-steps
@@ -44,7 +44,7 @@ returns-in-Some-clause-steps g c =
     let q = λ (b : Held Rule). overlaps (asked c.args.here.rule.now.m c.args.departure.now) b.item.m in
     on_ok_weaker c.add_pairs.result
     (λ p. subst (λ held. c.add_pairs.new.steps ≤ c.args.steps.now + count_by q (rules_in held))
-      (sym (got-held c.args.around.below.now c.args.departure.now.exit.place c.in-Some.there.now (sym c.in-Some.ensures))) p)
+    (sym (got-held c.args.around.below.now c.args.departure.now.exit.place c.in-Some.there.now (sym c.in-Some.ensures))) p)
     c.add_pairs.ensures.steps
 
 pub returns-in-None-clause-pushed : goal.returns-in-None-clause-pushed

@@ -1,5 +1,5 @@
-use Rattle.std.proofs.Common.{◌≡◌, ◌∙◌, ◌++◌, ◌+◌, ◌≤◌, Some, None, ap, arith, subst, sym}
-use Rattle.std.specs.Prelude.{IsPermutation, count_by}
+use Rattle.std.proofs.Common.{◌≡◌, ◌∙◌, ◌++◌, ◌+◌, Some, None, ap, arith, subst, sym}
+use Rattle.std.specs.Prelude.{IsPermutation}
 use Rattle.std.proofs.lemmas.Result.{on_ok_weaker}
 use Rattle.list_change.proofs.Permute.{by-equation}
 use Rattle.policy_meaning.specs.declared.rule.Rule.{Rule}
@@ -37,7 +37,7 @@ returns-in-Some-clause-pushed g c rule e =
     let l : leaving a.given.now.exits a.at.port c.args.here.rule.now.tail ≡ Some c.in-Some.departure = sym (c.in-Some.ensures ∙ ap (λ es. leaving es a.at.port c.args.here.rule.now.tail) c.exits.ensures) in
     on_ok_weaker c.add_over.result
     (λ p. subst (λ z. IsPermutation c.add_over.new.fresh.items (c.args.fresh.now.items ++ z))
-      (sym (makes-pairs a.at a.size a.given.now.exits a.below.now h c.args.here.rule.now c.in-Some.departure e l c.requires.set_up.distinct)) p)
+    (sym (makes-pairs a.at a.size a.given.now.exits a.below.now h c.args.here.rule.now c.in-Some.departure e l c.requires.set_up.distinct)) p)
     c.add_over.ensures.pushed
 
 pub returns-in-Some-clause-steps : goal.returns-in-Some-clause-steps

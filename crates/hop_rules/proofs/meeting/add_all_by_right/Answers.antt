@@ -1,4 +1,4 @@
-use Rattle.std.proofs.Common.{◌≡◌, ◌∙◌, ◌++◌, ◌+◌, ◌≤◌, List, [], ap, arith, map, subst, sym}
+use Rattle.std.proofs.Common.{◌≡◌, ◌∙◌, ◌++◌, ◌+◌, ◌≤◌, List, [], ap, map, subst, sym}
 use Rattle.std.specs.Prelude.{IsPermutation}
 use Rattle.std.specs.List.{AllByRecursion}
 use Rattle.std.proofs.lemmas.List.{append-nil}
@@ -27,7 +27,7 @@ returns-in-Some-clause-pushed g c kept l f =
     let a = c.args.around in
     on_ok_weaker c.add_each_by_right.result
     (λ p. subst (λ (held : List (Held Made)). IsPermutation c.add_each_by_right.new.fresh.items (c.args.fresh.now.items ++ made_right a.at a.size a.given.now.exits kept (map (arrival c.args.place) (under (rules_in held) c.args.come.now))))
-      (sym (got-held a.below.now c.args.place c.in-Some.node.now (sym c.in-Some.ensures))) p)
+    (sym (got-held a.below.now c.args.place c.in-Some.node.now (sym c.in-Some.ensures))) p)
     (c.add_each_by_right.ensures.pushed kept l f)
 
 pub returns-in-Some-clause-steps : goal.returns-in-Some-clause-steps
@@ -35,12 +35,12 @@ returns-in-Some-clause-steps g c kept l f =
     let a = c.args.around in
     on_ok_weaker c.add_each_by_right.result
     (λ p. subst (λ (held : List (Held Made)). c.add_each_by_right.new.steps ≤ c.args.steps.now + right_cost a.at a.given.now.exits kept (map (arrival c.args.place) (under (rules_in held) c.args.come.now)))
-      (sym (got-held a.below.now c.args.place c.in-Some.node.now (sym c.in-Some.ensures))) p)
+    (sym (got-held a.below.now c.args.place c.in-Some.node.now (sym c.in-Some.ensures))) p)
     (c.add_each_by_right.ensures.steps kept l f)
 
 pub returns-in-None-clause-pushed : goal.returns-in-None-clause-pushed
 returns-in-None-clause-pushed g c kept l f =
     let a = c.args.around in
     let e : under (rules_in (held_at a.below.now c.args.place)) c.args.come.now ≡ [] =
-      under-none (rules_in (held_at a.below.now c.args.place)) c.args.come.now (ap rules_in (got-none a.below.now c.args.place (sym c.in-None.ensures))) in
+    under-none (rules_in (held_at a.below.now c.args.place)) c.args.come.now (ap rules_in (got-none a.below.now c.args.place (sym c.in-None.ensures))) in
     by-equation _ _ (sym (ap (λ (hs : List (Held Rule)). c.args.fresh.now.items ++ made_right a.at a.size a.given.now.exits kept (map (arrival c.args.place) hs)) e ∙ append-nil c.args.fresh.now.items))

@@ -1,10 +1,9 @@
-use Rattle.std.proofs.Common.{◌≡◌, ◌∙◌, ◌++◌, ◌+◌, ◌≤◌, ap, arith, refl, subst, sym}
+use Rattle.std.proofs.Common.{◌++◌, ◌+◌, ◌≤◌, ap, arith, subst, sym}
 use Rattle.std.specs.Prelude.{IsPermutation}
 use Rattle.std.proofs.lemmas.List.{append-nil, take_all}
 use Rattle.list_change.proofs.Permute.{by-equation}
 use Rattle.hop_rules.specs.Nodes.{made_right}
 use Rattle.hop_rules.specs.Turns.{came_there, right_cost}
-use Rattle.hop_rules.proofs.Came.{exits-made, exits-steps}
 use Rattle.hop_rules.proofs.turning.add_by_exits.Goals as goal
 
 pub loop-exit-init : goal.loop-exit-init

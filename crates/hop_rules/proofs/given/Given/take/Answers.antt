@@ -1,30 +1,23 @@
-use Rattle.std.proofs.Common.{◌≡◌, ◌∙◌, ◌++◌, ◌∷◌, ◌+◌, ◌<◌, [], ℕ, List, ap, sym, get_or, length, take, append_assoc}
-use Rattle.std.proofs.lemmas.List.{map-append}
-use Rattle.std.proofs.lemmas.List.Sorted.{IsPermutation-append_right, IsPermutation-trans}
-use Rattle.list_change.proofs.Permute.{by-equation}
-use Rattle.match_index.proofs.Lists.{take_pushed}
-use Rattle.policy_meaning.specs.declared.rule.Rule.{Rule}
-use Rattle.rule_ancestry.specs.Holding.{Held, id_of, item_of}
-use Rattle.hop_rules.specs.Handed.{GivenOf, Takes, TakesOne}
+use Rattle.std.proofs.Common.{◌≡◌, ◌∙◌, ◌++◌, ap, refl, subst, sym}
+use Rattle.std.specs.Prelude.{IsPermutation, filter, filter_map}
+use Rattle.rule_ancestry.specs.Holding.{is_outside}
+use Rattle.hop_rules.specs.Handed.{AreFoundAt, GivenOf, Takes, listed}
+use Rattle.hop_rules.proofs.Listed.{listed-numbered}
 use Rattle.hop_rules.proofs.given.Given.take.Goals as goal
 
-gone-more : (first now new : GivenOf) (ids ids' : List ℕ) (rules : List Rule) (i : ℕ) (rule : Rule) → i < length rules → rule ≡ get_or rules i rule
-    → TakesOne now new ids ids' rule → Takes first now ids (take i rules) → Takes first new ids' (take (i + 1) rules)
-gone-more first now new ids ids' rules i rule lt at o h =
-    let one : Held Rule = record { id = o.id; item = rule } in
-    record {
-      going = h.going ++ one ∷ [];
-      was =
-        IsPermutation-trans _ (h.going ++ now.rules) _ h.was
-        (IsPermutation-trans _ (h.going ++ one ∷ new.rules) _ (IsPermutation-append_right h.going _ _ o.rules)
-        (by-equation _ _ (sym (append_assoc h.going (one ∷ []) new.rules))));
-      ids_are = map-append id_of h.going (one ∷ []) ∙ ap (λ z. z ++ o.id ∷ []) h.ids_are ∙ sym o.noted;
-      rules_are = map-append item_of h.going (one ∷ []) ∙ ap (λ z. z ++ rule ∷ []) h.rules_are ∙ sym (take_pushed rules i rule lt at);
-      listed = λ l. o.listed (h.listed l);
-      exits = o.exits ∙ h.exits;
-    }
-
-pub loop-rule-preserved : goal.loop-rule-preserved
-loop-rule-preserved c =
-    gone-more c.args.self.now c.loop-rule.self c.take_one.new.self c.loop-rule.ids.items c.take_one.new.ids.items c.args.gone.now c.loop-rule.rule-index c.rule-item.result
-      c.loop-rule-test.true c.rule-item.is c.in_ok-take_one.ensures c.loop-rule.invariant
+pub returns-clause-taken : goal.returns-clause-taken
+returns-clause-taken c =
+    let store = c.self.inside.store in
+    let ids = c.in_ok-ids.ids.items in
+    let f = subst (λ (g : GivenOf). AreFoundAt g.rules ids c.args.gone.now) (sym c.self.view_is) c.in_ok-ids.ensures in
+    let rest : filter (is_outside ids) store ≡ c.remove_all.new.self = sym (c.remove_all.ensures ∙ ap (λ z. filter (is_outside z) store) c.deref-2.ensures.value) in
+    subst (λ (g : GivenOf). Takes g (record { exits = c.self.inside.exits; rules = c.remove_all.new.self; items = c.hide.new.index.items }) ids c.args.gone.now) c.self.view_is (record {
+      going = f.going;
+      was = subst (λ z. IsPermutation store (f.going ++ z)) rest f.was;
+      ids_are = f.ids_are;
+      rules_are = f.rules_are;
+      listed = λ h. subst (λ z. IsPermutation c.hide.new.index.items (filter_map (listed c.self.inside.exits) z)) rest
+          (subst (λ z. IsPermutation c.hide.new.index.items (filter_map (listed c.self.inside.exits) (filter (is_outside z) store))) c.deref.ensures.value
+          (c.hide.ensures.items (listed c.self.inside.exits) (listed-numbered c.self.inside.exits) store h));
+      exits = refl;
+    })
