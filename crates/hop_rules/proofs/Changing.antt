@@ -53,6 +53,7 @@ module _ (before now new : List (Held Made)) (lost : List ℕ) (fresh : List Mad
   -- all that is told of it
   pub ready-change : (origins : List Origin) → lost ≡ map id_of (filter (is_held_of origins) before) → (turn : Turn) → turn ≡ record { gone = change.gone; come = change.come } →
       (left : List Made) → left ≡ map item_of r.going → IsChange before new origins fresh turn left
+  unfolding ready-turned
   ready-change origins e turn t left l = record {
     told = record {
       turned = ready-turned turn t;

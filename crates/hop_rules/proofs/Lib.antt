@@ -24,3 +24,4 @@ pub mod Came
 pub mod Settled
 pub mod Changing
 pub mod Noted
+pub mod Stage

@@ -223,7 +223,7 @@ module _ (at : Place) (size : ℕ) (exits : List Exit) (place : ℕ) (b : Held R
       let m = none (leads_over at exits place h) (f refl) in
       omega arith
     where
-      none : (t : Bool) → (t ≡ true → false ≡ true) → cond t 1 0 ≡ 0
+      none : (t : Bool) → (t ≡ true → false ≡ true) → cond {A = ℕ} t 1 0 ≡ 0
       none true g = absurd (let z : false ≡ true = g refl in cc)
       none false g = refl
 

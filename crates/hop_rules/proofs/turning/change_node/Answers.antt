@@ -39,5 +39,5 @@ returns-clause-steps g c xs o =
     let turn = c.args.own_turn.now in
     let kept = stayed given turn.come in
     ok-always _ c.change.result
-    (subst (λ ids. c.made_fresh-fresh.new.steps ≤ c.args.steps.now + (left_cost a.at es (arrivals a.below.now es) (under given.rules ids) + right_cost a.at es kept (came_there a.below.now c.args.turns.now es)))
+    (subst (λ ids. c.made_fresh.new.steps ≤ c.args.steps.now + (left_cost a.at es (arrivals a.below.now es) (under given.rules ids) + right_cost a.at es kept (came_there a.below.now c.args.turns.now es)))
     c.as_slice-2.ensures (c.in_ok-fresh.ensures.steps kept (stayed-listed xs given turn o) (stayed-found given turn.come o.risen)))

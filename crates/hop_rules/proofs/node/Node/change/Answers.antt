@@ -19,8 +19,8 @@ invariant_of-self c read = subst (λ (items : List Item). IsPermutation items (f
 pub ready-requires : goal.ready-requires
 ready-requires c = found-held c.self.inside.store c.args.lost.now c.deref.result.now (c.deref.ensures.value ∙ c.in_ok-gone.ensures)
 
-pub settle-requires : goal.settle-requires
-settle-requires c = let r = c.in_ok-change.ensures.ready in ((r.kept ++ r.coming) ++ r.going, r.is)
+pub settle-left-requires : goal.settle-left-requires
+settle-left-requires c = let r = c.in_ok-change.ensures.ready in ((r.kept ++ r.coming) ++ r.going, r.is)
 
 pub undo-requires : goal.undo-requires
 undo-requires c = let r = c.in_ok-change.ensures.ready in ((r.kept ++ r.coming) ++ r.going, r.is)
