@@ -1,6 +1,6 @@
 -- What a rule makes at a node, as it is joined.
 use Rattle.std.proofs.Common.{◌≡◌, ℕ, ◌==◌, Bool, true, false, List, [], ◌∷◌, ◌++◌, Option, Some, None, refl, sym, ap, subst, ◌∙◌, map, append-nil}
-use Rattle.std.specs.Prelude.{IsPermutation, IfSome, filter, filter_map, option_map, if◌then◌else◌}
+use Rattle.std.specs.Prelude.{IfSome, filter, filter_map, option_map, if◌then◌else◌}
 use Rattle.std.specs.List.{AllByRecursion, cons_option}
 use Rattle.std.specs.Option.{option_and_then}
 use Rattle.list_change.specs.Pairing.{by_one}

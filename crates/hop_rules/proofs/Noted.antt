@@ -1,12 +1,12 @@
 -- Rules that are noted by their ids.
-use Rattle.std.proofs.Common.{◌≡◌, ℕ, ◌+◌, ◌<◌, not, cond, List, [], ◌∷◌, ◌++◌, length, get_or, take, map, refl, sym, ap, ◌∙◌, append_assoc, arith}
+use Rattle.std.proofs.Common.{◌≡◌, ℕ, ◌+◌, ◌<◌, not, cond, List, [], ◌∷◌, ◌++◌, length, get_or, take, map, refl, sym, ap, ◌∙◌, append_assoc, arith, subst}
 use Rattle.std.specs.Prelude.{IsPermutation, filter}
 use Rattle.std.proofs.lemmas.List.{map-append}
-use Rattle.std.proofs.lemmas.List.Sorted.{IsPermutation-append_right, IsPermutation-trans}
+use Rattle.std.proofs.lemmas.List.Sorted.{IsPermutation-append_comm, IsPermutation-append_left, IsPermutation-append_right, IsPermutation-trans}
 use Rattle.list_change.proofs.Kept.{permuted-filter}
 use Rattle.list_change.proofs.Permute.{by-equation}
 use Rattle.match_index.proofs.Lists.{take_pushed}
-use Rattle.made_rules.proofs.Ids.{Rising}
+use Rattle.made_rules.proofs.Ids.{Rising, without-all}
 use Rattle.policy_meaning.specs.declared.rule.Rule.{Rule}
 use Rattle.rule_ancestry.specs.Holding.{Held, held_as, id_of, is_other, is_outside, item_of}
 use Rattle.rule_ancestry.proofs.Lists.{outside-last, outside-none}
@@ -47,3 +47,15 @@ module _ {R : Type 0} where
   as-items [] (x ∷ items) e = absurd (omega (arith, e))
   as-items (id ∷ ids) [] e = absurd (omega (arith, e))
   as-items (id ∷ ids) (x ∷ items) e = ap (λ z. x ∷ z) (as-items ids items (omega (arith, e)))
+
+-- rules that come stay where those that are noted go
+pub handed : (store both : List (Held Rule)) (ids : List ℕ) (gone : List Rule) (f : AreFoundAt store ids gone) (coming : List (Held Rule)) → Rising both → IsPermutation both (coming ++ store) →
+    IsPermutation (filter (is_outside ids) both) (coming ++ filter (is_outside ids) store)
+handed store both ids gone f coming up p =
+    let kept = filter (is_outside ids) store in
+    let q : IsPermutation both (f.going ++ (coming ++ kept)) =
+    IsPermutation-trans _ _ _ p
+    (IsPermutation-trans _ _ _ (IsPermutation-append_right coming _ _ f.was)
+    (IsPermutation-trans _ _ _ (by-equation _ _ (sym (append_assoc coming f.going kept)))
+    (IsPermutation-trans _ _ _ (IsPermutation-append_left kept _ _ (IsPermutation-append_comm coming f.going)) (by-equation _ _ (append_assoc f.going coming kept))))) in
+    subst (λ z. IsPermutation (filter (is_outside z) both) (coming ++ kept)) f.ids_are (without-all both f.going (coming ++ kept) up q)

@@ -42,7 +42,7 @@ module _ (f : Fabric) (own : (v : ℕ) → AllByRecursion (IsOwn (f.sizes v)) (f
   arrive-each size [] le nodes = tt
   arrive-each size (e ∷ es) le nodes = (
     from-rules (IsAt size e.peer.port) (rules_in (held_at below e.place)) (node f n e.peer.v e.peer.port) nodes.0
-      (all-map (IsAt (hop_size f n e.peer.v) e.peer.port) (IsAt size e.peer.port) (node f n e.peer.v e.peer.port) (wider (hop_size f n e.peer.v) size e.peer.port le.0) (node-fits f own n e.peer.v e.peer.port)),
+        (all-map (IsAt (hop_size f n e.peer.v) e.peer.port) (IsAt size e.peer.port) (node f n e.peer.v e.peer.port) (wider (hop_size f n e.peer.v) size e.peer.port le.0) (node-fits f own n e.peer.v e.peer.port)),
     arrive-each size es le.1 nodes.1,
   )
 

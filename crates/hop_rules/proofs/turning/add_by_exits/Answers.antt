@@ -26,11 +26,11 @@ loop-exit-preserved g c =
     let e = get_or es i none in
     record {
       made = λ kept l f.
-        exits-made a.below.now c.args.turns.now es i none e c.loop-exit-test.true refl a.at a.given.now.exits kept c.come_there-come.result.now c.come_there-come.ensures a.size c.args.fresh.now.items c.loop-exit.fresh.items
-        c.add_all_by_right.new.fresh.items (c.loop-exit.invariant.made kept l f) (c.in_ok-add_all_by_right.ensures.pushed kept l f);
+          exits-made a.below.now c.args.turns.now es i none e c.loop-exit-test.true refl a.at a.given.now.exits kept c.come_there-come.result.now c.come_there-come.ensures a.size c.args.fresh.now.items c.loop-exit.fresh.items
+          c.add_all_by_right.new.fresh.items (c.loop-exit.invariant.made kept l f) (c.in_ok-add_all_by_right.ensures.pushed kept l f);
       steps = λ kept l f.
-        exits-steps a.below.now c.args.turns.now es i none e c.loop-exit-test.true refl a.at a.given.now.exits kept c.come_there-come.result.now c.come_there-come.ensures c.args.steps.now c.loop-exit.steps c.add_all_by_right.new.steps
-        (c.loop-exit.invariant.steps kept l f) (c.in_ok-add_all_by_right.ensures.steps kept l f);
+          exits-steps a.below.now c.args.turns.now es i none e c.loop-exit-test.true refl a.at a.given.now.exits kept c.come_there-come.result.now c.come_there-come.ensures c.args.steps.now c.loop-exit.steps c.add_all_by_right.new.steps
+          (c.loop-exit.invariant.steps kept l f) (c.in_ok-add_all_by_right.ensures.steps kept l f);
     }
 
 pub returns-clause-pushed : goal.returns-clause-pushed

@@ -50,4 +50,4 @@ returns-in-Ok-clause-change c =
     let p = c.settle-left.ensures.settled c.self.inside.store c.deref.result.now c.args.fresh.items r in
     let l = c.settle-left.ensures.left c.self.inside.store c.deref.result.now c.args.fresh.items r in
     subst (λ (n : NodeOf). IsChange n.held c.settle-left.new.store c.args.lost.now c.args.fresh.items c.in-Ok.turn c.settle-left.result.items) c.self.view_is
-    (ready-change c.self.inside.store c.ready.new.store c.settle-left.new.store c.deref.result.now c.args.fresh.items c.in_ok-change.change r p c.args.lost.now (c.deref.ensures.value ∙ c.in_ok-gone.ensures) c.in-Ok.turn c.in-Ok.ensures c.settle-left.result.items l)
+    (ready-change c.self.inside.store c.ready.new.store c.settle-left.new.store c.deref.result.now c.args.fresh.items c.in_ok-change.change r p c.args.lost.now (c.deref.ensures.value ∙ c.in_ok-gone.ensures) c.in-Ok.turn c.in-Ok.ensures c.settle-left.result.items l c.len-count.ensures.rising)
