@@ -1,5 +1,5 @@
 -- What the node of a port makes of the rules of its virtual switch and of those of the nodes to which links lead.
-use Rattle.std.specs.Prelude.{◌≡◌, ℕ, Bool, true, false, ◌*◌, ◌<◌, ◌^◌, ◌==◌, ◌&&◌, Option, Some, None, List, [], ◌∷◌, if◌then◌else◌, IsPermutation, filter, filter_map, length, map, not, flat_map, option_map, slice_get}
+use Rattle.std.specs.Prelude.{◌≡◌, ℕ, Bool, true, false, ◌*◌, ◌<◌, ◌^◌, ◌==◌, ◌&&◌, Option, Some, None, List, [], ◌∷◌, if◌then◌else◌, IsPermutation, filter_map, length, map, flat_map, option_map, slice_get}
 use Rattle.std.specs.List.{AllByRecursion, list_any}
 use Rattle.std.specs.Option.{option_and_then, option_map_or}
 use Rattle.list_change.specs.Pairing.{Way, by_one, made}
