@@ -82,6 +82,8 @@ pub(crate) fn show_all(
     let ids = store.ids()?;
     index.reserve(ids.len())?;
     show(index, op, side, store, &ids);
+    // What was put in is sorted into groups now, so that no question looks at all of it.
+    index.reserve(0)?;
     Ok(())
 }
 
