@@ -6,11 +6,11 @@ ghost use Rattle.std.specs.Prelude.{◌≡◌, ◌<◌};
 
 use covisor_proxy::{MEMORY, run};
 use cv_io::{DiskFiles, Incoming, Memory, Outgoing, Steps};
+use std::env;
 use std::io::{self, ErrorKind};
 use std::marker::Brand;
 use std::process::ExitCode;
 use std::sync::ledger::{Blank, Ledger};
-use std::env;
 
 /// The words after the program's name. Where one isn't text there are none, which is no form of the command line
 /// either.

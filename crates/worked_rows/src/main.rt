@@ -30,7 +30,10 @@ fn show(rt: &HostRuntime, row: &Row, words: &str) -> io::Result<()> {
     let (written, status) = row
         .run::<Brand>(rt.alloc(), words, Blank::new(1))
         .map_err(wanted)?;
-    print!(rt; "{}", str::from_utf8(written.as_slice()).unwrap_or("(not text)\n"))?;
+    print!(rt;
+        "{}",
+        str::from_utf8(written.as_slice()).unwrap_or("(not text)\n")
+    )?;
     println!(rt; "status {status}")
 }
 

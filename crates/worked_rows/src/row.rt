@@ -127,7 +127,12 @@ impl Row {
     }
 
     /// Runs the program with these words: what it wrote, and its status.
-    pub fn run<G: Ledger>(&self, alloc: Global, words: &str, blank: Blank) -> Result<(Bytes, u8), Memory>
+    pub fn run<G: Ledger>(
+        &self,
+        alloc: Global,
+        words: &str,
+        blank: Blank,
+    ) -> Result<(Bytes, u8), Memory>
         requires { (blank.name ≡ G.name) × (blank.parts ≡ G.parts) × (0 < blank.parts) }
     {
         let words = words_of(alloc, words)?;
