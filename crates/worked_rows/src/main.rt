@@ -10,15 +10,11 @@
 //!     $ covisor WORDS..   runs the program with these words, over the file and the script
 #![tactic(auto)]
 
-ghost use Rattle.std.specs.Prelude.{◌≡◌, ◌<◌};
-
 mod row;
 
 use cv_io::Memory;
-use row::Row;
+use row::{Row, play};
 use std::io::{self, ErrorKind};
-use std::marker::Brand;
-use std::sync::ledger::Blank;
 
 fn wanted(_memory: Memory) -> io::Error {
     io::Error::from(ErrorKind::OutOfMemory)
@@ -27,9 +23,7 @@ fn wanted(_memory: Memory) -> io::Error {
 /// Runs the program and prints what it writes, and its status.
 fn show(rt: &HostRuntime, row: &Row, words: &str) -> io::Result<()> {
     println!(rt; "$ covisor{words}")?;
-    let (written, status) = row
-        .run::<Brand>(rt.alloc(), words, Blank::new(1))
-        .map_err(wanted)?;
+    let (written, status) = play(rt.alloc(), row, words).map_err(wanted)?;
     print!(rt;
         "{}",
         str::from_utf8(written.as_slice()).unwrap_or("(not text)\n")

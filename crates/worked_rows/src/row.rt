@@ -4,6 +4,7 @@ ghost use Rattle.std.specs.Prelude.{◌≡◌, ◌<◌};
 use covisor_proxy::run;
 use cv_io::{Bytes, List, MemFile, MemFiles, MemSink, MemSource, Memory, Steps, Text};
 use std::alloc::Global;
+use std::marker::Brand;
 use std::sync::ledger::{Blank, Ledger};
 
 /// Where lines go.
@@ -125,29 +126,34 @@ impl Row {
         }
         Ok(MemFiles::new(files, first_if(alloc, self.fails_file)?))
     }
+}
 
-    /// Runs the program with these words: what it wrote, and its status.
-    pub fn run<G: Ledger>(
-        &self,
-        alloc: Global,
-        words: &str,
-        blank: Blank,
-    ) -> Result<(Bytes, u8), Memory>
-        requires { (blank.name ≡ G.name) × (blank.parts ≡ G.parts) × (0 < blank.parts) }
-    {
-        let words = words_of(alloc, words)?;
-        let mut files = self.files(alloc)?;
-        let mut input = MemSource::new(self.script.copied()?, first_if(alloc, self.fails_script)?);
-        let mut out = MemSink::new(Bytes::new(alloc), first_if(alloc, self.fails_write)?);
-        let mut steps = Steps::<G>::new(blank);
-        let status = run(
-            alloc,
-            words.as_slice(),
-            &mut files,
-            &mut input,
-            &mut out,
-            &mut steps,
-        );
-        Ok((out.held, status))
-    }
+/// Runs the program with these words: what it wrote, and its status.
+pub fn play(alloc: Global, row: &Row, words: &str) -> Result<(Bytes, u8), Memory> {
+    play_counted::<Brand>(alloc, row, words, Blank::new(1))
+}
+
+/// The same, with a counter of steps of this ledger.
+fn play_counted<G: Ledger>(
+    alloc: Global,
+    row: &Row,
+    words: &str,
+    blank: Blank,
+) -> Result<(Bytes, u8), Memory>
+    requires { (blank.name ≡ G.name) × (blank.parts ≡ G.parts) × (0 < blank.parts) }
+{
+    let words = words_of(alloc, words)?;
+    let mut files = row.files(alloc)?;
+    let mut input = MemSource::new(row.script.copied()?, first_if(alloc, row.fails_script)?);
+    let mut out = MemSink::new(Bytes::new(alloc), first_if(alloc, row.fails_write)?);
+    let mut steps = Steps::<G>::new(blank);
+    let status = run(
+        alloc,
+        words.as_slice(),
+        &mut files,
+        &mut input,
+        &mut out,
+        &mut steps,
+    );
+    Ok((out.held, status))
 }
