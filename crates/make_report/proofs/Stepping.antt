@@ -16,7 +16,8 @@ use Rattle.script_text.specs.declared.form.Form.{Form}
 use Rattle.script_text.specs.declared.form.Form.TheVariants.{Replay}
 use Rattle.make_report.specs.Bench.{IsBench, bench_read}
 use Rattle.make_report.specs.Counting.{counted, nothing}
-use Rattle.make_report.specs.Making.{Tally, after_line, after_lines, first, made_of, summary_in, summary_over, told, with_line}
+use Rattle.make_report.specs.Making.{Tally, after_line, after_lines, first, made_of, summary_in, summary_over}
+use Rattle.make_report.specs.Making.{told, with_line}
 use Rattle.make_report.specs.declared.counting.Counts.{Counts}
 
 -- ---- one line
@@ -34,7 +35,8 @@ pub counts_kept : (refused : Option Kind) (kind : Kind) (n m : Counts) (line tex
     → m ≡ n → m ≡ counted_unless refused n line text
 counts_kept refused kind n m line text some kept = rw (some, kept) refl
 
-with_read : (refused : Option Kind) (did : Result Played Kind) (before after : Progress) (n : Counts) (line text : List ℕ)
+with_read : (refused : Option Kind) (did : Result Played Kind) (before after : Progress) (n : Counts)
+    (line text : List ℕ)
     → Takes refused did (length line + 1) before after [] text
     → record { progress = after; counts = counted_unless refused n line text }
     ≡ with_line did line (record { progress = before; counts = n })
@@ -51,9 +53,10 @@ pub line_taken : (form : Form) (p : PolicyOf) (refused : Option Kind) (before af
     → record { progress = at; counts = m } ≡ after_line p (record { progress = before; counts = n }) line
 unfolding after_line
 line_taken form p refused before after at n m bytes line old text used replays same long empty takes stands counts =
-    let taken_so : Takes refused (taken Replay p before line (length line + 1)) (length line + 1) before after [] text =
+    let did = taken Replay p before line (length line + 1) in
+    let taken_so : Takes refused did (length line + 1) before after [] text =
     rw replays at (rw same at (rw long at (rw empty at takes))) in
-    rw (stands, counts) (with_read refused (taken Replay p before line (length line + 1)) before after n line text taken_so)
+    rw (stands, counts) (with_read refused did before after n line text taken_so)
 
 -- ---- all lines
 
@@ -76,7 +79,10 @@ behind_long done x (suc n) = ap suc (behind_long (done + 1) (after x) n)
 
 -- three lines, and a line for each message
 pub made_long : (seed n : ℕ) → length (made seed n) ≡ n + 3
-made_long seed n = let rest = behind_long 0 (start_number seed) n in omega (arith, length-append opening (lines_behind 0 (start_number seed) n), rest)
+made_long seed n =
+    let x = start_number seed in
+    let rest = behind_long 0 x n in
+    omega (arith, length-append opening (lines_behind 0 x n), rest)
 
 -- what is told of all lines
 pub told_of : (p q : PolicyOf) (n rules : ℕ) (begun at : Progress) (zero_counts counts : Counts) (lines : List (List ℕ))
@@ -86,7 +92,8 @@ pub told_of : (p q : PolicyOf) (n rules : ℕ) (begun at : Progress) (zero_count
     → record { lines = n; accepted = counts.accepted; rules = rules; sent = counts.sent } ≡ summary_in p lines
 unfolding summary_in
 told_of p q n rules begun at zero_counts counts lines long same begins none all count =
-    let all_so : record { progress = at; counts = counts } ≡ after_lines p (first p) lines = rw same at (rw begins at (rw none at all)) in
+    let all_so : record { progress = at; counts = counts } ≡ after_lines p (first p) lines =
+    rw same at (rw begins at (rw none at all)) in
     rw (long, count) (ap (told p (length lines)) all_so)
 
 pub summary_long : (p : PolicyOf) (lines : List (List ℕ)) → (summary_in p lines).lines ≡ length lines

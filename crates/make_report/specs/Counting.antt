@@ -18,7 +18,8 @@ is_accepted line report = begins (codes "from ") line && (lines_with (codes "den
 abbrev pub nothing : Counts
 nothing = record { accepted = 0; sent = 0 }
 
--- a line and its report are counted: whether its message was accepted, and the messages that were put to the switch `s1`
+-- a line and its report are counted: whether its message was accepted, and the messages that were put to the switch,
+-- `s1`
 unfoldable pub counted : Counts → List ℕ → List ℕ → Counts
 counted n line report = record {
   accepted = n.accepted + (if is_accepted line report then 1 else 0);

@@ -5,5 +5,6 @@
 mod counting;
 mod making;
 mod policy;
+pub mod worked;
 
 pub use making::make;
