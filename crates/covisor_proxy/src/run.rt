@@ -1,110 +1,105 @@
 //! The top call.
-ghost use Rattle.std.specs.Prelude.{◌≡◌, ◌↔◌, ◌⊎◌, ◌++◌, codes, false};
-ghost use Rattle.cv_io.specs.Outside.{Rose};
-ghost use Rattle.covisor_proxy.specs.Ended.{IsAtEnd};
-ghost use Rattle.covisor_proxy.specs.Reported.{IsWritten, as_line};
-ghost use Rattle.covisor_proxy.specs.Written.{Appends};
-ghost use Rattle.std.specs.Fmt.{decimal};
-ghost use Rattle.covisor_proxy.specs.Words.{is_replay};
 
-use crate::replay::replay;
-use crate::report::{Report, write_all};
-use crate::stop::Stop;
-use crate::words;
-use cv_io::{Memory, Sink, Source, Steps};
+use crate::ending::{conclude, write_fault};
+use crate::lines::Lines;
+use crate::opening::{NoPolicy, open};
+use crate::replay::replay_over;
+use crate::status::Status;
+use crate::words::{Command, command};
+use cv_io::{Files, Sink, Source, Steps, Text};
+use policy_file::{Policy, PolicyFault, built_in};
+use replay_report::Player;
+use script_text::Form;
 use std::alloc::Global;
 use std::sync::ledger::Ledger;
-
-/// The script was read to its end and every line done.
-pub const DONE: u8 = 0;
-
-/// The words are no form of the command line.
-pub const USAGE: u8 = 2;
-
-/// A line of the script could not be done; those before it are.
-pub const SCRIPT: u8 = 4;
-
-/// The script could not be read.
-pub const READ: u8 = 5;
-
-/// The report could not be written.
-pub const WRITE: u8 = 6;
 
 /// Want of memory.
 pub const MEMORY: u8 = 10;
 
-/// Does what the words after the program's name say, and answers the exit status. `replay` does the
-/// lines of the script that `input` gives and writes the report to `out`; its last line is
-/// `end lines=N`, or says the fault.
-pub fn run<S: Source, K: Sink, G: Ledger>(
+/// Does what the words after the program's name say, and answers the exit status.
+pub fn run<F: Files, S: Source, K: Sink, G: Ledger>(
     alloc: Global,
     words: &[String],
+    files: &mut F,
     input: &mut S,
     out: &mut K,
-    steps: &mut Steps<G>,
-) -> u8
-    ensures usage { (result ≡ USAGE) ↔ (is_replay words.now ≡ false) }
-    ensures usage_line { result ≡ USAGE → IsWritten (K.held out.old) (K.held out.new) (K.faults out.old) (K.faults out.new) (codes "fault usage\n") }
-    ensures read_fault { result ≡ READ → Rose (S.faults input.old) (S.faults input.new) }
-    ensures write_fault { result ≡ WRITE → Rose (K.faults out.old) (K.faults out.new) }
-    ensures whole { result ≡ DONE → IsAtEnd (S.remaining input.new) }
-    ensures read { result ≡ DONE → S.faults input.new ≡ S.faults input.old }
-    ensures written { result ≡ DONE → K.faults out.new ≡ K.faults out.old }
-{
-    if !words::is_replay(words) {
-        return faulty(out, b"fault usage\n", USAGE);
-    }
-    let mut report = Report::new(alloc);
-    match replay(alloc, input, out, &mut report, steps) {
-        Ok(lines) => ended(alloc, lines, out, &mut report),
-        Err(Stop::Unbuilt { number }) => unbuilt(alloc, number, out, &mut report),
-        Err(Stop::Read) => faulty(out, b"fault read\n", READ),
-        Err(Stop::Write) => WRITE,
-        Err(Stop::Memory) => MEMORY,
-    }
-}
-
-/// Writes the last line of a fault. The status stays where that fails.
-fn faulty<K: Sink>(out: &mut K, line: &[u8], status: u8) -> u8
-    ensures status { result ≡ status }
-    ensures written { IsWritten (K.held out.old) (K.held out.new) (K.faults out.old) (K.faults out.new) line.now }
-{
-    let _written = write_all(out, line);
-    status
-}
-
-/// Writes what waits and the last line of a script that was done.
-fn ended<K: Sink>(alloc: Global, lines: u64, out: &mut K, report: &mut Report) -> u8
-    ensures statuses { (result ≡ DONE) ⊎ (result ≡ WRITE) ⊎ (result ≡ MEMORY) }
-    ensures last_line { result ≡ DONE → Appends (K.held out.old) (K.held out.new) (report.old.waiting ++ as_line (codes "end lines=" ++ decimal lines)) }
-    ensures written { result ≡ DONE → K.faults out.new ≡ K.faults out.old }
-    ensures write_fault { result ≡ WRITE → Rose (K.faults out.old) (K.faults out.new) }
-{
-    let Ok(last) = format!(in alloc; "end lines={lines}") else {
-        return MEMORY;
+    _steps: &mut Steps<G>,
+) -> u8 {
+    let status = match command(alloc, words) {
+        Ok(Some(command)) => obey(alloc, command, files, input, out),
+        Ok(None) => write_fault(out, b"fault usage\n", Status::Usage),
+        Err(_) => Status::Memory,
     };
-    if report.line(last.as_str()).is_err() {
-        return MEMORY;
-    }
-    match report.flush(out) {
-        Ok(()) => DONE,
-        Err(_) => WRITE,
+    status.code()
+}
+
+fn obey<F: Files, S: Source, K: Sink>(
+    alloc: Global,
+    command: Command,
+    files: &mut F,
+    input: &mut S,
+    out: &mut K,
+) -> Status {
+    match command {
+        Command::Replay => match built_in(alloc) {
+            Ok(policy) => replay(alloc, Form::Replay, policy, input, out),
+            Err(_) => Status::Memory,
+        },
+        Command::ReplayPolicy { name } => replay_file(alloc, Form::Replay, &name, files, input, out),
+        Command::ExplainPolicy { name } => replay_file(alloc, Form::Explain, &name, files, input, out),
+        Command::Make { .. } => Status::Memory,
     }
 }
 
-/// Writes what waits and the last line of a script that stops at a line.
-fn unbuilt<K: Sink>(alloc: Global, number: u64, out: &mut K, report: &mut Report) -> u8
-    ensures statuses { (result ≡ SCRIPT) ⊎ (result ≡ WRITE) ⊎ (result ≡ MEMORY) }
-    ensures write_fault { result ≡ WRITE → Rose (K.faults out.old) (K.faults out.new) }
-{
-    let Ok(last) = format!(in alloc; "fault line={number} kind=unbuilt\n") else {
-        return MEMORY;
+/// Replays a script over the policy of a file.
+fn replay_file<F: Files, S: Source, K: Sink>(
+    alloc: Global,
+    form: Form,
+    name: &Text,
+    files: &mut F,
+    input: &mut S,
+    out: &mut K,
+) -> Status {
+    match open(alloc, files, name) {
+        Ok(policy) => replay(alloc, form, policy, input, out),
+        Err(NoPolicy::Absent) => tell_absent(alloc, name, out),
+        Err(NoPolicy::Unread) => write_fault(out, b"fault read\n", Status::Read),
+        Err(NoPolicy::Refused { fault }) => tell_refused(alloc, &fault, out),
+        Err(NoPolicy::Memory) => Status::Memory,
+    }
+}
+
+fn tell_absent<K: Sink>(alloc: Global, name: &Text, out: &mut K) -> Status {
+    match format!(in alloc; "fault absent {name}\n") {
+        Ok(last) => write_fault(out, last.as_bytes(), Status::Absent),
+        Err(_) => Status::Memory,
+    }
+}
+
+fn tell_refused<K: Sink>(alloc: Global, fault: &PolicyFault, out: &mut K) -> Status {
+    let Ok(terse) = fault.terse(alloc) else {
+        return Status::Memory;
     };
-    match report.flush(out) {
-        Ok(()) => faulty(out, last.as_bytes(), SCRIPT),
-        Err(_) => WRITE,
+    match format!(in alloc; "fault policy {terse}\n") {
+        Ok(last) => write_fault(out, last.as_bytes(), Status::Policy),
+        Err(_) => Status::Memory,
     }
 }
 
-#[cfg(test)]
-mod tests;
+/// Replays a script over a policy.
+fn replay<S: Source, K: Sink>(
+    alloc: Global,
+    form: Form,
+    policy: Policy,
+    input: &mut S,
+    out: &mut K,
+) -> Status {
+    let Ok(mut lines) = Lines::new(alloc) else {
+        return Status::Memory;
+    };
+    let Ok(mut player) = Player::open(alloc, form, policy) else {
+        return Status::Memory;
+    };
+    let outcome = replay_over(&mut player, &mut lines, input, out);
+    conclude(alloc, &mut player, outcome, out)
+}

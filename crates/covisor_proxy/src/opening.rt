@@ -1,0 +1,37 @@
+//! The policy that a file holds.
+
+use cv_io::{FileFault, Files, Text};
+use policy_file::{Policy, PolicyFault};
+use std::alloc::Global;
+
+/// Why there is no policy of a name.
+#[derive(Debug, Drop)]
+pub(crate) enum NoPolicy {
+    Absent,
+    Unread,
+    Refused { fault: PolicyFault },
+    Memory,
+}
+
+/// The policy of a file.
+pub(crate) fn open<F: Files>(
+    alloc: Global,
+    files: &mut F,
+    name: &Text,
+) -> Result<Policy, NoPolicy> {
+    match files.read(name) {
+        Ok(bytes) => read_policy(alloc, bytes.as_slice()),
+        Err(FileFault::Absent) => Err(NoPolicy::Absent),
+        Err(FileFault::Failed) => Err(NoPolicy::Unread),
+        Err(FileFault::Memory) => Err(NoPolicy::Memory),
+    }
+}
+
+/// The policy that bytes state.
+fn read_policy(alloc: Global, bytes: &[u8]) -> Result<Policy, NoPolicy> {
+    match policy_file::read(alloc, bytes) {
+        Ok(policy) => Ok(policy),
+        Err(PolicyFault::Memory) => Err(NoPolicy::Memory),
+        Err(fault) => Err(NoPolicy::Refused { fault }),
+    }
+}
