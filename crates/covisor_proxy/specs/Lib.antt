@@ -1,1 +1,8 @@
--- none yet
+pub mod Words
+pub mod Written
+pub mod Chunks
+pub mod Asked
+pub mod Outcomes
+pub mod Opening
+pub mod Following
+pub mod Runs

@@ -1,4 +1,12 @@
 //! The last line of a report.
+ghost use Rattle.std.specs.Prelude.{◌≡◌, ◌≢◌, ◌+◌, IsOk, List, Option, ℕ};
+ghost use Rattle.policy_file.specs.Policies.{PolicyOf};
+ghost use Rattle.replay_report.specs.Players.{progress_of, reported};
+ghost use Rattle.replay_report.specs.Reports.{cut_report_of, end_text, refusal_text, report_of};
+ghost use Rattle.replay_report.specs.Takings.{as_line};
+ghost use Rattle.script_text.specs.declared.form.Form.{Form};
+ghost use Rattle.covisor_proxy.specs.Following.{EndsWith, Reaches, StopsWith, Writes};
+ghost use Rattle.covisor_proxy.specs.Outcomes.{Ends, Moment, moment};
 
 use crate::status::Status;
 use crate::stop::Stop;
@@ -8,18 +16,27 @@ use replay_report::{Kind, Player};
 use std::alloc::Global;
 
 /// Writes the last line of a fault. The status stays where that fails.
-pub(crate) fn write_fault<K: Sink>(out: &mut K, line: &[u8], status: Status) -> Status {
+pub(crate) fn write_fault<K: Sink>(out: &mut K, line: &[u8], status: Status) -> Status
+    ensures status { result ≡ status }
+    ensures writes { Writes (K.held out.old) (K.held out.new) (K.faults out.old) (K.faults out.new) line.now }
+{
     let _written = write_all(out, line);
     status
 }
 
-/// Writes what still waits of the report, and its last line.
+/// Writes what still waits of the report of a replay that ended so, and its last line.
 pub(crate) fn conclude<K: Sink>(
     alloc: Global,
     player: &mut Player,
     outcome: Result<(), Stop>,
     out: &mut K,
-) -> Status {
+) -> Status
+    ensures ends { (form : Form) (p : PolicyOf) (old : Moment) (left : Option (List ℕ)) (reads : ℕ)
+        → Reaches outcome form p (progress_of player.old) (reported player.old) old (moment left reads (K.held out.old) (K.faults out.old))
+        → Ends result (report_of form p) (cut_report_of form p) old (moment left reads (K.held out.new) (K.faults out.new)) }
+    ensures form { result ≢ Status.Usage }
+    ensures done { result ≡ Status.Done → IsOk outcome }
+{
     match outcome {
         Ok(()) => end(alloc, player, out),
         Err(Stop::Refused { kind }) => refuse(alloc, player, kind, out),
@@ -30,7 +47,10 @@ pub(crate) fn conclude<K: Sink>(
 }
 
 /// A script that was read to its end.
-fn end<K: Sink>(alloc: Global, player: &mut Player, out: &mut K) -> Status {
+fn end<K: Sink>(alloc: Global, player: &mut Player, out: &mut K) -> Status
+    ensures { EndsWith result (K.held out.old) (K.held out.new) (K.faults out.old) (K.faults out.new)
+        (reported player.old) (as_line (end_text (progress_of player.old).number)) }
+{
     let lines = player.number();
     let Ok(last) = format!(in alloc; "end lines={lines}\n") else {
         return Status::Memory;
@@ -45,7 +65,10 @@ fn end<K: Sink>(alloc: Global, player: &mut Player, out: &mut K) -> Status {
 }
 
 /// A script that stops at a line.
-fn refuse<K: Sink>(alloc: Global, player: &mut Player, kind: Kind, out: &mut K) -> Status {
+fn refuse<K: Sink>(alloc: Global, player: &mut Player, kind: Kind, out: &mut K) -> Status
+    ensures { StopsWith result (K.held out.old) (K.held out.new) (K.faults out.old) (K.faults out.new)
+        (reported player.old) (as_line (refusal_text ((progress_of player.old).number + 1) kind)) }
+{
     let line = player.number() + 1;
     let word = kind.word();
     let Ok(last) = format!(in alloc; "fault line={line} kind={word}\n") else {

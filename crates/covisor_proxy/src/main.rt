@@ -5,12 +5,14 @@
 ghost use Rattle.std.specs.Prelude.{◌≡◌, ◌<◌};
 
 mod ending;
+mod forms;
 mod lines;
 mod opening;
 mod replay;
 mod run;
 mod status;
 mod stop;
+mod telling;
 mod words;
 mod writing;
 

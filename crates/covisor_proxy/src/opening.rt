@@ -1,4 +1,5 @@
 //! The policy that a file holds.
+ghost use Rattle.covisor_proxy.specs.Opening.{Opens, Reads};
 
 use cv_io::{FileFault, Files, Text};
 use policy_file::{Policy, PolicyFault};
@@ -18,7 +19,9 @@ pub(crate) fn open<F: Files>(
     alloc: Global,
     files: &mut F,
     name: &Text,
-) -> Result<Policy, NoPolicy> {
+) -> Result<Policy, NoPolicy>
+    ensures { Opens (F.files files.old) (F.faults files.old) (F.faults files.new) name.now result }
+{
     match files.read(name) {
         Ok(bytes) => read_policy(alloc, bytes.as_slice()),
         Err(FileFault::Absent) => Err(NoPolicy::Absent),
@@ -28,7 +31,10 @@ pub(crate) fn open<F: Files>(
 }
 
 /// The policy that bytes state.
-fn read_policy(alloc: Global, bytes: &[u8]) -> Result<Policy, NoPolicy> {
+#[tactic(auto, unfolding(crate::specs::Asked::stated))]
+fn read_policy(alloc: Global, bytes: &[u8]) -> Result<Policy, NoPolicy>
+    ensures { Reads bytes.now result }
+{
     match policy_file::read(alloc, bytes) {
         Ok(policy) => Ok(policy),
         Err(PolicyFault::Memory) => Err(NoPolicy::Memory),

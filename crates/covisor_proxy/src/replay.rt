@@ -1,4 +1,9 @@
 //! A replay: a script is read line by line, and its report is written as it comes.
+ghost use Rattle.std.specs.Prelude.{◌≡◌, ◌≤◌, ◌+◌, [], IfErr, IfOk, None, OnOk, length};
+ghost use Rattle.replay_report.specs.Players.{Takes, form_of, plan_of, progress_of, reported};
+ghost use Rattle.replay_report.specs.Reports.{start, taken};
+ghost use Rattle.covisor_proxy.specs.Following.{Closes, ClosesNot, Does, Halts, Leaves, Reaches, Reads, ReadsNot};
+ghost use Rattle.covisor_proxy.specs.Outcomes.{moment};
 
 use crate::lines::{Lines, Taken};
 use crate::stop::Stop;
@@ -9,13 +14,20 @@ use replay_report::{Kind, LINE, Player};
 /// How many bytes of the report wait before they are written, though more of the script is there.
 const FULL: usize = 65_536;
 
-/// Replays a script up to its end, but for its last line in the report.
+/// Replays a script up to its end. What is reported of it last waits.
 pub(crate) fn replay_over<S: Source, K: Sink>(
     player: &mut Player,
     lines: &mut Lines,
     input: &mut S,
     out: &mut K,
-) -> Result<(), Stop> {
+) -> Result<(), Stop>
+    requires begins { progress_of player.old ≡ start (plan_of player.old) }
+    requires silent { reported player.old ≡ [] }
+    requires unread { lines.old ≡ record { line = []; unread = [] } }
+    ensures reaches { Reaches result (form_of player.old) (plan_of player.old) (progress_of player.new) (reported player.new)
+        (moment (S.remaining input.old) (S.faults input.old) (K.held out.old) (K.faults out.old))
+        (moment (S.remaining input.new) (S.faults input.new) (K.held out.new) (K.faults out.new)) }
+{
     for _ in 0..u64::MAX {
         match lines.take()? {
             Taken::Whole => whole_line(player, lines, out)?,
@@ -30,7 +42,18 @@ pub(crate) fn replay_over<S: Source, K: Sink>(
 }
 
 /// Does a line that takes so many bytes of the script.
-fn do_line(player: &mut Player, line: &[u8], used: usize) -> Result<(), Stop> {
+fn do_line(player: &mut Player, line: &[u8], used: usize) -> Result<(), Stop>
+    requires some { 1 ≤ used }
+    requires short { used ≤ length line.now + 1 }
+    ensures takes { OnOk result (Takes None
+        (taken (form_of player.old) (plan_of player.old) (progress_of player.old) line.now used)
+        used (progress_of player.old) (progress_of player.new) (reported player.old) (reported player.new)) }
+    ensures leaves { IfErr result (λ stop. Leaves stop
+        (taken (form_of player.old) (plan_of player.old) (progress_of player.old) line.now used)
+        used (progress_of player.old) (progress_of player.new) (reported player.old) (reported player.new)) }
+    ensures form { form_of player.new ≡ form_of player.old }
+    ensures plan { plan_of player.new ≡ plan_of player.old }
+{
     match player.line(line, used)? {
         None => Ok(()),
         Some(kind) => Err(Stop::Refused { kind }),
@@ -38,7 +61,21 @@ fn do_line(player: &mut Player, line: &[u8], used: usize) -> Result<(), Stop> {
 }
 
 /// Does a line whose line feed was read.
-fn whole_line<K: Sink>(player: &mut Player, lines: &mut Lines, out: &mut K) -> Result<(), Stop> {
+fn whole_line<K: Sink>(player: &mut Player, lines: &mut Lines, out: &mut K) -> Result<(), Stop>
+    ensures does { OnOk result (Does
+        (taken (form_of player.old) (plan_of player.old) (progress_of player.old) lines.old.line (length lines.old.line + 1))
+        (length lines.old.line + 1) (progress_of player.old) (progress_of player.new)
+        (K.held out.old) (K.held out.new) (reported player.old) (reported player.new)) }
+    ensures halts { IfErr result (λ stop. Halts stop
+        (taken (form_of player.old) (plan_of player.old) (progress_of player.old) lines.old.line (length lines.old.line + 1))
+        (progress_of player.old) (progress_of player.new)
+        (K.held out.old) (K.held out.new) (K.faults out.old) (K.faults out.new)
+        (reported player.old) (reported player.new)) }
+    ensures next { OnOk result (lines.new ≡ record lines.old { line = [] }) }
+    ensures quiet { OnOk result (K.faults out.new ≡ K.faults out.old) }
+    ensures form { form_of player.new ≡ form_of player.old }
+    ensures plan { plan_of player.new ≡ plan_of player.old }
+{
     do_line(player, lines.line(), lines.line().len() + 1)?;
     lines.clear();
     if player.report().len() < FULL {
@@ -48,7 +85,12 @@ fn whole_line<K: Sink>(player: &mut Player, lines: &mut Lines, out: &mut K) -> R
 }
 
 /// Does what stands behind the last line feed, unless it is empty.
-fn last_line(player: &mut Player, line: &[u8]) -> Result<(), Stop> {
+fn last_line(player: &mut Player, line: &[u8]) -> Result<(), Stop>
+    ensures closes { OnOk result (Closes (form_of player.old) (plan_of player.old) line.now
+        (progress_of player.old) (progress_of player.new) (reported player.old) (reported player.new)) }
+    ensures refused { IfErr result (λ stop. ClosesNot stop (form_of player.old) (plan_of player.old) line.now
+        (progress_of player.old) (progress_of player.new) (reported player.old) (reported player.new)) }
+{
     if line.is_empty() {
         return Ok(());
     }
@@ -61,7 +103,19 @@ fn more<S: Source, K: Sink>(
     lines: &mut Lines,
     input: &mut S,
     out: &mut K,
-) -> Result<bool, Stop> {
+) -> Result<bool, Stop>
+    ensures reads { IfOk result (λ going. Reads going
+        (moment (S.remaining input.old) (S.faults input.old) (K.held out.old) (K.faults out.old))
+        (moment (S.remaining input.new) (S.faults input.new) (K.held out.new) (K.faults out.new))
+        lines.old lines.new (reported player.old) (reported player.new)) }
+    ensures stops { IfErr result (λ stop. ReadsNot stop
+        (moment (S.remaining input.old) (S.faults input.old) (K.held out.old) (K.faults out.old))
+        (moment (S.remaining input.new) (S.faults input.new) (K.held out.new) (K.faults out.new))
+        lines.old.line (reported player.old) (reported player.new)) }
+    ensures progress { progress_of player.new ≡ progress_of player.old }
+    ensures form { form_of player.new ≡ form_of player.old }
+    ensures plan { plan_of player.new ≡ plan_of player.old }
+{
     if lines.line().len() > LINE {
         return Err(Stop::Refused { kind: Kind::Long });
     }

@@ -1,22 +1,34 @@
 //! The top call.
+ghost use Rattle.std.specs.Prelude.{◌≡◌, ◌≢◌, ◌↔◌, ◌⊎◌, List, None, Result, Some, true, ℕ};
+ghost use Rattle.cv_io.specs.Outside.{Rose};
+ghost use Rattle.cv_io.specs.declared.files.FileFault.{FileFault};
+ghost use Rattle.covisor_proxy.specs.Asked.{cut_report_for, report_for};
+ghost use Rattle.covisor_proxy.specs.Chunks.{IsAtEnd};
+ghost use Rattle.covisor_proxy.specs.Opening.{AnswersTo};
+ghost use Rattle.covisor_proxy.specs.Outcomes.{Ends, moment};
+ghost use Rattle.covisor_proxy.specs.Runs.{IsAbsent, IsComplete, IsRefused, Runs, has_script};
+ghost use Rattle.covisor_proxy.specs.Words.{command_of};
 
-use crate::ending::{conclude, write_fault};
-use crate::lines::Lines;
-use crate::opening::{NoPolicy, open};
-use crate::replay::replay_over;
+use crate::ending::write_fault;
+use crate::forms::{make, replay_built_in, replay_file};
 use crate::status::Status;
-use crate::words::{Command, command};
-use cv_io::{Files, Sink, Source, Steps, Text};
-use policy_file::{Policy, PolicyFault, built_in};
-use replay_report::Player;
+use crate::words::{Command, asked};
+use cv_io::{Files, Sink, Source, Steps};
 use script_text::Form;
 use std::alloc::Global;
 use std::sync::ledger::Ledger;
 
-/// Want of memory.
+/// The exit status of want of memory.
 pub const MEMORY: u8 = 10;
 
-/// Does what the words after the program's name say, and answers the exit status.
+/// Does what the words after the program's name say, and answers the exit status. `replay` and `replay POLICY` do the
+/// lines of the script that `input` gives, over the built-in policy or over that of a file, and write the report to
+/// `out`; so does `explain POLICY`, which also knows lines that ask why a packet goes where it goes. `make SEED N` does
+/// a script that it makes, and writes one line of numbers.
+///
+/// The exit status is 0 where all is done; 2 where the words are of no form; 3 where the policy file is refused; 4 at a
+/// line that isn't done; 5 where a file or the script can't be read; 6 where the report can't be written; 7 where there
+/// is no such file; 10 for want of memory. With 2, 3, 4, 5 and 7 the last line tells the fault.
 pub fn run<F: Files, S: Source, K: Sink, G: Ledger>(
     alloc: Global,
     words: &[String],
@@ -24,82 +36,66 @@ pub fn run<F: Files, S: Source, K: Sink, G: Ledger>(
     input: &mut S,
     out: &mut K,
     _steps: &mut Steps<G>,
-) -> u8 {
-    let status = match command(alloc, words) {
+) -> u8
+    ensures runs { Runs result (command_of words.now) (F.files files.old) (F.faults files.old) (F.faults files.new)
+        (moment (S.remaining input.old) (S.faults input.old) (K.held out.old) (K.faults out.old))
+        (moment (S.remaining input.new) (S.faults input.new) (K.held out.new) (K.faults out.new)) }
+    ensures usage { (result ≡ 2) ↔ (command_of words.now ≡ None) }
+    ensures refused { result ≡ 3 → IsRefused (command_of words.now) (F.files files.old) }
+    ensures absent { result ≡ 7 → IsAbsent (command_of words.now) (F.files files.old) }
+    ensures read { result ≡ 5 → Rose (F.faults files.old) (F.faults files.new) ⊎ Rose (S.faults input.old) (S.faults input.new) }
+    ensures write { result ≡ 6 → Rose (K.faults out.old) (K.faults out.new) }
+    ensures whole { result ≡ 0 → has_script (command_of words.now) ≡ true → IsAtEnd (S.remaining input.new) }
+    ensures complete { IsComplete result (command_of words.now) (F.files files.old) (F.faults files.old) (F.faults files.new)
+        (moment (S.remaining input.old) (S.faults input.old) (K.held out.old) (K.faults out.old))
+        (moment (S.remaining input.new) (S.faults input.new) (K.held out.new) (K.faults out.new)) }
+{
+    answer(alloc, words, files, input, out).code()
+}
+
+/// Does what the words say.
+fn answer<F: Files, S: Source, K: Sink>(
+    alloc: Global,
+    words: &[String],
+    files: &mut F,
+    input: &mut S,
+    out: &mut K,
+) -> Status
+    ensures ends { (file : Result (List ℕ) FileFault)
+        × AnswersTo (command_of words.now) (F.files files.old) (F.faults files.old) (F.faults files.new) file
+        × Ends result (report_for (command_of words.now) file) (cut_report_for (command_of words.now) file)
+        (moment (S.remaining input.old) (S.faults input.old) (K.held out.old) (K.faults out.old))
+        (moment (S.remaining input.new) (S.faults input.new) (K.held out.new) (K.faults out.new)) }
+    ensures usage { (result ≡ Status.Usage) ↔ (command_of words.now ≡ None) }
+    ensures whole { result ≡ Status.Done → has_script (command_of words.now) ≡ true → IsAtEnd (S.remaining input.new) }
+{
+    match asked(alloc, words) {
         Ok(Some(command)) => obey(alloc, command, files, input, out),
         Ok(None) => write_fault(out, b"fault usage\n", Status::Usage),
         Err(_) => Status::Memory,
-    };
-    status.code()
+    }
 }
 
+/// Does a command.
 fn obey<F: Files, S: Source, K: Sink>(
     alloc: Global,
     command: Command,
     files: &mut F,
     input: &mut S,
     out: &mut K,
-) -> Status {
+) -> Status
+    ensures ends { (file : Result (List ℕ) FileFault)
+        × AnswersTo (Some command) (F.files files.old) (F.faults files.old) (F.faults files.new) file
+        × Ends result (report_for (Some command) file) (cut_report_for (Some command) file)
+        (moment (S.remaining input.old) (S.faults input.old) (K.held out.old) (K.faults out.old))
+        (moment (S.remaining input.new) (S.faults input.new) (K.held out.new) (K.faults out.new)) }
+    ensures form { result ≢ Status.Usage }
+    ensures whole { result ≡ Status.Done → has_script (Some command) ≡ true → IsAtEnd (S.remaining input.new) }
+{
     match command {
-        Command::Replay => match built_in(alloc) {
-            Ok(policy) => replay(alloc, Form::Replay, policy, input, out),
-            Err(_) => Status::Memory,
-        },
+        Command::Replay => replay_built_in(alloc, input, out),
         Command::ReplayPolicy { name } => replay_file(alloc, Form::Replay, &name, files, input, out),
         Command::ExplainPolicy { name } => replay_file(alloc, Form::Explain, &name, files, input, out),
-        Command::Make { .. } => Status::Memory,
+        Command::Make { seed, count } => make(alloc, seed, count, out),
     }
-}
-
-/// Replays a script over the policy of a file.
-fn replay_file<F: Files, S: Source, K: Sink>(
-    alloc: Global,
-    form: Form,
-    name: &Text,
-    files: &mut F,
-    input: &mut S,
-    out: &mut K,
-) -> Status {
-    match open(alloc, files, name) {
-        Ok(policy) => replay(alloc, form, policy, input, out),
-        Err(NoPolicy::Absent) => tell_absent(alloc, name, out),
-        Err(NoPolicy::Unread) => write_fault(out, b"fault read\n", Status::Read),
-        Err(NoPolicy::Refused { fault }) => tell_refused(alloc, &fault, out),
-        Err(NoPolicy::Memory) => Status::Memory,
-    }
-}
-
-fn tell_absent<K: Sink>(alloc: Global, name: &Text, out: &mut K) -> Status {
-    match format!(in alloc; "fault absent {name}\n") {
-        Ok(last) => write_fault(out, last.as_bytes(), Status::Absent),
-        Err(_) => Status::Memory,
-    }
-}
-
-fn tell_refused<K: Sink>(alloc: Global, fault: &PolicyFault, out: &mut K) -> Status {
-    let Ok(terse) = fault.terse(alloc) else {
-        return Status::Memory;
-    };
-    match format!(in alloc; "fault policy {terse}\n") {
-        Ok(last) => write_fault(out, last.as_bytes(), Status::Policy),
-        Err(_) => Status::Memory,
-    }
-}
-
-/// Replays a script over a policy.
-fn replay<S: Source, K: Sink>(
-    alloc: Global,
-    form: Form,
-    policy: Policy,
-    input: &mut S,
-    out: &mut K,
-) -> Status {
-    let Ok(mut lines) = Lines::new(alloc) else {
-        return Status::Memory;
-    };
-    let Ok(mut player) = Player::open(alloc, form, policy) else {
-        return Status::Memory;
-    };
-    let outcome = replay_over(&mut player, &mut lines, input, out);
-    conclude(alloc, &mut player, outcome, out)
 }

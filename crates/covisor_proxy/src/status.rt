@@ -1,6 +1,8 @@
 //! How a run of the program ends.
+ghost use Rattle.std.specs.Prelude.{◌≡◌};
+ghost use Rattle.covisor_proxy.specs.Outcomes.{code_of};
 
-/// What a run came to; its number is the exit status.
+/// What a run came to; its code is the exit status.
 #[derive(Clone, Copy, PartialEq, Eq, Debug)]
 pub(crate) enum Status {
     /// The script was read to its end and every line done.
@@ -22,7 +24,9 @@ pub(crate) enum Status {
 }
 
 impl Status {
-    pub(crate) fn code(self) -> u8 {
+    pub(crate) fn code(self) -> u8
+        ensures { result ≡ code_of self }
+    {
         match self {
             Status::Done => 0,
             Status::Usage => 2,

@@ -1,0 +1,5 @@
+pub mod Appending
+pub mod Reading
+pub mod Going
+pub mod Ending
+pub mod Statuses
