@@ -1,0 +1,73 @@
+//! A made script, line by line.
+ghost use Rattle.std.specs.Prelude.{◌≡◌, ◌+◌, [], IfOk, OnOk, length};
+ghost use Rattle.script_text.specs.declared.form.Form.TheVariants.{Replay};
+ghost use Rattle.replay_report.specs.Players.{form_of, plan_of, reported};
+ghost use Rattle.make_report.specs.Making.{after_line, after_lines, made_of, summary_in, tally_of};
+
+use crate::counting::Counts;
+use crate::policy::policy;
+use cv_io::{Memory, Text};
+use made_script::{Made, Summary};
+use policy_file::Policy;
+use replay_report::Player;
+use script_text::Form;
+use std::alloc::Global;
+
+/// Does a line, counts what is reported of it, and forgets the report.
+fn play_line(player: &mut Player, counts: &mut Counts, line: &Text) -> Result<(), Memory>
+    requires form { form_of player.old ≡ Replay }
+    requires report { reported player.old ≡ [] }
+    ensures tally { OnOk result (tally_of player.new counts.new
+        ≡ after_line (plan_of player.old) (tally_of player.old counts.old) line.now) }
+    ensures form { OnOk result (form_of player.new ≡ Replay) }
+    ensures plan { OnOk result (plan_of player.new ≡ plan_of player.old) }
+    ensures report { OnOk result (reported player.new ≡ []) }
+{
+    match player.line(line.as_bytes(), line.len() + 1)? {
+        None => *counts = counts.count(line.as_bytes(), player.report())?,
+        Some(_) => {}
+    }
+    player.clear();
+    Ok(())
+}
+
+/// Does the lines that are left of a script, one after the other.
+fn play_lines(player: &mut Player, counts: &mut Counts, script: &mut Made) -> Result<(), Memory>
+    requires form { form_of player.old ≡ Replay }
+    requires report { reported player.old ≡ [] }
+    ensures tally { OnOk result (tally_of player.new counts.new
+        ≡ after_lines (plan_of player.old) (tally_of player.old counts.old) script.old) }
+    ensures plan { OnOk result (plan_of player.new ≡ plan_of player.old) }
+{
+    loop {
+        let Some(line) = script.next()? else {
+            return Ok(());
+        };
+        play_line(player, counts, &line)?;
+    }
+}
+
+/// What a script of so many lines gives over a policy.
+fn summary(alloc: Global, policy: Policy, mut script: Made, lines: u64) -> Result<Summary, Memory>
+    requires { lines ≡ length script }
+    ensures { IfOk result (λ summary. summary ≡ summary_in policy script) }
+{
+    let mut player = Player::open(alloc, Form::Replay, policy)?;
+    let mut counts = Counts::new();
+    play_lines(&mut player, &mut counts, &mut script)?;
+    Ok(Summary {
+        lines,
+        accepted: counts.accepted,
+        rules: player.rules()?,
+        sent: counts.sent,
+    })
+}
+
+/// What the script of a seed with so many messages gives over the policy of benchmarks.
+pub fn make(alloc: Global, seed: u64, count: u32) -> Result<Summary, Memory>
+    ensures summary { IfOk result (λ summary. summary ≡ made_of seed count) }
+    ensures lines { IfOk result (λ summary. summary.lines ≡ count + 3) }
+{
+    let script = Made::new(alloc, seed, count);
+    summary(alloc, policy(alloc)?, script, u64::from(count) + 3)
+}
