@@ -17,7 +17,7 @@ use Rattle.covisor_proxy.specs.Following.{Breaks, Comes, Does, Follows}
 use Rattle.covisor_proxy.specs.Outcomes.{Begins, Moment, bytes_of, moment}
 use Rattle.covisor_proxy.specs.Written.{Appends, AppendsSome}
 use Rattle.covisor_proxy.specs.declared.lines.Taken.TheVariants.{Whole, Part}
-use Rattle.covisor_proxy.proofs.Appending.{appends-both, appends-none, some-after, some-more}
+use Rattle.covisor_proxy.proofs.Appending.{appends_both, appends_none, some_after, some_more}
 use Rattle.covisor_proxy.proofs.Reading.{gave-both, gave-none, rest_in, script-is}
 
 -- a text before another
@@ -38,7 +38,7 @@ follows-start form p m = record {
   read = [];
   written = [];
   gave = gave-none m.left;
-  appends = appends-none m.held;
+  appends = appends_none m.held;
   goes = λ ending rest. refl;
 }
 
@@ -90,7 +90,7 @@ follows-line form p old new held writes at at' lines next w w' f g d =
       read = f.read;
       written = f.written ++ d.written;
       gave = f.gave;
-      appends = appends-both old.held new.held held f.written d.written f.appends d.appends;
+      appends = appends_both old.held new.held held f.written d.written f.appends d.appends;
       goes = λ ending rest.
         ap (λ (x : Progress). after_text ((f.written ++ d.written) ++ w') (plays_from form p ending x [] (next.unread ++ rest))) d.progress
         ∙ ap (λ (x : List ℕ). after_text x (plays_from form p ending (further (length next.line + 1) at d.played.stand) [] (next.unread ++ rest))) texts
@@ -107,7 +107,7 @@ follows-read form p old new next at lines more w f none a g same = record {
   read = f.read ++ more.unread;
   written = f.written ++ w;
   gave = gave-both old.left new.left next.left f.read more.unread f.gave g;
-  appends = appends-both old.held new.held next.held f.written w f.appends a;
+  appends = appends_both old.held new.held next.held f.written w f.appends a;
   goes = λ ending rest.
     ap (λ (x : List ℕ). after_text x (plays_from form p ending at more.line (more.unread ++ rest))) (append-nil (f.written ++ w))
     ∙ ap (λ (x : List ℕ). after_text (f.written ++ w) (plays_from form p ending at x (more.unread ++ rest))) same
@@ -162,15 +162,15 @@ begins form p old new next at lines w text last f e a =
       script = c.script;
       is = c.is;
       written = subst (AppendsSome old.held next.held) (sym whole)
-        (some-more old.held next.held (c.written ++ (w ++ text)) (last.told ++ last.last)
-        (some-after old.held new.held next.held c.written (w ++ text) c.appends a));
+        (some_more old.held next.held (c.written ++ (w ++ text)) (last.told ++ last.last)
+        (some_after old.held new.held next.held c.written (w ++ text) c.appends a));
     }
 
 pub begins-here : (form : Form) (p : PolicyOf) (old new next : Moment) (at : Progress) (lines : LinesOf) (w : List ℕ)
     → Follows form p old new at lines w → AppendsSome new.held next.held w → Begins (report_of form p) old next
 begins-here form p old new next at lines w f a =
     begins form p old new next at lines w [] (plays_from form p (plays_last form p) at lines.line (lines.unread ++ rest_in new.left)) f refl
-    (some-more new.held next.held w [] a)
+    (some_more new.held next.held w [] a)
 
 pub begins-line : (form : Form) (p : PolicyOf) (old new next : Moment) (at : Progress) (lines mid : LinesOf) (w : List ℕ) (played : Played)
     → Follows form p old new at lines w → GoesOn Whole lines mid → taken form p at mid.line (length mid.line + 1) ≡ Ok played
@@ -196,6 +196,6 @@ breaks form p old new next at lines w f none a same =
     record {
       read = f.read;
       gave = subst (λ (x : Option (List ℕ)). Gave old.left x f.read) (sym same) f.gave;
-      appends = subst (Appends old.held next.held) (sym told) (appends-both old.held new.held next.held f.written w f.appends a);
+      appends = subst (Appends old.held next.held) (sym told) (appends_both old.held new.held next.held f.written w f.appends a);
       last = ap (λ (r : Report). r.last) e;
     }

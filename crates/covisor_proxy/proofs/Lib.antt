@@ -1,5 +1,8 @@
 pub mod Appending
 pub mod Reading
 pub mod Going
-pub mod Ending
+pub mod Doing
+pub mod Reaching
+pub mod Finishing
 pub mod Statuses
+pub mod Running

@@ -1,6 +1,6 @@
 -- The forms of the command line.
 use Rattle.std.specs.Prelude.{ℕ, zero, suc, ◌==◌, ◌&&◌, Bool, false, not, List, [], ◌∷◌, Option, Some, None, codes}
-use Rattle.std.specs.Prelude.{nat_le, if◌then◌else◌}
+use Rattle.std.specs.Prelude.{length, nat_le, slice_index, if◌then◌else◌}
 use Rattle.std.specs.List.{list_all}
 use Rattle.std.specs.Str.{bytes_eq}
 use Rattle.std.specs.String.{string_bytes}
@@ -16,8 +16,7 @@ is_printable c = nat_le 32 c && nat_le c 126
 
 -- a word that can name a file: it isn't empty, doesn't begin with `-` (45), and is printable
 abbrev pub is_name : List ℕ → Bool
-is_name [] = false
-is_name (c ∷ cs) = not (c == 45) && list_all is_printable (c ∷ cs)
+is_name word = not (length word == 0) && (not (slice_index word 0 == 45) && list_all is_printable word)
 
 -- `replay`
 abbrev pub alone : List ℕ → Option Command

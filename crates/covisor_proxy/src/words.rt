@@ -1,5 +1,6 @@
 //! The command line.
 ghost use Rattle.std.specs.Prelude.{◌≡◌, ◌≢◌, IfOk, None, OnErr};
+ghost use Rattle.std.specs.List.{list_all};
 ghost use Rattle.covisor_proxy.specs.Words.{alone as alone_of, command_of, is_name as is_name_of, is_printable as is_printable_of};
 ghost use Rattle.covisor_proxy.specs.Words.{of_numbers as of_numbers_of, of_policy as of_policy_of};
 
@@ -89,10 +90,19 @@ fn of_numbers(verb: &[u8], seed: &[u8], count: &[u8]) -> Option<Command>
 fn is_name(word: &[u8]) -> bool
     ensures { result ≡ is_name_of word.now }
 {
-    match word {
-        [] => false,
-        [first, ..] => *first != b'-' && word.iter().all(|byte| is_printable(*byte)),
+    if word.is_empty() {
+        return false;
     }
+    if word[0] == b'-' {
+        return false;
+    }
+    all_printable(word)
+}
+
+fn all_printable(word: &[u8]) -> bool
+    ensures { result ≡ list_all is_printable_of word.now }
+{
+    word.iter().all(|byte| is_printable(*byte))
 }
 
 fn is_printable(byte: u8) -> bool

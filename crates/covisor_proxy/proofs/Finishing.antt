@@ -2,6 +2,7 @@
 use Rattle.std.proofs.Common.{◌≡◌, ◌⊎◌, inl, inr, ℕ, List, [], ◌∷◌, ◌++◌, Option, Some, None, Result, Ok, Err, take, codes}
 use Rattle.std.proofs.Common.{sym, ap, ◌∙◌, subst, refl, append_assoc, IsOk}
 use Rattle.std.proofs.lemmas.List.{append-nil}
+use Rattle.std.proofs.lemmas.Bool.{false≢true}
 use Rattle.cv_io.specs.Outside.{Rose}
 use Rattle.policy_file.specs.Policies.{PolicyOf}
 use Rattle.replay_report.specs.Reports.{Progress, Report, after_text, cut_report_of, end_text, lone, refusal_text, report_of}
@@ -15,7 +16,7 @@ use Rattle.covisor_proxy.specs.declared.status.Status.{Status}
 use Rattle.covisor_proxy.specs.declared.status.Status.TheVariants as statuses
 use Rattle.covisor_proxy.specs.declared.stop.Stop.{Stop}
 use Rattle.covisor_proxy.specs.declared.stop.Stop.TheVariants as stops
-use Rattle.covisor_proxy.proofs.Appending.{appends-both, appends-none, some-after, some-none}
+use Rattle.covisor_proxy.proofs.Appending.{appends_both, appends_none, some_after, some_none}
 use Rattle.covisor_proxy.proofs.Reading.{rest_in}
 
 pub script-told : (a : Option (List ℕ)) → IsScript a (rest_in a)
@@ -37,7 +38,7 @@ pub begins-none : (all : List ℕ → Report) (old new : Moment) → new.held �
 begins-none all old new e = record {
   script = rest_in old.left;
   is = script-told old.left;
-  written = subst (λ (x : Option (List ℕ)). AppendsSome old.held x (bytes_of (all (rest_in old.left)))) (sym e) (some-none old.held (bytes_of (all (rest_in old.left))));
+  written = subst (λ (x : Option (List ℕ)). AppendsSome old.held x (bytes_of (all (rest_in old.left)))) (sym e) (some_none old.held (bytes_of (all (rest_in old.left))));
 }
 
 pub ends-alone : (status result : Status) (all cut : List ℕ → Report) (text : List ℕ) (old new : Moment)
@@ -61,14 +62,14 @@ begins-come all text code old mid new w c a = record {
   script = c.script;
   is = c.is;
   written = subst (AppendsSome old.held new.held) (sym (ap bytes_of c.report ∙ bytes_known c.written w text code))
-    (some-after old.held mid.held new.held c.written (w ++ as_line text) c.appends a);
+    (some_after old.held mid.held new.held c.written (w ++ as_line text) c.appends a);
 }
 
 begins-still : (all : List ℕ → Report) (text : List ℕ) (code : ℕ) (old mid new : Moment) (w : List ℕ) → Comes all (lone text code) old mid w
     → new.held ≡ mid.held → Begins all old new
 begins-still all text code old mid new w c e =
     begins-come all text code old mid new w c
-    (subst (λ (x : Option (List ℕ)). AppendsSome mid.held x (w ++ as_line text)) (sym e) (some-none mid.held (w ++ as_line text)))
+    (subst (λ (x : Option (List ℕ)). AppendsSome mid.held x (w ++ as_line text)) (sym e) (some_none mid.held (w ++ as_line text)))
 
 pub ends-done : (status : Status) (all cut : List ℕ → Report) (text : List ℕ) (old mid new : Moment) (w : List ℕ) → Comes all (lone text 0) old mid w
     → new.reads ≡ old.reads → mid.writes ≡ old.writes
@@ -78,7 +79,7 @@ ends-done statuses.Done all cut text old mid new w c r q e = record {
   is = c.is;
   status = ap (λ (r : Report). r.status) c.report;
   written = subst (Appends old.held new.held) (sym (ap bytes_of c.report ∙ bytes_known c.written w text 0))
-    (appends-both old.held mid.held new.held c.written (w ++ as_line text) c.appends e.0);
+    (appends_both old.held mid.held new.held c.written (w ++ as_line text) c.appends e.0);
   reads = r;
   writes = e.1 ∙ q;
 }
@@ -97,11 +98,11 @@ tells-come : (all : List ℕ → Report) (text : List ℕ) (code : ℕ) (old mid
     → Tells (all c.script) old new
 tells-come all text code old mid new w c q (inl a) =
     inl (subst (Appends old.held new.held) (sym (ap bytes_of c.report ∙ bytes_known c.written w text code))
-    (appends-both old.held mid.held new.held c.written (w ++ as_line text) c.appends a))
+    (appends_both old.held mid.held new.held c.written (w ++ as_line text) c.appends a))
 tells-come all text code old mid new w c q (inr a) =
     let some : Appends old.held new.held ((c.written ++ w) ++ take a.1.0 (as_line text)) =
       subst (Appends old.held new.held) (sym (append_assoc c.written w (take a.1.0 (as_line text))))
-      (appends-both old.held mid.held new.held c.written (w ++ take a.1.0 (as_line text)) c.appends a.1.1) in
+      (appends_both old.held mid.held new.held c.written (w ++ take a.1.0 (as_line text)) c.appends a.1.1) in
     subst (λ (r : Report). Tells r old new) (sym c.report)
     (inr (
       subst (λ (x : ℕ). Rose x new.writes) q a.0,
@@ -132,12 +133,12 @@ breaks_tells : (cut : List ℕ → Report) (old mid new : Moment) (b : Breaks cu
     → Writes mid.held new.held mid.writes new.writes (as_line (codes "fault read")) → Tells (cut b.read) old new
 breaks_tells cut old mid new b q (inl a) =
     inl (subst (λ (x : List ℕ). Appends old.held new.held ((cut b.read).told ++ x)) (sym b.last)
-    (appends-both old.held mid.held new.held (cut b.read).told (as_line (codes "fault read")) b.appends a))
+    (appends_both old.held mid.held new.held (cut b.read).told (as_line (codes "fault read")) b.appends a))
 breaks_tells cut old mid new b q (inr a) =
     inr (
       subst (λ (x : ℕ). Rose x new.writes) q a.0,
       (a.1.0, subst (λ (x : List ℕ). Appends old.held new.held ((cut b.read).told ++ take a.1.0 x)) (sym b.last)
-      (appends-both old.held mid.held new.held (cut b.read).told (take a.1.0 (as_line (codes "fault read"))) b.appends a.1.1)),
+      (appends_both old.held mid.held new.held (cut b.read).told (take a.1.0 (as_line (codes "fault read"))) b.appends a.1.1)),
     )
 
 pub breaks-off : (cut : List ℕ → Report) (old mid new : Moment) → Breaks cut old mid → Rose old.reads mid.reads → mid.writes ≡ old.writes
@@ -156,4 +157,4 @@ breaks-off cut old mid new b r q l s w = record {
 pub reached-end : (outcome : Result (Unit {0}) Stop) (form : Form) (p : PolicyOf) (at : Progress) (w : List ℕ) (old new : Moment) → IsOk outcome
     → Reaches outcome form p at w old new → IsAtEnd new.left
 reached-end (Ok _) form p at w old new ok r = r.1
-reached-end (Err stop) form p at w old new ok r = absurd ok
+reached-end (Err stop) form p at w old new ok r = absurd (false≢true ok)
