@@ -1,51 +1,61 @@
-//! The program `covisor`: a hypervisor for OpenFlow 1.0. So far it replays a script over the
-//! built-in policy: `covisor replay`, with the script on standard input and the report on standard
-//! output.
+//! The program `covisor`: a hypervisor for OpenFlow 1.0. It reads a script from standard input and
+//! writes its report to standard output.
 #![tactic(auto)]
 
 ghost use Rattle.std.specs.Prelude.{◌≡◌, ◌<◌};
 
+mod ending;
+mod forms;
 mod lines;
+mod opening;
 mod replay;
-mod report;
 mod run;
-mod script;
+mod status;
 mod stop;
+mod telling;
 mod words;
+mod writing;
 
-use cv_io::{Incoming, Outgoing, Steps};
+use cv_io::{DiskFiles, Incoming, Outgoing, Steps};
 use std::alloc::Global;
+use std::io::ErrorKind;
 use std::marker::Brand;
 use std::process::ExitCode;
 use std::sync::ledger::{Blank, Ledger};
 use std::{env, io};
 
 /// The words after the program's name. Where one isn't text there are none, which is no form of
-/// the command line either.
-fn given_words(rt: &HostRuntime) -> Vec<String> {
+/// the command line either; None for want of memory.
+fn given_words(rt: &HostRuntime) -> Option<Vec<String>> {
     let mut words = Vec::new(rt.alloc());
-    let Ok(given) = env::args(rt) else {
-        return words;
+    let given = match env::args(rt) {
+        Ok(given) => given,
+        Err(fault) if fault.kind() == ErrorKind::OutOfMemory => return None,
+        Err(_) => return Some(words),
     };
     for word in given.skip(1) {
         if words.push(word).is_err() {
-            break;
+            return None;
         }
     }
-    words
+    Some(words)
 }
 
-/// Runs over standard input and output, with a counter of steps of its own.
+/// Runs over the machine's files and standard input and output, with a counter of steps of its own.
 fn run_counted<G: Ledger>(rt: &HostRuntime, blank: Blank) -> u8
     requires { (blank.name ≡ G.name) × (blank.parts ≡ G.parts) × (0 < blank.parts) }
 {
-    let words = given_words(rt);
+    let Some(words) = given_words(rt) else {
+        return run::MEMORY;
+    };
+    let mut files = DiskFiles::new(rt);
     let mut input = Incoming::new(rt.stdin());
     let mut out = Outgoing::new(io::writer(rt));
     let mut steps = Steps::<G>::new(blank);
     run::run(
         rt.alloc(),
         words.as_slice(),
+        &mut files,
         &mut input,
         &mut out,
         &mut steps,

@@ -1,110 +1,101 @@
 //! The top call.
-ghost use Rattle.std.specs.Prelude.{◌≡◌, ◌↔◌, ◌⊎◌, ◌++◌, codes, false};
+ghost use Rattle.std.specs.Prelude.{◌≡◌, ◌≢◌, ◌↔◌, ◌⊎◌, List, None, Result, Some, true, ℕ};
 ghost use Rattle.cv_io.specs.Outside.{Rose};
-ghost use Rattle.covisor_proxy.specs.Ended.{IsAtEnd};
-ghost use Rattle.covisor_proxy.specs.Reported.{IsWritten, as_line};
-ghost use Rattle.covisor_proxy.specs.Written.{Appends};
-ghost use Rattle.std.specs.Fmt.{decimal};
-ghost use Rattle.covisor_proxy.specs.Words.{is_replay};
+ghost use Rattle.cv_io.specs.declared.files.FileFault.{FileFault};
+ghost use Rattle.covisor_proxy.specs.Asked.{cut_report_for, report_for};
+ghost use Rattle.covisor_proxy.specs.Chunks.{IsAtEnd};
+ghost use Rattle.covisor_proxy.specs.Opening.{AnswersTo};
+ghost use Rattle.covisor_proxy.specs.Outcomes.{Ends, moment};
+ghost use Rattle.covisor_proxy.specs.Runs.{IsAbsent, IsComplete, IsRefused, Runs, has_script};
+ghost use Rattle.covisor_proxy.specs.Words.{command_of};
 
-use crate::replay::replay;
-use crate::report::{Report, write_all};
-use crate::stop::Stop;
-use crate::words;
-use cv_io::{Memory, Sink, Source, Steps};
+use crate::ending::write_fault;
+use crate::forms::{make, replay_built_in, replay_file};
+use crate::status::Status;
+use crate::words::{Command, asked};
+use cv_io::{Files, Sink, Source, Steps};
+use script_text::Form;
 use std::alloc::Global;
 use std::sync::ledger::Ledger;
 
-/// The script was read to its end and every line done.
-pub const DONE: u8 = 0;
-
-/// The words are no form of the command line.
-pub const USAGE: u8 = 2;
-
-/// A line of the script could not be done; those before it are.
-pub const SCRIPT: u8 = 4;
-
-/// The script could not be read.
-pub const READ: u8 = 5;
-
-/// The report could not be written.
-pub const WRITE: u8 = 6;
-
-/// Want of memory.
+/// The exit status of want of memory.
 pub const MEMORY: u8 = 10;
 
-/// Does what the words after the program's name say, and answers the exit status. `replay` does the
-/// lines of the script that `input` gives and writes the report to `out`; its last line is
-/// `end lines=N`, or says the fault.
-pub fn run<S: Source, K: Sink, G: Ledger>(
+/// Does what the words after the program's name say, and answers the exit status. `replay` and `replay POLICY` do the
+/// lines of the script that `input` gives, over the built-in policy or over that of a file, and write the report to
+/// `out`; so does `explain POLICY`, which also knows lines that ask why a packet goes where it goes. `make SEED N` does
+/// a script that it makes, and writes one line of numbers.
+///
+/// The exit status is 0 where all is done; 2 where the words are of no form; 3 where the policy file is refused; 4 at a
+/// line that isn't done; 5 where a file or the script can't be read; 6 where the report can't be written; 7 where there
+/// is no such file; 10 for want of memory. With 2, 3, 4, 5 and 7 the last line tells the fault.
+pub fn run<F: Files, S: Source, K: Sink, G: Ledger>(
     alloc: Global,
     words: &[String],
+    files: &mut F,
     input: &mut S,
     out: &mut K,
-    steps: &mut Steps<G>,
+    _steps: &mut Steps<G>,
 ) -> u8
-    ensures usage { (result ≡ USAGE) ↔ (is_replay words.now ≡ false) }
-    ensures usage_line { result ≡ USAGE → IsWritten (K.held out.old) (K.held out.new) (K.faults out.old) (K.faults out.new) (codes "fault usage\n") }
-    ensures read_fault { result ≡ READ → Rose (S.faults input.old) (S.faults input.new) }
-    ensures write_fault { result ≡ WRITE → Rose (K.faults out.old) (K.faults out.new) }
-    ensures whole { result ≡ DONE → IsAtEnd (S.remaining input.new) }
-    ensures read { result ≡ DONE → S.faults input.new ≡ S.faults input.old }
-    ensures written { result ≡ DONE → K.faults out.new ≡ K.faults out.old }
+    ensures runs { Runs result (command_of words.now) (F.files files.old) (F.faults files.old) (F.faults files.new)
+        (moment (S.remaining input.old) (S.faults input.old) (K.held out.old) (K.faults out.old))
+        (moment (S.remaining input.new) (S.faults input.new) (K.held out.new) (K.faults out.new)) }
+    ensures usage { (result ≡ 2) ↔ (command_of words.now ≡ None) }
+    ensures refused { result ≡ 3 → IsRefused (command_of words.now) (F.files files.old) }
+    ensures absent { result ≡ 7 → IsAbsent (command_of words.now) (F.files files.old) }
+    ensures read { result ≡ 5 → Rose (F.faults files.old) (F.faults files.new) ⊎ Rose (S.faults input.old) (S.faults input.new) }
+    ensures write { result ≡ 6 → Rose (K.faults out.old) (K.faults out.new) }
+    ensures whole { result ≡ 0 → has_script (command_of words.now) ≡ true → IsAtEnd (S.remaining input.new) }
+    ensures complete { IsComplete result (command_of words.now) (F.files files.old) (F.faults files.old) (F.faults files.new)
+        (moment (S.remaining input.old) (S.faults input.old) (K.held out.old) (K.faults out.old))
+        (moment (S.remaining input.new) (S.faults input.new) (K.held out.new) (K.faults out.new)) }
 {
-    if !words::is_replay(words) {
-        return faulty(out, b"fault usage\n", USAGE);
-    }
-    let mut report = Report::new(alloc);
-    match replay(alloc, input, out, &mut report, steps) {
-        Ok(lines) => ended(alloc, lines, out, &mut report),
-        Err(Stop::Unbuilt { number }) => unbuilt(alloc, number, out, &mut report),
-        Err(Stop::Read) => faulty(out, b"fault read\n", READ),
-        Err(Stop::Write) => WRITE,
-        Err(Stop::Memory) => MEMORY,
+    answer(alloc, words, files, input, out).code()
+}
+
+/// Does what the words say.
+fn answer<F: Files, S: Source, K: Sink>(
+    alloc: Global,
+    words: &[String],
+    files: &mut F,
+    input: &mut S,
+    out: &mut K,
+) -> Status
+    ensures ends { (file : Result (List ℕ) FileFault)
+        × AnswersTo (command_of words.now) (F.files files.old) (F.faults files.old) (F.faults files.new) file
+        × Ends result (report_for (command_of words.now) file) (cut_report_for (command_of words.now) file)
+        (moment (S.remaining input.old) (S.faults input.old) (K.held out.old) (K.faults out.old))
+        (moment (S.remaining input.new) (S.faults input.new) (K.held out.new) (K.faults out.new)) }
+    ensures usage { (result ≡ Status.Usage) ↔ (command_of words.now ≡ None) }
+    ensures whole { result ≡ Status.Done → has_script (command_of words.now) ≡ true → IsAtEnd (S.remaining input.new) }
+{
+    match asked(alloc, words) {
+        Ok(Some(command)) => obey(alloc, command, files, input, out),
+        Ok(None) => write_fault(out, b"fault usage\n", Status::Usage),
+        Err(_) => Status::Memory,
     }
 }
 
-/// Writes the last line of a fault. The status stays where that fails.
-fn faulty<K: Sink>(out: &mut K, line: &[u8], status: u8) -> u8
-    ensures status { result ≡ status }
-    ensures written { IsWritten (K.held out.old) (K.held out.new) (K.faults out.old) (K.faults out.new) line.now }
+/// Does a command.
+fn obey<F: Files, S: Source, K: Sink>(
+    alloc: Global,
+    command: Command,
+    files: &mut F,
+    input: &mut S,
+    out: &mut K,
+) -> Status
+    ensures ends { (file : Result (List ℕ) FileFault)
+        × AnswersTo (Some command) (F.files files.old) (F.faults files.old) (F.faults files.new) file
+        × Ends result (report_for (Some command) file) (cut_report_for (Some command) file)
+        (moment (S.remaining input.old) (S.faults input.old) (K.held out.old) (K.faults out.old))
+        (moment (S.remaining input.new) (S.faults input.new) (K.held out.new) (K.faults out.new)) }
+    ensures form { result ≢ Status.Usage }
+    ensures whole { result ≡ Status.Done → has_script (Some command) ≡ true → IsAtEnd (S.remaining input.new) }
 {
-    let _written = write_all(out, line);
-    status
-}
-
-/// Writes what waits and the last line of a script that was done.
-fn ended<K: Sink>(alloc: Global, lines: u64, out: &mut K, report: &mut Report) -> u8
-    ensures statuses { (result ≡ DONE) ⊎ (result ≡ WRITE) ⊎ (result ≡ MEMORY) }
-    ensures last_line { result ≡ DONE → Appends (K.held out.old) (K.held out.new) (report.old.waiting ++ as_line (codes "end lines=" ++ decimal lines)) }
-    ensures written { result ≡ DONE → K.faults out.new ≡ K.faults out.old }
-    ensures write_fault { result ≡ WRITE → Rose (K.faults out.old) (K.faults out.new) }
-{
-    let Ok(last) = format!(in alloc; "end lines={lines}") else {
-        return MEMORY;
-    };
-    if report.line(last.as_str()).is_err() {
-        return MEMORY;
-    }
-    match report.flush(out) {
-        Ok(()) => DONE,
-        Err(_) => WRITE,
+    match command {
+        Command::Replay => replay_built_in(alloc, input, out),
+        Command::ReplayPolicy { name } => replay_file(alloc, Form::Replay, &name, files, input, out),
+        Command::ExplainPolicy { name } => replay_file(alloc, Form::Explain, &name, files, input, out),
+        Command::Make { seed, count } => make(alloc, seed, count, out),
     }
 }
-
-/// Writes what waits and the last line of a script that stops at a line.
-fn unbuilt<K: Sink>(alloc: Global, number: u64, out: &mut K, report: &mut Report) -> u8
-    ensures statuses { (result ≡ SCRIPT) ⊎ (result ≡ WRITE) ⊎ (result ≡ MEMORY) }
-    ensures write_fault { result ≡ WRITE → Rose (K.faults out.old) (K.faults out.new) }
-{
-    let Ok(last) = format!(in alloc; "fault line={number} kind=unbuilt\n") else {
-        return MEMORY;
-    };
-    match report.flush(out) {
-        Ok(()) => faulty(out, last.as_bytes(), SCRIPT),
-        Err(_) => WRITE,
-    }
-}
-
-#[cfg(test)]
-mod tests;

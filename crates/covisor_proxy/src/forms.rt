@@ -1,0 +1,119 @@
+//! The forms of the program.
+ghost use Rattle.std.specs.Prelude.{◌≡◌, ◌≢◌, [], IfOk, List, Result, ℕ};
+ghost use Rattle.cv_io.specs.declared.files.FileFault.{FileFault};
+ghost use Rattle.made_script.specs.Summary.{summary_text};
+ghost use Rattle.make_report.specs.Making.{made_of};
+ghost use Rattle.policy_file.specs.declared.known.TheConstants.{BUILT_IN};
+ghost use Rattle.replay_report.specs.Reports.{cut_report_of, report_of};
+ghost use Rattle.replay_report.specs.Takings.{as_line};
+ghost use Rattle.covisor_proxy.specs.Asked.{over_built_in, over_file, stated};
+ghost use Rattle.covisor_proxy.specs.Chunks.{IsAtEnd};
+ghost use Rattle.covisor_proxy.specs.Following.{EndsWith};
+ghost use Rattle.covisor_proxy.specs.Opening.{Answers};
+ghost use Rattle.covisor_proxy.specs.Outcomes.{Ends, moment};
+
+use crate::ending::{conclude, write_fault};
+use crate::lines::Lines;
+use crate::opening::{NoPolicy, open};
+use crate::replay::replay_over;
+use crate::status::Status;
+use crate::telling::{tell_absent, tell_refused};
+use crate::writing::write_all;
+use cv_io::{Files, Memory, Sink, Source, Text};
+use made_script::summary_line;
+use policy_file::{Policy, built_in};
+use replay_report::Player;
+use script_text::Form;
+use std::alloc::Global;
+
+/// Replays a script over a policy.
+fn replay<S: Source, K: Sink>(
+    alloc: Global,
+    form: Form,
+    policy: Policy,
+    input: &mut S,
+    out: &mut K,
+) -> Status
+    ensures ends { Ends result (report_of form policy) (cut_report_of form policy)
+        (moment (S.remaining input.old) (S.faults input.old) (K.held out.old) (K.faults out.old))
+        (moment (S.remaining input.new) (S.faults input.new) (K.held out.new) (K.faults out.new)) }
+    ensures form { result ≢ Status.Usage }
+    ensures whole { result ≡ Status.Done → IsAtEnd (S.remaining input.new) }
+{
+    let Ok(mut lines) = Lines::new(alloc) else {
+        return Status::Memory;
+    };
+    let Ok(mut player) = Player::open(alloc, form, policy) else {
+        return Status::Memory;
+    };
+    let outcome = replay_over(&mut player, &mut lines, input, out);
+    conclude(alloc, &mut player, outcome, out)
+}
+
+/// Replays a script over the built-in policy.
+pub(crate) fn replay_built_in<S: Source, K: Sink>(
+    alloc: Global,
+    input: &mut S,
+    out: &mut K,
+) -> Status
+    ensures ends { Ends result (over_built_in report_of (stated BUILT_IN.now)) (over_built_in cut_report_of (stated BUILT_IN.now))
+        (moment (S.remaining input.old) (S.faults input.old) (K.held out.old) (K.faults out.old))
+        (moment (S.remaining input.new) (S.faults input.new) (K.held out.new) (K.faults out.new)) }
+    ensures form { result ≢ Status.Usage }
+    ensures whole { result ≡ Status.Done → IsAtEnd (S.remaining input.new) }
+{
+    match built_in(alloc) {
+        Ok(policy) => replay(alloc, Form::Replay, policy, input, out),
+        Err(_) => Status::Memory,
+    }
+}
+
+/// Replays a script over the policy of a file.
+pub(crate) fn replay_file<F: Files, S: Source, K: Sink>(
+    alloc: Global,
+    form: Form,
+    name: &Text,
+    files: &mut F,
+    input: &mut S,
+    out: &mut K,
+) -> Status
+    ensures ends { (file : Result (List ℕ) FileFault)
+        × Answers (F.files files.old) (F.faults files.old) (F.faults files.new) name.now file
+        × Ends result (over_file report_of form name.now file) (over_file cut_report_of form name.now file)
+        (moment (S.remaining input.old) (S.faults input.old) (K.held out.old) (K.faults out.old))
+        (moment (S.remaining input.new) (S.faults input.new) (K.held out.new) (K.faults out.new)) }
+    ensures form { result ≢ Status.Usage }
+    ensures whole { result ≡ Status.Done → IsAtEnd (S.remaining input.new) }
+{
+    match open(alloc, files, name) {
+        Ok(policy) => replay(alloc, form, policy, input, out),
+        Err(NoPolicy::Absent) => tell_absent(alloc, name, out),
+        Err(NoPolicy::Unread) => write_fault(out, b"fault read\n", Status::Read),
+        Err(NoPolicy::Refused { fault }) => tell_refused(alloc, &fault, out),
+        Err(NoPolicy::Memory) => Status::Memory,
+    }
+}
+
+/// Does a script that is made, and writes one line of numbers.
+pub(crate) fn make<K: Sink>(alloc: Global, seed: u64, count: u32, out: &mut K) -> Status
+    ensures { EndsWith result (K.held out.old) (K.held out.new) (K.faults out.old) (K.faults out.new)
+        [] (as_line (summary_text (made_of seed count))) }
+{
+    let Ok(line) = made_line(alloc, seed, count) else {
+        return Status::Memory;
+    };
+    match write_all(out, line.as_bytes()) {
+        Ok(()) => Status::Done,
+        Err(_) => Status::Write,
+    }
+}
+
+/// The line of numbers of a script that is made.
+fn made_line(alloc: Global, seed: u64, count: u32) -> Result<Text, Memory>
+    ensures { IfOk result (λ line. line ≡ as_line (summary_text (made_of seed count))) }
+{
+    let summary = make_report::make(alloc, seed, count)?;
+    let mut line = summary_line(alloc, &summary)?;
+    line.push(b'\n')?;
+    Ok(line)
+}
