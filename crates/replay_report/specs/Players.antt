@@ -1,4 +1,4 @@
--- A replay as contracts see it.
+-- A replay as contracts see it. What it is made of stays closed to callers, whose proofs would else open the whole machine.
 use Rattle.std.specs.Prelude.{◌≡◌, ℕ, List, ◌++◌, Option, Some, None, Result, Ok, Err}
 use Rattle.policy_file.specs.Policies.{PolicyOf}
 use Rattle.script_text.specs.declared.form.Form.{Form}
@@ -9,17 +9,17 @@ use Rattle.replay_report.specs.declared.kind.Kind.{Kind}
 use Rattle.replay_report.specs.declared.player.Player.{Player}
 
 -- which lines it knows, its policy, and what it reported
-abbrev pub form_of : Player → Form
+unfoldable pub form_of : Player → Form
 form_of player = player.form
 
-abbrev pub plan_of : Player → PolicyOf
+unfoldable pub plan_of : Player → PolicyOf
 plan_of player = player.stage.machine.plan
 
-abbrev pub reported : Player → List ℕ
+unfoldable pub reported : Player → List ℕ
 reported player = player.stage.report
 
 -- how far it is
-abbrev pub progress_of : Player → Progress
+unfoldable pub progress_of : Player → Progress
 progress_of player = record { number = player.number; size = player.size; stand = stand_in player.stage player.streams }
 
 -- a line was done: what it does was reported; or it was not, and nothing is other than it was

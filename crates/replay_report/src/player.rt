@@ -65,6 +65,7 @@ impl Player {
     ghost use Rattle.replay_report.specs.Reports.{start, taken};
 
     /// A replay that begins.
+    #[tactic(auto, unfolding(crate::specs::Players::form_of, crate::specs::Players::plan_of, crate::specs::Players::reported, crate::specs::Players::progress_of))]
     pub fn open(alloc: Global, form: Form, policy: Policy) -> Result<Player, Memory>
         ensures form { IfOk result (λ player. form_of player ≡ form) }
         ensures plan { IfOk result (λ player. plan_of player ≡ policy) }
@@ -83,6 +84,7 @@ impl Player {
     }
 
     /// How many lines were done.
+    #[tactic(auto, unfolding(crate::specs::Players::form_of, crate::specs::Players::plan_of, crate::specs::Players::reported, crate::specs::Players::progress_of))]
     pub fn number(&self) -> u64
         ensures number { result ≡ (progress_of self.now).number }
         ensures short { result < 2 ^ 32 }
@@ -91,6 +93,7 @@ impl Player {
     }
 
     /// What was reported and not yet cleared.
+    #[tactic(auto, unfolding(crate::specs::Players::form_of, crate::specs::Players::plan_of, crate::specs::Players::reported, crate::specs::Players::progress_of))]
     pub fn report(&self) -> &[u8]
         ensures { result.now ≡ reported self.now }
     {
@@ -98,6 +101,7 @@ impl Player {
     }
 
     /// What was reported is written.
+    #[tactic(auto, unfolding(crate::specs::Players::form_of, crate::specs::Players::plan_of, crate::specs::Players::reported, crate::specs::Players::progress_of))]
     pub fn clear(&mut self)
         ensures report { reported self.new ≡ [] }
         ensures progress { progress_of self.new ≡ progress_of self.old }
@@ -108,6 +112,7 @@ impl Player {
     }
 
     /// How many composed rules the expression of the first virtual switch has.
+    #[tactic(auto, unfolding(crate::specs::Players::form_of, crate::specs::Players::plan_of, crate::specs::Players::reported, crate::specs::Players::progress_of))]
     pub fn rules(&self) -> Result<u64, Memory>
         ensures { IfOk result (λ count. count ≡ rule_count (plan_of self.now) (progress_of self.now).stand.state 0) }
     {
@@ -115,6 +120,7 @@ impl Player {
     }
 
     /// Does a line, which takes so many bytes of the script, and reports what it does; or tells why it isn't done.
+    #[tactic(auto, unfolding(crate::specs::Players::form_of, crate::specs::Players::plan_of, crate::specs::Players::reported, crate::specs::Players::progress_of))]
     pub fn line(&mut self, line: &[u8], used: usize) -> Result<Option<Kind>, Memory>
         requires some { 1 ≤ used }
         requires short { used ≤ length line.now + 1 }

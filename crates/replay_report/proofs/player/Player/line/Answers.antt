@@ -10,6 +10,7 @@ use Rattle.replay_report.proofs.Taking.{unknown_takes}
 use Rattle.replay_report.proofs.player.Player.line.Goals as goal
 
 pub returns-then-line-gt-LINE-clause-takes : goal.returns-then-line-gt-LINE-clause-takes
+unfolding form_of plan_of reported progress_of
 returns-then-line-gt-LINE-clause-takes c =
     let self = c.args.self.now in
     let at = progress_of self in
@@ -17,6 +18,7 @@ returns-then-line-gt-LINE-clause-takes c =
     (long_taken (form_of self) (plan_of self) at c.args.line.now c.args.used (omega (arith, c.if-line-gt-LINE.true)))
 
 pub returns-then-size-gt-SCRIPT-clause-takes : goal.returns-then-size-gt-SCRIPT-clause-takes
+unfolding form_of plan_of reported progress_of
 returns-then-size-gt-SCRIPT-clause-takes c =
     let self = c.args.self.now in
     let at = progress_of self in
@@ -24,6 +26,7 @@ returns-then-size-gt-SCRIPT-clause-takes c =
     (size_taken (form_of self) (plan_of self) at c.args.line.now c.args.used (omega (arith, c.if-line-gt-LINE.false)) (omega (arith, c.if-size-gt-SCRIPT.true)))
 
 pub returns-in-Err-clause-takes : goal.returns-in-Err-clause-takes
+unfolding form_of plan_of reported progress_of
 returns-in-Err-clause-takes c =
     let self = c.args.self.now in
     let at = progress_of self in
@@ -34,6 +37,7 @@ returns-in-Err-clause-takes c =
     (read ∙ read_refused (plan_of self) (line_in (form_of self) line) c.in-Err.kind at.stand said)
 
 pub returns-then-not-branch-clause-takes : goal.returns-then-not-branch-clause-takes
+unfolding form_of plan_of reported progress_of
 returns-then-not-branch-clause-takes c =
     let self = c.args.self.now in
     let at = progress_of self in
@@ -45,6 +49,7 @@ returns-then-not-branch-clause-takes c =
     (read ∙ read_said (plan_of self) (line_in (form_of self) line) c.in-Ok.said at.stand said) known c.in_ok-play.ensures.plays
 
 pub returns-clause-takes : goal.returns-clause-takes
+unfolding form_of plan_of reported progress_of
 returns-clause-takes c =
     let self = c.args.self.now in
     let at = progress_of self in
