@@ -50,3 +50,6 @@ pub mod FaultKinds
 pub mod Meanings
 pub mod Followed
 pub mod Present
+pub mod Recomposed
+pub mod StaysSettled
+pub mod Unneeded

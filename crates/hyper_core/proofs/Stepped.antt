@@ -1,5 +1,5 @@
 -- An event that isn't answered at once is a taking, or goes through the phases.
-use Rattle.std.proofs.Common.{◌≡◌, ◌∙◌, ℕ, List, Some, None, length, refl, ap}
+use Rattle.std.proofs.Common.{◌≡◌, ◌∙◌, ℕ, List, Some, None, length, refl, ap, subst, sym}
 use Rattle.cv_io.specs.declared.leaf.Session.{Session}
 use Rattle.policy_file.specs.Policies.{PolicyOf}
 use Rattle.stats_map.specs.Counting.{CountsOf}
@@ -7,16 +7,19 @@ use Rattle.stats_map.specs.Told.{HeldOf, told}
 use Rattle.machine_meaning.specs.Glances.{glance_of}
 use Rattle.machine_meaning.specs.Hearing.{heard}
 use Rattle.hyper_core.specs.CookieCounts.{with_counts}
-use Rattle.hyper_core.specs.Machines.{HasAll, state_in_held}
+use Rattle.hyper_core.specs.Machines.{HasAll, holding_of, state_held, state_in_held}
 use Rattle.hyper_core.specs.Moments.{taking_in}
 use Rattle.machine_meaning.specs.Phases.{drafted}
 use Rattle.machine_meaning.specs.States.{State}
 use Rattle.machine_meaning.specs.Steps.{done, proceed, step_by, step_of}
-use Rattle.machine_meaning.specs.Takings.{left_after, takes}
+use Rattle.machine_meaning.specs.Takings.{left_after, left_by, takes}
+use Rattle.hyper_core.specs.Settled.{IsSettledState}
 use Rattle.events.specs.declared.event.Event.{Event}
 use Rattle.events.specs.declared.event.Reply.{Reply}
 use Rattle.hyper_core.specs.declared.held.Held.{Held}
 use Rattle.hyper_core.specs.declared.hearing.CookieCount.{CookieCount}
+use Rattle.hyper_core.proofs.Attempts.{has_all_kept}
+use Rattle.hyper_core.proofs.StaysSettled.{drafted_settled, left_settled}
 use Rattle.events.specs.declared.event.Event.TheVariants.{Up, Msg, Gone, Tick, Take, Policy}
 
 proceed_taking : (p : PolicyOf) (s : State) (e : Event) (session : Session) → taking_in e ≡ Some session
@@ -73,3 +76,29 @@ pub has_all_taken : (p : PolicyOf) (h new : Held) → HasAll p h → length new.
     → length new.switches ≡ length h.switches → HasAll p new
 has_all_taken p h new all members switches =
     record { members = members ∙ all.members; switches = switches ∙ all.switches }
+
+-- what stands on switches is what the setting gives, where counts alone were changed
+pub settled_counted : (p : PolicyOf) (h new : Held) → IsSettledState p (state_in_held h)
+    → record new { counts = h.counts } ≡ h → IsSettledState p (state_in_held new)
+settled_counted p h new settled rest =
+    subst (λ (x : Held). IsSettledState p (state_in_held x)) (sym rest) settled
+
+-- after a taking
+pub settled_taken : (p : PolicyOf) (h new : Held) (session : Session) → IsSettledState p (state_in_held h)
+    → state_in_held new ≡ left_by session.who session.round (state_in_held h) → IsSettledState p (state_in_held new)
+settled_taken p h new session settled left =
+    subst (IsSettledState p) (sym left) (left_settled p session.who session.round (state_in_held h) settled)
+
+-- and after an event that is drafted
+pub settled_done : (p : PolicyOf) (s : State) (e : Event) (reply : Reply) (new : State)
+    → (reply, new) ≡ done p (drafted p s e) → IsSettledState p new
+settled_done p s e reply new is =
+    subst (IsSettledState p) (sym (ap (λ (x : Reply × State). x.1) is)) (drafted_settled p s e)
+
+-- a copy has what is true of what is held
+pub held_copied : (p q : PolicyOf) (h new : Held) → q ≡ p → holding_of new ≡ holding_of h
+    → HasAll p h × IsSettledState p (state_in_held h) → HasAll q new × IsSettledState q (state_in_held new)
+held_copied p q h new same is i =
+    let state = ap state_held is in
+    subst (λ (z : PolicyOf). HasAll z new × IsSettledState z (state_in_held new)) (sym same)
+    (has_all_kept p h new i.0 state, subst (IsSettledState p) (sym state) i.1)

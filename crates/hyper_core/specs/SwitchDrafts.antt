@@ -1,5 +1,5 @@
 -- What an event makes of a switch, beside the switch as it stands.
-use Rattle.std.specs.Prelude.{List, [], Option, unwrap_or}
+use Rattle.std.specs.Prelude.{◌≡◌, List, [], Option, unwrap_or}
 use Rattle.install_plan.specs.declared.written.Written.{Written}
 use Rattle.outbox.specs.Outboxes.{turned}
 use Rattle.outbox.specs.declared.outbox.Turn.{Turn}
@@ -34,3 +34,8 @@ with_round f d = record { base = d.base; now = f d.now; standing = [] }
 -- the switch stays as it is
 abbrev pub standing_switch : Switch → SwitchDraftOf
 standing_switch x = record { base = x; now = switch_of x; standing = x.standing }
+
+-- it is up or down as it was, and has the entries that it had
+pub record IsUnmoved (d : SwitchDraftOf) : Type 0 where
+  pub up : d.now.outbox.up ≡ d.base.outbox.up
+  pub standing : d.standing ≡ d.base.standing

@@ -13,6 +13,7 @@ ghost use Rattle.machine_meaning.specs.Composing.{compose_at as compose_at_of};
 ghost use Rattle.machine_meaning.specs.Drafts.{Draft, letter};
 ghost use Rattle.hyper_core.specs.Outcomes.{bases, draft_in, standing_in, switch_bases, switches_in};
 ghost use Rattle.machine_meaning.specs.Sessions.{is_switch};
+ghost use Rattle.hyper_core.specs.Settled.{WasSettled};
 ghost use Rattle.hyper_core.specs.SwitchDrafts.{with_written};
 
 use crate::batches::{Change, can_send, change_between};
@@ -20,6 +21,7 @@ use crate::composed::{fitting, wanted};
 use crate::outcome::Outcome;
 use crate::setup::Setup;
 use crate::switch_draft::SwitchDraft;
+use crate::unchanged::is_unchanged;
 use agreement::Setting;
 use cv_io::{List, Memory, Who};
 use install_plan::Written;
@@ -191,8 +193,8 @@ fn compose_all(
     Ok(())
 }
 
-/// Each switch that is up is written the change from the entries that stand to those that the setting gives.
-pub(crate) fn compose(setup: &Setup, draft: &mut Outcome<'_>) -> Result<(), Memory>
+/// Switches are composed from the setting that the event leaves.
+fn compose_anew(setup: &Setup, draft: &mut Outcome<'_>) -> Result<(), Memory>
     ensures drafted { OnOk result (draft_in draft.new ≡ compose_of setup.now (draft_in draft.old)) }
     ensures bases { OnOk result (bases draft.new ≡ bases draft.old) }
 {
@@ -215,4 +217,17 @@ pub(crate) fn compose(setup: &Setup, draft: &mut Outcome<'_>) -> Result<(), Memo
         &mut draft.batches,
     )?;
     Ok(())
+}
+
+/// Each switch that is up is written the change from the entries that stand to those that the setting gives. There is
+/// none where the event changed nothing that composition reads.
+pub(crate) fn compose(setup: &Setup, draft: &mut Outcome<'_>) -> Result<(), Memory>
+    requires { WasSettled setup.now (bases draft.old) }
+    ensures drafted { OnOk result (draft_in draft.new ≡ compose_of setup.now (draft_in draft.old)) }
+    ensures bases { OnOk result (bases draft.new ≡ bases draft.old) }
+{
+    if is_unchanged(draft) {
+        return Ok(());
+    }
+    compose_anew(setup, draft)
 }

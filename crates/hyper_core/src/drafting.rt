@@ -8,6 +8,7 @@ ghost use Rattle.hyper_core.specs.Moments.{moment_of as moment_of_event};
 ghost use Rattle.hyper_core.specs.Outcomes.{bases, draft_in};
 ghost use Rattle.hyper_core.specs.Overtaking.{IsHeardOf, IsWhole};
 ghost use Rattle.hyper_core.specs.Puts.{HaveNumbers};
+ghost use Rattle.hyper_core.specs.Settled.{IsSettledState};
 ghost use Rattle.machine_meaning.specs.Phases.{draft_of, drafted as drafted_of};
 ghost use Rattle.machine_meaning.specs.Rounds.{close as close_of};
 
@@ -64,6 +65,7 @@ fn draft<'a>(
     requires whole { IsWhole event.now }
     requires judged { IsJudgedFor setup.now held.now event.now judged }
     requires heard { IsHeardOf event.now heard.now (state_in_held held.now) }
+    requires settled { IsSettledState setup.now (state_in_held held.now) }
     ensures draft { IfOk result (λ o.
         draft_in o ≡ draft_of setup.now (state_in_held held.now) event.now (closing_of closing.now)) }
     ensures bases { IfOk result (λ o.
@@ -93,6 +95,7 @@ fn attempt(
     requires numbers { HaveNumbers (bases_of (moment_of_event event.now held.old.moment) held.old) }
     requires whole { IsWhole event.now }
     requires heard { IsHeardOf event.now heard.now (state_in_held held.old) }
+    requires settled { IsSettledState setup.now (state_in_held held.old) }
     ensures put { IfOk result (IsPutOf setup.now held.new event.now (closing_of closing.now) last) }
     ensures state { state_in_held held.new ≡ state_in_held held.old }
 {
@@ -111,6 +114,7 @@ pub(crate) fn draft_event(
     requires numbers { HaveNumbers (bases_of (moment_of_event event.now held.old.moment) held.old) }
     requires whole { IsWhole event.now }
     requires heard { IsHeardOf event.now heard.now (state_in_held held.old) }
+    requires settled { IsSettledState setup.now (state_in_held held.old) }
     ensures draft { IfOk result (IsDraftOf held.new event.now
         (drafted_of setup.now (state_in_held held.old) event.now) setup.now) }
     ensures state { state_in_held held.new ≡ state_in_held held.old }

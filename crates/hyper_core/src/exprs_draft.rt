@@ -1,5 +1,5 @@
 //! What an event makes of the expressions of the virtual switches, beside them as they stand.
-ghost use Rattle.std.specs.Prelude.{◌≡◌, IfOk, OnOk, map};
+ghost use Rattle.std.specs.Prelude.{◌≡◌, IfOk, IsTrue, OnOk, map};
 ghost use Rattle.policy_expr.specs.Policy.{policy_of};
 ghost use Rattle.hyper_core.specs.ExprsDrafts.{replaced_in};
 ghost use Rattle.machine_meaning.specs.Replacing.{exprs_with};
@@ -91,6 +91,13 @@ impl<'a> Exprs<'a> {
             base,
             replaced: List::new(alloc),
         }
+    }
+
+    /// None is replaced.
+    pub(crate) fn is_kept(&self) -> bool
+        ensures { IsTrue result → self.now.now ≡ self.now.base }
+    {
+        self.replaced.is_empty()
     }
 
     /// A virtual switch gets another expression.

@@ -35,7 +35,8 @@ pub struct Hyper {
 }
 
 impl Model for Hyper {
-    ghost use Rattle.hyper_core.specs.Machines.{HasAll, MachineOf, holding_of};
+    ghost use Rattle.hyper_core.specs.Machines.{HasAll, MachineOf, holding_of, state_in_held};
+    ghost use Rattle.hyper_core.specs.Settled.{IsSettledState};
 
     ghost Value = { MachineOf };
 
@@ -46,8 +47,8 @@ impl Model for Hyper {
 
     ghost view = { λ a. record { plan = a.setup; holding = holding_of a.held } };
 
-    // There is a member for each of the policy's, and a switch.
-    ghost invariant = { λ a. HasAll a.setup a.held };
+    // There is a member for each of the policy's, and a switch. What stands on switches is what the setting gives.
+    ghost invariant = { λ a. HasAll a.setup a.held × IsSettledState a.setup (state_in_held a.held) };
 }
 
 impl Hyper {

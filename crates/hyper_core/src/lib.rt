@@ -60,6 +60,7 @@ mod telling;
 mod telling_ports;
 mod telling_removals;
 mod ticking;
+mod unchanged;
 mod views;
 mod ways;
 pub mod worlds;

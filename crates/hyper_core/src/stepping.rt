@@ -4,6 +4,7 @@ ghost use Rattle.machine_meaning.specs.Hearing.{heard};
 ghost use Rattle.hyper_core.specs.Machines.{HasAll, state_in_held};
 ghost use Rattle.hyper_core.specs.Moments.{taking_in as taking_in_of};
 ghost use Rattle.hyper_core.specs.Overtaking.{IsHeardOf, IsWhole};
+ghost use Rattle.hyper_core.specs.Settled.{IsSettledState};
 ghost use Rattle.machine_meaning.specs.Phases.{drafted as drafted_of};
 ghost use Rattle.machine_meaning.specs.Steps.{done, step_of};
 
@@ -24,9 +25,11 @@ fn drive(setup: &Setup, held: &mut Held, event: &Event, heard: &Heard) -> Result
     requires all { HasAll setup.now held.old }
     requires whole { IsWhole event.now }
     requires heard { IsHeardOf event.now heard.now (state_in_held held.old) }
+    requires settled { IsSettledState setup.now (state_in_held held.old) }
     ensures done { IfOk result (λ reply. (reply, state_in_held held.new)
         ≡ done setup.now (drafted_of setup.now (state_in_held held.old) event.now)) }
     ensures all { HasAll setup.now held.new }
+    ensures settled { IsSettledState setup.now (state_in_held held.new) }
     ensures memory { OnErr result (state_in_held held.new ≡ state_in_held held.old) }
 {
     // The proof learns how many members and switches a policy has.
@@ -46,9 +49,11 @@ fn drive(setup: &Setup, held: &mut Held, event: &Event, heard: &Heard) -> Result
 pub(crate) fn proceed(setup: &Setup, held: &mut Held, event: &Event) -> Result<Reply, Memory>
     requires all { HasAll setup.now held.old }
     requires whole { IsWhole event.now }
+    requires settled { IsSettledState setup.now (state_in_held held.old) }
     ensures done { IfOk result (λ reply. (reply, state_in_held held.new)
         ≡ done setup.now (drafted_of setup.now (heard (state_in_held held.old) event.now) event.now)) }
     ensures all { HasAll setup.now held.new }
+    ensures settled { IsSettledState setup.now (state_in_held held.new) }
     ensures memory { OnErr result (state_in_held held.new ≡ state_in_held held.old) }
 {
     let overtaken = hear(setup.alloc(), held, event)?;
@@ -72,12 +77,14 @@ fn taking_in(event: &Event) -> Option<Session>
 }
 
 /// One step.
-#[tactic(auto, using(crate::proofs::Stepped::step_glanced, crate::proofs::Stepped::step_taking, crate::proofs::Stepped::step_other, crate::proofs::Stepped::has_all_taken, crate::proofs::Whole::whole_event))]
+#[tactic(auto, using(crate::proofs::Stepped::step_glanced, crate::proofs::Stepped::step_taking, crate::proofs::Stepped::step_other, crate::proofs::Stepped::has_all_taken, crate::proofs::Stepped::settled_taken, crate::proofs::Whole::whole_event))]
 pub(crate) fn step(setup: &Setup, held: &mut Held, event: &Event) -> Result<Reply, Memory>
-    requires { HasAll setup.now held.old }
+    requires all { HasAll setup.now held.old }
+    requires settled { IsSettledState setup.now (state_in_held held.old) }
     ensures step { IfOk result (λ reply. (reply, state_in_held held.new)
         ≡ step_of setup.now (state_in_held held.old) event.now) }
     ensures all { HasAll setup.now held.new }
+    ensures settled { IsSettledState setup.now (state_in_held held.new) }
     ensures memory { OnErr result (state_in_held held.new ≡ state_in_held held.old) }
 {
     if let Some(reply) = glance(setup, held, event) {

@@ -1,5 +1,5 @@
 //! What an event makes of a switch, beside the switch as it stands.
-ghost use Rattle.std.specs.Prelude.{◌≡◌, ◌<◌, [], IfOk, OnOk, length, unwrap_or};
+ghost use Rattle.std.specs.Prelude.{◌≡◌, ◌<◌, [], IfOk, IsTrue, OnOk, length, unwrap_or};
 ghost use Rattle.switch_state.specs.Fitting.{CanSend};
 ghost use Rattle.switch_state.specs.Known.{nothing_known};
 ghost use Rattle.switch_state.specs.Messages.{flow_request, packet_out, port_request, switch_messages};
@@ -9,7 +9,7 @@ ghost use Rattle.switch_state.specs.Reports.{removal};
 ghost use Rattle.switch_state.specs.Sending.{send, send_all, sending_of};
 ghost use Rattle.machine_meaning.specs.Rounds.{begun_switch, ended_switch};
 ghost use Rattle.hyper_core.specs.Moving.{IsSwitchPart, standing_moved, switch_moved, switch_put};
-ghost use Rattle.hyper_core.specs.SwitchDrafts.{standing_switch, with_known, with_round, with_written};
+ghost use Rattle.hyper_core.specs.SwitchDrafts.{IsUnmoved, standing_switch, with_known, with_round, with_written};
 ghost use Rattle.hyper_core.specs.Views.{standing_of, switch_of};
 
 use crate::session::Switch;
@@ -123,6 +123,13 @@ impl<'a> SwitchDraft<'a> {
             Some(standing) => standing.as_slice(),
             None => self.base.standing.as_slice(),
         }
+    }
+
+    /// It is up or down as it was, and has the entries that it had.
+    pub(crate) fn is_unmoved(&self) -> bool
+        ensures { IsTrue result → IsUnmoved self.now }
+    {
+        self.turn.up == self.base.outbox.is_up() && self.standing.is_none()
     }
 
     /// The round ends: nothing is known of the switch any more, and nothing stands on it.

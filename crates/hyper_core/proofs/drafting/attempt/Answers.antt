@@ -5,6 +5,7 @@ use Rattle.hyper_core.specs.Closings.{closing_of}
 use Rattle.hyper_core.specs.Moments.{moment_of}
 use Rattle.hyper_core.specs.Overtaking.{IsHeardOf}
 use Rattle.hyper_core.specs.Puts.{HaveNumbers}
+use Rattle.hyper_core.specs.Settled.{IsSettledState}
 use Rattle.hyper_core.proofs.drafting.attempt.Goals as goal
 
 pub judge_event-requires : goal.judge_event-requires
@@ -24,6 +25,10 @@ draft-requires-clause-judged c = c.in_ok-judged.ensures.judged
 pub draft-requires-clause-heard : goal.draft-requires-clause-heard
 draft-requires-clause-heard c =
     subst (IsHeardOf c.args.event.now c.args.heard.now) (sym c.judge_event.ensures.state) c.requires.heard
+
+pub draft-requires-clause-settled : goal.draft-requires-clause-settled
+draft-requires-clause-settled c =
+    subst (IsSettledState c.args.setup.now) (sym c.judge_event.ensures.state) c.requires.settled
 
 pub put-requires : goal.put-requires
 put-requires c =

@@ -8,6 +8,7 @@ use Rattle.hyper_core.specs.Machines.{at_moment, bases_of, state_in_held}
 use Rattle.hyper_core.specs.Moments.{IsOfEvent, moment_of}
 use Rattle.hyper_core.specs.Outcomes.{AreTimely, IsBefore, draft_in}
 use Rattle.hyper_core.specs.Overtaking.{IsHeardOf}
+use Rattle.hyper_core.specs.Settled.{WasSettled}
 use Rattle.hyper_core.proofs.drafting.draft.Goals as goal
 
 pub act-requires-clause-few : goal.act-requires-clause-few
@@ -49,6 +50,13 @@ settle-requires c =
     subst AreTimely
     (sym (c.in_ok-close.ensures.bases ∙ (c.in_ok-act.ensures.bases ∙ c.in_ok-draft.ensures.bases)))
     (timely_begun c.moment_of-now.result c.args.held.now)
+
+pub compose-requires : goal.compose-requires
+compose-requires c =
+    subst (WasSettled c.args.setup.now)
+    (sym (c.in_ok-settle.ensures.bases ∙ (c.in_ok-close.ensures.bases ∙ (c.in_ok-act.ensures.bases
+    ∙ c.in_ok-draft.ensures.bases))))
+    c.requires.settled
 
 pub tell-requires-clause-few : goal.tell-requires-clause-few
 tell-requires-clause-few c =

@@ -7,6 +7,7 @@ use Rattle.hyper_core.specs.Machines.{state_in_held}
 use Rattle.hyper_core.specs.Moments.{moment_of}
 use Rattle.hyper_core.specs.Overtaking.{IsHeardOf}
 use Rattle.machine_meaning.specs.Phases.{slow_from}
+use Rattle.hyper_core.specs.Settled.{IsSettledState}
 use Rattle.hyper_core.proofs.drafting.draft_event.Goals as goal
 
 pub attempt-requires-clause-numbers : goal.attempt-requires-clause-numbers
@@ -20,6 +21,10 @@ attempt-requires-clause-whole c = c.requires.whole
 pub attempt-requires-clause-heard : goal.attempt-requires-clause-heard
 attempt-requires-clause-heard c =
     subst (IsHeardOf c.args.event.now c.args.heard.now) (sym c.loop-closing.invariant.state) c.requires.heard
+
+pub attempt-requires-clause-settled : goal.attempt-requires-clause-settled
+attempt-requires-clause-settled c =
+    subst (IsSettledState c.args.setup.now) (sym c.loop-closing.invariant.state) c.requires.settled
 
 pub returns-in-Ready-clause-draft : goal.returns-in-Ready-clause-draft
 returns-in-Ready-clause-draft c =

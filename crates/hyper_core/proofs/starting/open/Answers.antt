@@ -10,6 +10,8 @@ use Rattle.hyper_core.specs.Machines.{HasBits}
 use Rattle.hyper_core.specs.Views.{member_of, standing_of, switch_of}
 use Rattle.hyper_core.proofs.Opened.{all_bits, as_many}
 use Rattle.hyper_core.proofs.Puts.{state_same}
+use Rattle.hyper_core.proofs.StaysSettled.{opening_settled}
+use Rattle.hyper_core.specs.Settled.{IsSettledState}
 use Rattle.hyper_core.proofs.starting.open.Goals as goal
 
 pub new_members-requires : goal.new_members-requires
@@ -45,6 +47,10 @@ returns-clause-opening c =
     (c.in_ok-switches.ensures.sessions ∙ ap (λ (xs : List SwitchItem). map new_switch xs) plan)
     (c.in_ok-switches.ensures.standing ∙ ap (λ (xs : List SwitchItem). map nothing_stands xs) plan)
     c.new-counts.ensures c.new-waiting.ensures c.new-owed.ensures refl c.new-audit.ensures
+
+pub returns-clause-settled : goal.returns-clause-settled
+returns-clause-settled c =
+    subst (IsSettledState c.args.setup.now) (sym (returns-clause-opening c)) (opening_settled c.args.setup.now)
 
 pub returns-clause-all : goal.returns-clause-all
 returns-clause-all c =

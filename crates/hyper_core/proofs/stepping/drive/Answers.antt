@@ -1,8 +1,10 @@
-use Rattle.std.proofs.Common.{◌∙◌, ap}
+use Rattle.std.proofs.Common.{◌∙◌, ap, subst, sym}
 use Rattle.stats_map.specs.Told.{HeldOf}
 use Rattle.hyper_core.specs.Machines.{state_in_held}
 use Rattle.hyper_core.proofs.Attempts.{drafted_done, drafted_moves, has_all_kept, has_all_moved, held_with}
 use Rattle.hyper_core.proofs.Attempts.{in_any_case}
+use Rattle.hyper_core.proofs.Stepped.{settled_done}
+use Rattle.hyper_core.specs.Settled.{IsSettledState}
 use Rattle.hyper_core.proofs.stepping.drive.Goals as goal
 
 pub draft_event-requires-clause-whole : goal.draft_event-requires-clause-whole
@@ -10,6 +12,9 @@ draft_event-requires-clause-whole c = c.requires.whole
 
 pub draft_event-requires-clause-heard : goal.draft_event-requires-clause-heard
 draft_event-requires-clause-heard c = c.requires.heard
+
+pub draft_event-requires-clause-settled : goal.draft_event-requires-clause-settled
+draft_event-requires-clause-settled c = c.requires.settled
 
 pub make-requires : goal.make-requires
 make-requires c = c.in_ok-reply.ensures.draft.counts
@@ -32,6 +37,10 @@ returns-clause-all c =
     c.in_ok-reply.field-0.parts.moment c.in_ok-reply.field-0.parts
     (record { members = all.members; switches = all.switches }) c.move_in.ensures
 
+pub returns-clause-settled : goal.returns-clause-settled
+returns-clause-settled c =
+    settled_done c.args.setup.now (state_in_held c.args.held.now) c.args.event.now _ _ (returns-clause-done c)
+
 -- where memory is wanted
 
 pub returns-in_err-reply-clause-all : goal.returns-in_err-reply-clause-all
@@ -46,6 +55,14 @@ returns-in_err-make-clause-all c =
     let held = c.draft_event.new.held in
     let all = has_all_kept c.args.setup.now c.args.held.now held c.requires.all c.draft_event.ensures.state in
     record { members = all.members; switches = all.switches }
+
+pub returns-in_err-reply-clause-settled : goal.returns-in_err-reply-clause-settled
+returns-in_err-reply-clause-settled c =
+    subst (IsSettledState c.args.setup.now) (sym c.draft_event.ensures.state) c.requires.settled
+
+pub returns-in_err-make-clause-settled : goal.returns-in_err-make-clause-settled
+returns-in_err-make-clause-settled c =
+    subst (IsSettledState c.args.setup.now) (sym c.draft_event.ensures.state) c.requires.settled
 
 pub returns-in_err-make-clause-memory : goal.returns-in_err-make-clause-memory
 returns-in_err-make-clause-memory c =

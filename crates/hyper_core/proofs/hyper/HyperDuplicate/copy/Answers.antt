@@ -1,0 +1,7 @@
+use Rattle.hyper_core.proofs.Stepped.{held_copied}
+use Rattle.hyper_core.proofs.hyper.HyperDuplicate.copy.Goals as goal
+
+pub invariant_of-result : goal.invariant_of-result
+invariant_of-result c =
+    held_copied c.self.inside.setup c.in_ok-setup.setup c.self.inside.held c.in_ok-held.held c.in_ok-setup.ensures
+    c.in_ok-held.ensures c.self.invariant
