@@ -1,0 +1,6 @@
+pub mod Bytes
+pub mod Failing
+pub mod Framed
+pub mod Nexts
+pub mod Opens
+pub mod Sent

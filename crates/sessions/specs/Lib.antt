@@ -1,0 +1,9 @@
+pub mod Greetings
+pub mod InsideOpening
+pub mod InsideReading
+pub mod Opening
+pub mod Posts
+pub mod Reading
+pub mod Streams
+pub mod Worked
+pub mod Writing
