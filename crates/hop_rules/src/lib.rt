@@ -1,0 +1,21 @@
+//! The rules of the nodes of the ports of virtual switches, through hops over links, kept as the rules of
+//! the virtual switches change. A change recomposes only what descends from it: at each node the rules
+//! that come are joined with those that they could meet, found by an index, and what goes is found by
+//! what it was made of.
+#![tactic(auto)]
+
+pub mod exits;
+pub mod given;
+pub mod joining;
+pub mod laws;
+mod listing;
+pub mod meeting;
+pub mod node;
+pub mod standing;
+pub mod turning;
+
+pub use exits::{Exit, LinkEnd};
+pub use given::Given;
+pub use joining::Around;
+pub use node::{Node, Turn};
+pub use turning::change_node;
