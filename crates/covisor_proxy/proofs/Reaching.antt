@@ -1,6 +1,6 @@
 -- Where a replay ends, from how far it was.
 use Rattle.std.proofs.Common.{◌≡◌, ◌<◌, ◌+◌, ℕ, Bool, true, false, List, [], ◌++◌, Option, Some, None, Result, Ok, Err, length}
-use Rattle.std.proofs.Common.{sym, ap, ◌∙◌, subst, refl}
+use Rattle.std.proofs.Common.{sym, ap, ◌∙◌, subst, refl, OnOk, IfErr}
 use Rattle.std.proofs.lemmas.List.{append-nil}
 use Rattle.cv_io.specs.Outside.{Rose}
 use Rattle.policy_file.specs.Policies.{PolicyOf}
@@ -114,3 +114,34 @@ reaches-unclosed (Refused kind) form p old next at at' more w' f e none q h =
 reaches-unclosed Memory form p old next at at' more w' f e none q h = begins-still form p old next next at more [] f refl
 reaches-unclosed Read form p old next at at' more w' f e none q h = absurd h
 reaches-unclosed Write form p old next at at' more w' f e none q h = absurd h
+
+-- what a line does, where form and policy are the same
+pub taken-same : (F form : Form) (P p : PolicyOf) (at : Progress) (line : List ℕ) (used : ℕ) → F ≡ form → P ≡ p → taken F P at line used ≡ taken form p at line used
+taken-same F form P p at line used e e' = ap (λ (x : Form). taken x P at line used) e ∙ ap (λ (x : PolicyOf). taken form x at line used) e'
+
+closed_same : (F form : Form) (P p : PolicyOf) (line line' : List ℕ) (at at' : Progress) (w w' : List ℕ) → F ≡ form → P ≡ p → line ≡ line' → w ≡ []
+    → Closes F P line at at' w w' → Closes form p line' at at' [] w'
+closed_same F form P p line line' at at' w w' a b e d c =
+    subst (λ (x : List ℕ). Closes form p line' at at' x w') d
+    (subst (λ (x : List ℕ). Closes form p x at at' w w') e
+    (subst (λ (x : PolicyOf). Closes form x line at at' w w') b
+    (subst (λ (x : Form). Closes x P line at at' w w') a c)))
+
+unclosed_same : (stop : Stop) (F form : Form) (P p : PolicyOf) (line line' : List ℕ) (at at' : Progress) (w w' : List ℕ) → F ≡ form → P ≡ p → line ≡ line' → w ≡ []
+    → ClosesNot stop F P line at at' w w' → ClosesNot stop form p line' at at' [] w'
+unclosed_same stop F form P p line line' at at' w w' a b e d c =
+    subst (λ (x : List ℕ). ClosesNot stop form p line' at at' x w') d
+    (subst (λ (x : List ℕ). ClosesNot stop form p x at at' w w') e
+    (subst (λ (x : PolicyOf). ClosesNot stop form x line at at' w w') b
+    (subst (λ (x : Form). ClosesNot stop x P line at at' w w') a c)))
+
+-- at the end of the script
+pub reaches-last : (result : Result (Unit {0}) Stop) (F form : Form) (P p : PolicyOf) (old next : Moment) (at at' : Progress) (more : LinesOf) (line w w' : List ℕ)
+    → F ≡ form → P ≡ p → line ≡ more.line → w ≡ []
+    → Follows form p old next at more [] → IsAtEnd next.left → more.unread ≡ [] → next.reads ≡ old.reads → next.writes ≡ old.writes
+    → OnOk result (Closes F P line at at' w w') → IfErr result (λ stop. ClosesNot stop F P line at at' w w')
+    → Reaches result form p at' w' old next
+reaches-last (Ok done) F form P p old next at at' more line w w' a b e d f at_end none r q c n =
+    reaches-closed form p old next at at' more w' f at_end none r q (closed_same F form P p line more.line at at' w w' a b e d c)
+reaches-last (Err stop) F form P p old next at at' more line w w' a b e d f at_end none r q c n =
+    reaches-unclosed stop form p old next at at' more w' f at_end none q (unclosed_same stop F form P p line more.line at at' w w' a b e d n)
