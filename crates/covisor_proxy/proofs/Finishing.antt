@@ -73,7 +73,7 @@ begins-come all text code old mid new w c a = record {
   script = c.script;
   is = c.is;
   written = subst (AppendsSome old.held new.held) (sym (ap bytes_of c.report ∙ bytes_known c.written w text code))
-    (some_after old.held mid.held new.held c.written (w ++ as_line text) c.appends a);
+      (some_after old.held mid.held new.held c.written (w ++ as_line text) c.appends a);
 }
 
 begins-still : (all : List ℕ → Report) (text : List ℕ) (code : ℕ) (old mid new : Moment) (w : List ℕ) → Comes all (lone text code) old mid w
@@ -90,7 +90,7 @@ ends-done statuses.Done all cut text old mid new w c r q e = record {
   is = c.is;
   status = ap (λ (r : Report). r.status) c.report;
   written = subst (Appends old.held new.held) (sym (ap bytes_of c.report ∙ bytes_known c.written w text 0))
-    (appends_both old.held mid.held new.held c.written (w ++ as_line text) c.appends e.0);
+      (appends_both old.held mid.held new.held c.written (w ++ as_line text) c.appends e.0);
   reads = r;
   writes = e.1 ∙ q;
 }
@@ -112,8 +112,8 @@ tells-come all text code old mid new w c q (inl a) =
     (appends_both old.held mid.held new.held c.written (w ++ as_line text) c.appends a))
 tells-come all text code old mid new w c q (inr a) =
     let some : Appends old.held new.held ((c.written ++ w) ++ take a.1.0 (as_line text)) =
-      subst (Appends old.held new.held) (sym (append_assoc c.written w (take a.1.0 (as_line text))))
-      (appends_both old.held mid.held new.held c.written (w ++ take a.1.0 (as_line text)) c.appends a.1.1) in
+    subst (Appends old.held new.held) (sym (append_assoc c.written w (take a.1.0 (as_line text))))
+    (appends_both old.held mid.held new.held c.written (w ++ take a.1.0 (as_line text)) c.appends a.1.1) in
     subst (λ (r : Report). Tells r old new) (sym c.report)
     (inr (
       subst (λ (x : ℕ). Rose x new.writes) q a.0,
@@ -148,8 +148,11 @@ breaks_tells cut old mid new b q (inl a) =
 breaks_tells cut old mid new b q (inr a) =
     inr (
       subst (λ (x : ℕ). Rose x new.writes) q a.0,
-      (a.1.0, subst (λ (x : List ℕ). Appends old.held new.held ((cut b.read).told ++ take a.1.0 x)) (sym b.last)
-      (appends_both old.held mid.held new.held (cut b.read).told (take a.1.0 (as_line (codes "fault read"))) b.appends a.1.1)),
+      (
+        a.1.0,
+        subst (λ (x : List ℕ). Appends old.held new.held ((cut b.read).told ++ take a.1.0 x)) (sym b.last)
+            (appends_both old.held mid.held new.held (cut b.read).told (take a.1.0 (as_line (codes "fault read"))) b.appends a.1.1),
+      ),
     )
 
 pub breaks-off : (cut : List ℕ → Report) (old mid new : Moment) → Breaks cut old mid → Rose old.reads mid.reads → mid.writes ≡ old.writes
@@ -195,7 +198,7 @@ told-absent result form name files fails fails' old new h a = (
   Err faults.Absent,
   h,
   ends-alone statuses.Absent result (over_file report_of form name (Err faults.Absent)) (over_file cut_report_of form name (Err faults.Absent))
-    (codes "fault absent " ++ name) old new (λ s. s) (λ script. refl) a,
+      (codes "fault absent " ++ name) old new (λ s. s) (λ script. refl) a,
 )
 
 pub told-unread : (form : Form) (name : List ℕ) (files : Option (List MemFile)) (fails fails' : ℕ) (old new : Moment) → Rose fails fails'
@@ -215,7 +218,7 @@ told-refused result form name fault files fails fails' old new bytes h e a = (
   Ok bytes,
   h,
   ends-alone statuses.Policy result (over_file report_of form name (Ok bytes)) (over_file cut_report_of form name (Ok bytes))
-    (codes "fault policy " ++ terse fault) old new (λ s. s) (λ script. ap (λ (x : Result PolicyOf PolicyFault). over report_of form x script) e) a,
+      (codes "fault policy " ++ terse fault) old new (λ s. s) (λ script. ap (λ (x : Result PolicyOf PolicyFault). over report_of form x script) e) a,
 )
 
 pub told-wanted : (form : Form) (name : List ℕ) (files : Option (List MemFile)) (fails fails' : ℕ) (old new : Moment) → new.held ≡ old.held

@@ -106,8 +106,22 @@ fn obey<F: Files, S: Source, K: Sink>(
 {
     match command {
         Command::Replay => replay_built_in(alloc, input, out),
-        Command::ReplayPolicy { name } => replay_file(alloc, Form::Replay, &name, files, input, out),
-        Command::ExplainPolicy { name } => replay_file(alloc, Form::Explain, &name, files, input, out),
+        Command::ReplayPolicy { name } => replay_file(
+            alloc,
+            Form::Replay,
+            &name,
+            files,
+            input,
+            out,
+        ),
+        Command::ExplainPolicy { name } => replay_file(
+            alloc,
+            Form::Explain,
+            &name,
+            files,
+            input,
+            out,
+        ),
         Command::Make { seed, count } => make(alloc, seed, count, out),
     }
 }

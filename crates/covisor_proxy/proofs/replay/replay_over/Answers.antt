@@ -59,8 +59,10 @@ returns-in_err-more-in-Part g c =
     let went : GoesOn Part c.loop.lines mid = subst (λ (x : Taken). GoesOn x c.loop.lines mid) c.in-Part.is c.in_ok-take.ensures in
     let follows = follows-part form plan old new at c.loop.lines mid w c.loop.invariant.follows went in
     rw (p.1, p.2)
-    (record { reaches = reaches-unread stop form plan old new next at (progress_of c.more.new.player) mid w (reported c.more.new.player)
-        follows went.2 c.loop.invariant.reads c.loop.invariant.writes c.in_err-more-in-Part.ensures.progress c.in_err-more-in-Part.ensures.stops })
+    (record {
+      reaches = reaches-unread stop form plan old new next at (progress_of c.more.new.player) mid w (reported c.more.new.player)
+          follows went.2 c.loop.invariant.reads c.loop.invariant.writes c.in_err-more-in-Part.ensures.progress c.in_err-more-in-Part.ensures.stops;
+    })
 
 pub returns-then-not-branch : goal.returns-then-not-branch
 returns-then-not-branch g c =
@@ -80,13 +82,15 @@ returns-then-not-branch g c =
     let ended : c.in_ok-more-in-Part.field-0 ≡ false = search rules in
     let last = reads.at_end ended in
     let here : Follows form plan old next at' more [] =
-      subst (λ (x : Progress). Follows form plan old next x more []) (sym c.in_ok-more-in-Part.ensures.progress)
-      (follows-read form plan old new next at mid more w follows went.2 reads.appends reads.gave reads.line) in
-    record { reaches = reaches-last c.last_line.result (form_of c.more.new.player) form (plan_of c.more.new.player) plan old next at' (progress_of c.last_line.new.player) more
-        c.line.result.now (reported c.more.new.player) (reported c.last_line.new.player)
-        (c.in_ok-more-in-Part.ensures.form ∙ c.loop.invariant.form) (c.in_ok-more-in-Part.ensures.plan ∙ c.loop.invariant.plan) c.line.ensures reads.waits
-        here last.0 last.1 (reads.reads ∙ c.loop.invariant.reads) (reads.writes ∙ c.loop.invariant.writes)
-        c.last_line.ensures.closes c.last_line.ensures.refused }
+    subst (λ (x : Progress). Follows form plan old next x more []) (sym c.in_ok-more-in-Part.ensures.progress)
+    (follows-read form plan old new next at mid more w follows went.2 reads.appends reads.gave reads.line) in
+    record {
+      reaches = reaches-last c.last_line.result (form_of c.more.new.player) form (plan_of c.more.new.player) plan old next at' (progress_of c.last_line.new.player) more
+          c.line.result.now (reported c.more.new.player) (reported c.last_line.new.player)
+          (c.in_ok-more-in-Part.ensures.form ∙ c.loop.invariant.form) (c.in_ok-more-in-Part.ensures.plan ∙ c.loop.invariant.plan) c.line.ensures reads.waits
+          here last.0 last.1 (reads.reads ∙ c.loop.invariant.reads) (reads.writes ∙ c.loop.invariant.writes)
+          c.last_line.ensures.closes c.last_line.ensures.refused;
+    }
 
 pub loop-preserved : goal.loop-preserved
 loop-preserved g c =
@@ -99,40 +103,40 @@ loop-preserved g c =
     let w = reported c.loop.player in
     elim c.match-branch-2.branch [
       | in-Whole+in_ok-whole_line-in-Whole v ↦
-        let went : GoesOn Whole c.loop.lines mid = subst (λ (x : Taken). GoesOn x c.loop.lines mid) v.in-Whole.is c.in_ok-take.ensures in
-        let at' = progress_of v.whole_line.new.player in
-        let w' = reported v.whole_line.new.player in
-        let held = g.K.Sink.held v.whole_line.new.out in
-        let writes = g.K.Sink.faults v.whole_line.new.out in
-        let same = taken-same (form_of c.loop.player) form (plan_of c.loop.player) plan at mid.line (length mid.line + 1) c.loop.invariant.form c.loop.invariant.plan in
-        let does = subst (λ (x : Result Played Kind). Does x (length mid.line + 1) at at' new.held held w w') same v.in_ok-whole_line-in-Whole.ensures.does in
-        let here = follows-line form plan old new held writes at at' c.loop.lines mid w w' c.loop.invariant.follows went does in
-        rw (v.player-is, v.lines-is, v.input-is, v.out-is)
-        (record {
-          follows = subst (λ (x : LinesOf). Follows form plan old (moment new.left new.reads held writes) at' x w') (sym v.in_ok-whole_line-in-Whole.ensures.next) here;
-          reads = c.loop.invariant.reads;
-          writes = v.in_ok-whole_line-in-Whole.ensures.quiet ∙ c.loop.invariant.writes;
-          form = v.in_ok-whole_line-in-Whole.ensures.form ∙ c.loop.invariant.form;
-          plan = v.in_ok-whole_line-in-Whole.ensures.plan ∙ c.loop.invariant.plan;
-        })
+          let went : GoesOn Whole c.loop.lines mid = subst (λ (x : Taken). GoesOn x c.loop.lines mid) v.in-Whole.is c.in_ok-take.ensures in
+          let at' = progress_of v.whole_line.new.player in
+          let w' = reported v.whole_line.new.player in
+          let held = g.K.Sink.held v.whole_line.new.out in
+          let writes = g.K.Sink.faults v.whole_line.new.out in
+          let same = taken-same (form_of c.loop.player) form (plan_of c.loop.player) plan at mid.line (length mid.line + 1) c.loop.invariant.form c.loop.invariant.plan in
+          let does = subst (λ (x : Result Played Kind). Does x (length mid.line + 1) at at' new.held held w w') same v.in_ok-whole_line-in-Whole.ensures.does in
+          let here = follows-line form plan old new held writes at at' c.loop.lines mid w w' c.loop.invariant.follows went does in
+          rw (v.player-is, v.lines-is, v.input-is, v.out-is)
+          (record {
+            follows = subst (λ (x : LinesOf). Follows form plan old (moment new.left new.reads held writes) at' x w') (sym v.in_ok-whole_line-in-Whole.ensures.next) here;
+            reads = c.loop.invariant.reads;
+            writes = v.in_ok-whole_line-in-Whole.ensures.quiet ∙ c.loop.invariant.writes;
+            form = v.in_ok-whole_line-in-Whole.ensures.form ∙ c.loop.invariant.form;
+            plan = v.in_ok-whole_line-in-Whole.ensures.plan ∙ c.loop.invariant.plan;
+          })
       | in-Part+in_ok-more-in-Part+else-not-branch v ↦
-        let went : GoesOn Part c.loop.lines mid = subst (λ (x : Taken). GoesOn x c.loop.lines mid) v.in-Part.is c.in_ok-take.ensures in
-        let next = moment (g.S.Source.remaining v.more.new.input) (g.S.Source.faults v.more.new.input) (g.K.Sink.held v.more.new.out) (g.K.Sink.faults v.more.new.out) in
-        let at' = progress_of v.more.new.player in
-        let more = v.more.new.lines in
-        let reads = v.in_ok-more-in-Part.ensures.reads in
-        let follows = follows-part form plan old new at c.loop.lines mid w c.loop.invariant.follows went in
-        let here : Follows form plan old next at' more [] =
+          let went : GoesOn Part c.loop.lines mid = subst (λ (x : Taken). GoesOn x c.loop.lines mid) v.in-Part.is c.in_ok-take.ensures in
+          let next = moment (g.S.Source.remaining v.more.new.input) (g.S.Source.faults v.more.new.input) (g.K.Sink.held v.more.new.out) (g.K.Sink.faults v.more.new.out) in
+          let at' = progress_of v.more.new.player in
+          let more = v.more.new.lines in
+          let reads = v.in_ok-more-in-Part.ensures.reads in
+          let follows = follows-part form plan old new at c.loop.lines mid w c.loop.invariant.follows went in
+          let here : Follows form plan old next at' more [] =
           subst (λ (x : Progress). Follows form plan old next x more []) (sym v.in_ok-more-in-Part.ensures.progress)
           (follows-read form plan old new next at mid more w follows went.2 reads.appends reads.gave reads.line) in
-        rw (v.player-is, v.lines-is, v.input-is, v.out-is)
-        (record {
-          follows = subst (Follows form plan old next at' more) (sym reads.waits) here;
-          reads = reads.reads ∙ c.loop.invariant.reads;
-          writes = reads.writes ∙ c.loop.invariant.writes;
-          form = v.in_ok-more-in-Part.ensures.form ∙ c.loop.invariant.form;
-          plan = v.in_ok-more-in-Part.ensures.plan ∙ c.loop.invariant.plan;
-        })
+          rw (v.player-is, v.lines-is, v.input-is, v.out-is)
+          (record {
+            follows = subst (Follows form plan old next at' more) (sym reads.waits) here;
+            reads = reads.reads ∙ c.loop.invariant.reads;
+            writes = reads.writes ∙ c.loop.invariant.writes;
+            form = v.in_ok-more-in-Part.ensures.form ∙ c.loop.invariant.form;
+            plan = v.in_ok-more-in-Part.ensures.plan ∙ c.loop.invariant.plan;
+          })
     ]
 
 pub returns : goal.returns

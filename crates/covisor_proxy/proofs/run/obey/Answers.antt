@@ -22,8 +22,7 @@ returns-in-Make-clause-ends g c =
     let old = moment (g.S.Source.remaining c.args.input.now) (g.S.Source.faults c.args.input.now) (g.K.Sink.held c.args.out.now) (g.K.Sink.faults c.args.out.now) in
     let new = moment (g.S.Source.remaining c.args.input.now) (g.S.Source.faults c.args.input.now) (g.K.Sink.held c.make.new.out) (g.K.Sink.faults c.make.new.out) in
     let making = Some (Make c.in-Make.seed c.in-Make.count) in
-    subst (λ (x : Command). Ended c.make.result (Some x) (g.F.Files.files c.args.files.now) (g.F.Files.faults c.args.files.now) (g.F.Files.faults c.args.files.now) old new) (sym c.in-Make.is)
-    (
+    subst (λ (x : Command). Ended c.make.result (Some x) (g.F.Files.files c.args.files.now) (g.F.Files.faults c.args.files.now) (g.F.Files.faults c.args.files.now) old new) (sym c.in-Make.is) (
       Err faults.Memory,
       tt,
       ends-made c.make.result (report_for making (Err faults.Memory)) (cut_report_for making (Err faults.Memory)) (summary_text (made_of c.in-Make.seed c.in-Make.count)) old new (λ script. refl) refl c.make.ensures,

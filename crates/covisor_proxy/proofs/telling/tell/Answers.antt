@@ -29,7 +29,7 @@ returns-in-Refused-clause-ends g c = λ files fails fails' form left reads o.
     let old = moment left reads (g.K.Sink.held c.args.out.now) (g.K.Sink.faults c.args.out.now) in
     let new = moment left reads (g.K.Sink.held c.tell_refused.new.out) (g.K.Sink.faults c.tell_refused.new.out) in
     let h : Opens files fails fails' c.args.name.now (Err (Refused c.in-Refused.fault)) =
-      subst (λ (x : NoPolicy). Opens files fails fails' c.args.name.now (Err x)) c.in-Refused.is o in
+    subst (λ (x : NoPolicy). Opens files fails fails' c.args.name.now (Err x)) c.in-Refused.is o in
     told-refused c.tell_refused.result form c.args.name.now c.in-Refused.fault files fails fails' old new h.0 h.1 h.2 c.tell_refused.ensures
 
 pub returns-in-Memory-clause-ends : goal.returns-in-Memory-clause-ends
