@@ -2,7 +2,7 @@ use Rattle.std.proofs.Common.{refl}
 use Rattle.covisor_proxy.specs.Outcomes.{moment}
 use Rattle.covisor_proxy.specs.Words.{command_of}
 use Rattle.covisor_proxy.proofs.Finishing.{ended-wanted}
-use Rattle.covisor_proxy.proofs.run.answer.Goals as goal
+use Rattle.covisor_proxy.proofs.program.answer.Goals as goal
 
 pub returns-in-Err-clause-ends : goal.returns-in-Err-clause-ends
 returns-in-Err-clause-ends g c =

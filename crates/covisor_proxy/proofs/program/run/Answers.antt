@@ -4,7 +4,7 @@ use Rattle.covisor_proxy.specs.Runs.{IsComplete}
 use Rattle.covisor_proxy.specs.Words.{command_of}
 use Rattle.std.proofs.Common.{ℕ, subst}
 use Rattle.covisor_proxy.proofs.Running.{absent-run, complete-run, read-run, refused-run}
-use Rattle.covisor_proxy.proofs.run.run.Goals as goal
+use Rattle.covisor_proxy.proofs.program.run.Goals as goal
 
 pub returns-clause-refused : goal.returns-clause-refused
 returns-clause-refused g c =

@@ -8,7 +8,7 @@ use Rattle.covisor_proxy.specs.Runs.{Ended}
 use Rattle.covisor_proxy.specs.declared.words.Command.{Command}
 use Rattle.covisor_proxy.specs.declared.words.Command.TheVariants.{Make}
 use Rattle.covisor_proxy.proofs.Finishing.{ends-made}
-use Rattle.covisor_proxy.proofs.run.obey.Goals as goal
+use Rattle.covisor_proxy.proofs.program.obey.Goals as goal
 
 pub returns-in-Replay-clause-ends : goal.returns-in-Replay-clause-ends
 returns-in-Replay-clause-ends g c =

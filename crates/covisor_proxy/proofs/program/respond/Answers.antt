@@ -4,7 +4,7 @@ use Rattle.covisor_proxy.specs.Runs.{Ended}
 use Rattle.covisor_proxy.specs.declared.status.Status.{Status}
 use Rattle.covisor_proxy.specs.declared.words.Command.{Command}
 use Rattle.covisor_proxy.proofs.Finishing.{ended-usage}
-use Rattle.covisor_proxy.proofs.run.respond.Goals as goal
+use Rattle.covisor_proxy.proofs.program.respond.Goals as goal
 
 pub returns-in-None-clause-ends : goal.returns-in-None-clause-ends
 returns-in-None-clause-ends g c =
