@@ -5,37 +5,35 @@
 ghost use Rattle.std.specs.Prelude.{◌≡◌, ◌<◌};
 
 use covisor_proxy::{MEMORY, run};
-use cv_io::{DiskFiles, Incoming, Memory, Outgoing, Steps};
-use std::env;
-use std::io::{self, ErrorKind};
+use cv_io::{DiskFiles, Incoming, Outgoing, Steps};
+use std::io::ErrorKind;
 use std::marker::Brand;
 use std::process::ExitCode;
 use std::sync::ledger::{Blank, Ledger};
+use std::{env, io};
 
-/// The words after the program's name. Where one isn't text there are none, which is no form of the command line
-/// either.
-fn given_words(rt: &HostRuntime) -> Result<Vec<String>, Memory> {
+/// The words after the program's name. Where one isn't text there are none, which is no form of
+/// the command line either; None for want of memory.
+fn given_words(rt: &HostRuntime) -> Option<Vec<String>> {
     let mut words = Vec::new(rt.alloc());
-    match env::args(rt) {
-        Ok(given) => {
-            for word in given.skip(1) {
-                words.push(word)?;
-            }
-        }
-        Err(fault) => {
-            if fault.kind() == ErrorKind::OutOfMemory {
-                return Err(Memory);
-            }
+    let given = match env::args(rt) {
+        Ok(given) => given,
+        Err(fault) if fault.kind() == ErrorKind::OutOfMemory => return None,
+        Err(_) => return Some(words),
+    };
+    for word in given.skip(1) {
+        if words.push(word).is_err() {
+            return None;
         }
     }
-    Ok(words)
+    Some(words)
 }
 
-/// Runs over the machine's files, standard input and standard output, with a counter of steps of its own.
+/// Runs over the machine's files and standard input and output, with a counter of steps of its own.
 fn run_counted<G: Ledger>(rt: &HostRuntime, blank: Blank) -> u8
     requires { (blank.name ≡ G.name) × (blank.parts ≡ G.parts) × (0 < blank.parts) }
 {
-    let Ok(words) = given_words(rt) else {
+    let Some(words) = given_words(rt) else {
         return MEMORY;
     };
     let mut files = DiskFiles::new(rt);

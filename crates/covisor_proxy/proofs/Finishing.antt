@@ -8,7 +8,18 @@ use Rattle.policy_file.specs.Policies.{PolicyOf}
 use Rattle.replay_report.specs.Reports.{Progress, Report, after_text, cut_report_of, end_text, lone, refusal_text, report_of}
 use Rattle.replay_report.specs.Takings.{as_line}
 use Rattle.script_text.specs.declared.form.Form.{Form}
+use Rattle.cv_io.specs.declared.files.FileFault.TheVariants as faults
+use Rattle.cv_io.specs.declared.files.MemFile.{MemFile}
+use Rattle.policy_file.specs.Reading.{policy_in_bytes}
+use Rattle.policy_file.specs.Terse.{terse}
+use Rattle.policy_file.specs.declared.fault.PolicyFault.{PolicyFault}
+use Rattle.script_text.specs.declared.form.Form.TheVariants as forms
+use Rattle.covisor_proxy.specs.Asked.{over, over_built_in, over_file, report_for, stated}
 use Rattle.covisor_proxy.specs.Chunks.{Gave, IsAtEnd}
+use Rattle.covisor_proxy.specs.Opening.{AnswersTo, Holds}
+use Rattle.covisor_proxy.specs.Runs.{Ended, EndsOver}
+use Rattle.covisor_proxy.specs.declared.words.Command.{Command}
+use Rattle.covisor_proxy.specs.declared.words.Command.TheVariants as commands
 use Rattle.covisor_proxy.specs.Following.{Alone, Breaks, Comes, EndsWith, Reaches, StopsWith, Writes}
 use Rattle.covisor_proxy.specs.Outcomes.{Begins, BreaksOff, Ends, Finishes, IsScript, Moment, Settles, Tells, bytes_of, code_of}
 use Rattle.covisor_proxy.specs.Written.{Appends, AppendsSome}
@@ -62,7 +73,7 @@ begins-come all text code old mid new w c a = record {
   script = c.script;
   is = c.is;
   written = subst (AppendsSome old.held new.held) (sym (ap bytes_of c.report ∙ bytes_known c.written w text code))
-    (some_after old.held mid.held new.held c.written (w ++ as_line text) c.appends a);
+      (some_after old.held mid.held new.held c.written (w ++ as_line text) c.appends a);
 }
 
 begins-still : (all : List ℕ → Report) (text : List ℕ) (code : ℕ) (old mid new : Moment) (w : List ℕ) → Comes all (lone text code) old mid w
@@ -79,7 +90,7 @@ ends-done statuses.Done all cut text old mid new w c r q e = record {
   is = c.is;
   status = ap (λ (r : Report). r.status) c.report;
   written = subst (Appends old.held new.held) (sym (ap bytes_of c.report ∙ bytes_known c.written w text 0))
-    (appends_both old.held mid.held new.held c.written (w ++ as_line text) c.appends e.0);
+      (appends_both old.held mid.held new.held c.written (w ++ as_line text) c.appends e.0);
   reads = r;
   writes = e.1 ∙ q;
 }
@@ -101,8 +112,8 @@ tells-come all text code old mid new w c q (inl a) =
     (appends_both old.held mid.held new.held c.written (w ++ as_line text) c.appends a))
 tells-come all text code old mid new w c q (inr a) =
     let some : Appends old.held new.held ((c.written ++ w) ++ take a.1.0 (as_line text)) =
-      subst (Appends old.held new.held) (sym (append_assoc c.written w (take a.1.0 (as_line text))))
-      (appends_both old.held mid.held new.held c.written (w ++ take a.1.0 (as_line text)) c.appends a.1.1) in
+    subst (Appends old.held new.held) (sym (append_assoc c.written w (take a.1.0 (as_line text))))
+    (appends_both old.held mid.held new.held c.written (w ++ take a.1.0 (as_line text)) c.appends a.1.1) in
     subst (λ (r : Report). Tells r old new) (sym c.report)
     (inr (
       subst (λ (x : ℕ). Rose x new.writes) q a.0,
@@ -137,8 +148,11 @@ breaks_tells cut old mid new b q (inl a) =
 breaks_tells cut old mid new b q (inr a) =
     inr (
       subst (λ (x : ℕ). Rose x new.writes) q a.0,
-      (a.1.0, subst (λ (x : List ℕ). Appends old.held new.held ((cut b.read).told ++ take a.1.0 x)) (sym b.last)
-      (appends_both old.held mid.held new.held (cut b.read).told (take a.1.0 (as_line (codes "fault read"))) b.appends a.1.1)),
+      (
+        a.1.0,
+        subst (λ (x : List ℕ). Appends old.held new.held ((cut b.read).told ++ take a.1.0 x)) (sym b.last)
+            (appends_both old.held mid.held new.held (cut b.read).told (take a.1.0 (as_line (codes "fault read"))) b.appends a.1.1),
+      ),
     )
 
 pub breaks-off : (cut : List ℕ → Report) (old mid new : Moment) → Breaks cut old mid → Rose old.reads mid.reads → mid.writes ≡ old.writes
@@ -158,3 +172,91 @@ pub reached-end : (outcome : Result (Unit {0}) Stop) (form : Form) (p : PolicyOf
     → Reaches outcome form p at w old new → IsAtEnd new.left
 reached-end (Ok _) form p at w old new ok r = r.1
 reached-end (Err stop) form p at w old new ok r = absurd (false≢true ok)
+
+-- ---- policies
+
+pub stated-is : (bytes : List ℕ) → stated bytes ≡ policy_in_bytes bytes
+unfolding stated
+stated-is bytes = refl
+
+pub over-built-in : (status : Status) (r : Result PolicyOf PolicyFault) (p : PolicyOf) (old new : Moment) → r ≡ Ok p
+    → Ends status (report_of forms.Replay p) (cut_report_of forms.Replay p) old new
+    → Ends status (over_built_in report_of r) (over_built_in cut_report_of r) old new
+over-built-in status r p old new e h =
+    subst (λ (x : Result PolicyOf PolicyFault). Ends status (over_built_in report_of x) (over_built_in cut_report_of x) old new) (sym e) h
+
+pub over-policy : (status : Status) (form : Form) (r : Result PolicyOf PolicyFault) (p : PolicyOf) (old new : Moment) → r ≡ Ok p
+    → Ends status (report_of form p) (cut_report_of form p) old new
+    → Ends status (over report_of form r) (over cut_report_of form r) old new
+over-policy status form r p old new e h =
+    subst (λ (x : Result PolicyOf PolicyFault). Ends status (over report_of form x) (over cut_report_of form x) old new) (sym e) h
+
+pub told-absent : (result : Status) (form : Form) (name : List ℕ) (files : Option (List MemFile)) (fails fails' : ℕ) (old new : Moment) → Holds files name None
+    → Alone statuses.Absent result old.held new.held old.writes new.writes (as_line (codes "fault absent " ++ name))
+    → EndsOver result form name files fails fails' old new
+told-absent result form name files fails fails' old new h a = (
+  Err faults.Absent,
+  h,
+  ends-alone statuses.Absent result (over_file report_of form name (Err faults.Absent)) (over_file cut_report_of form name (Err faults.Absent))
+      (codes "fault absent " ++ name) old new (λ s. s) (λ script. refl) a,
+)
+
+pub told-unread : (form : Form) (name : List ℕ) (files : Option (List MemFile)) (fails fails' : ℕ) (old new : Moment) → Rose fails fails'
+    → Writes old.held new.held old.writes new.writes (as_line (codes "fault read"))
+    → EndsOver statuses.Read form name files fails fails' old new
+told-unread form name files fails fails' old new h a = (
+  Err faults.Failed,
+  h,
+  inl (settles-alone 5 (over_file report_of form name (Err faults.Failed)) (codes "fault read") old new (λ script. refl) a),
+)
+
+pub told-refused : (result : Status) (form : Form) (name : List ℕ) (fault : PolicyFault) (files : Option (List MemFile)) (fails fails' : ℕ) (old new : Moment)
+    → (bytes : List ℕ) → Holds files name (Some bytes) → stated bytes ≡ Err fault
+    → Alone statuses.Policy result old.held new.held old.writes new.writes (as_line (codes "fault policy " ++ terse fault))
+    → EndsOver result form name files fails fails' old new
+told-refused result form name fault files fails fails' old new bytes h e a = (
+  Ok bytes,
+  h,
+  ends-alone statuses.Policy result (over_file report_of form name (Ok bytes)) (over_file cut_report_of form name (Ok bytes))
+      (codes "fault policy " ++ terse fault) old new (λ s. s) (λ script. ap (λ (x : Result PolicyOf PolicyFault). over report_of form x script) e) a,
+)
+
+pub told-wanted : (form : Form) (name : List ℕ) (files : Option (List MemFile)) (fails fails' : ℕ) (old new : Moment) → new.held ≡ old.held
+    → EndsOver statuses.Memory form name files fails fails' old new
+told-wanted form name files fails fails' old new e = (
+  Err faults.Memory,
+  tt,
+  begins-none (over_file report_of form name (Err faults.Memory)) old new e,
+)
+
+-- ---- what isn't of a file
+
+pub ends-made : (status : Status) (all cut : List ℕ → Report) (text : List ℕ) (old new : Moment) → ((script : List ℕ) → all script ≡ lone text 0)
+    → new.reads ≡ old.reads → EndsWith status old.held new.held old.writes new.writes [] (as_line text) → Ends status all cut old new
+ends-made status all cut text old new e r h =
+    ends-done status all cut text old old new []
+    (record {
+      script = rest_in old.left;
+      written = [];
+      is = script-told old.left;
+      appends = appends_none old.held;
+      report = e (rest_in old.left);
+    })
+    r refl h
+
+pub answers-wanted : (command : Option Command) (files : Option (List MemFile)) (fails fails' : ℕ) → AnswersTo command files fails fails' (Err faults.Memory)
+answers-wanted None files fails fails' = tt
+answers-wanted (Some commands.Replay) files fails fails' = tt
+answers-wanted (Some (commands.ReplayPolicy name)) files fails fails' = tt
+answers-wanted (Some (commands.ExplainPolicy name)) files fails fails' = tt
+answers-wanted (Some (commands.Make seed count)) files fails fails' = tt
+
+pub ended-wanted : (command : Option Command) (files : Option (List MemFile)) (fails fails' : ℕ) (old new : Moment) → new.held ≡ old.held
+    → Ended statuses.Memory command files fails fails' old new
+ended-wanted command files fails fails' old new e =
+    (Err faults.Memory, answers-wanted command files fails fails', begins-none (report_for command (Err faults.Memory)) old new e)
+
+pub ended-usage : (files : Option (List MemFile)) (fails fails' : ℕ) (old new : Moment)
+    → Writes old.held new.held old.writes new.writes (as_line (codes "fault usage")) → Ended statuses.Usage None files fails fails' old new
+ended-usage files fails fails' old new a =
+    (Err faults.Memory, tt, settles-alone 2 (report_for None (Err faults.Memory)) (codes "fault usage") old new (λ script. refl) a)

@@ -51,10 +51,10 @@ follows-part form p old new at lines next w f g = record {
   gave = f.gave;
   appends = f.appends;
   goes = λ ending rest.
-    ap (λ (x : List ℕ). after_text (f.written ++ w) (plays_from form p ending at x (next.unread ++ rest))) g.1
-    ∙ ap (λ (x : List ℕ). after_text (f.written ++ w) (plays_from form p ending at (lines.line ++ lines.unread) (x ++ rest))) g.2
-    ∙ ap (after_text (f.written ++ w)) (part_goes_on form p ending at lines.line lines.unread rest g.0)
-    ∙ f.goes ending rest;
+      ap (λ (x : List ℕ). after_text (f.written ++ w) (plays_from form p ending at x (next.unread ++ rest))) g.1
+      ∙ ap (λ (x : List ℕ). after_text (f.written ++ w) (plays_from form p ending at (lines.line ++ lines.unread) (x ++ rest))) g.2
+      ∙ ap (after_text (f.written ++ w)) (part_goes_on form p ending at lines.line lines.unread rest g.0)
+      ∙ f.goes ending rest;
 }
 
 -- what a line whose line feed is there does
@@ -85,18 +85,18 @@ pub follows-line : (form : Form) (p : PolicyOf) (old new : Moment) (held : Optio
     → Follows form p old (moment new.left new.reads held writes) at' (record next { line = [] }) w'
 follows-line form p old new held writes at at' lines next w w' f g d =
     let texts : (f.written ++ d.written) ++ w' ≡ (f.written ++ w) ++ d.played.text =
-      append_assoc f.written d.written w' ∙ ap (λ z. f.written ++ z) d.waits ∙ sym (append_assoc f.written w d.played.text) in
+    append_assoc f.written d.written w' ∙ ap (λ z. f.written ++ z) d.waits ∙ sym (append_assoc f.written w d.played.text) in
     record {
       read = f.read;
       written = f.written ++ d.written;
       gave = f.gave;
       appends = appends_both old.held new.held held f.written d.written f.appends d.appends;
       goes = λ ending rest.
-        ap (λ (x : Progress). after_text ((f.written ++ d.written) ++ w') (plays_from form p ending x [] (next.unread ++ rest))) d.progress
-        ∙ ap (λ (x : List ℕ). after_text x (plays_from form p ending (further (length next.line + 1) at d.played.stand) [] (next.unread ++ rest))) texts
-        ∙ sym (after_after (f.written ++ w) d.played.text (plays_from form p ending (further (length next.line + 1) at d.played.stand) [] (next.unread ++ rest)))
-        ∙ ap (after_text (f.written ++ w)) (done_onward form p ending at lines next rest d.played g d.is)
-        ∙ f.goes ending rest;
+          ap (λ (x : Progress). after_text ((f.written ++ d.written) ++ w') (plays_from form p ending x [] (next.unread ++ rest))) d.progress
+          ∙ ap (λ (x : List ℕ). after_text x (plays_from form p ending (further (length next.line + 1) at d.played.stand) [] (next.unread ++ rest))) texts
+          ∙ sym (after_after (f.written ++ w) d.played.text (plays_from form p ending (further (length next.line + 1) at d.played.stand) [] (next.unread ++ rest)))
+          ∙ ap (after_text (f.written ++ w)) (done_onward form p ending at lines next rest d.played g d.is)
+          ∙ f.goes ending rest;
     }
 
 -- what waited was written, and more was read
@@ -109,11 +109,11 @@ follows-read form p old new next at lines more w f none a g same = record {
   gave = gave-both old.left new.left next.left f.read more.unread f.gave g;
   appends = appends_both old.held new.held next.held f.written w f.appends a;
   goes = λ ending rest.
-    ap (λ (x : List ℕ). after_text x (plays_from form p ending at more.line (more.unread ++ rest))) (append-nil (f.written ++ w))
-    ∙ ap (λ (x : List ℕ). after_text (f.written ++ w) (plays_from form p ending at x (more.unread ++ rest))) same
-    ∙ ap (λ (x : List ℕ). after_text (f.written ++ w) (plays_from form p ending at lines.line (x ++ (more.unread ++ rest)))) (sym none)
-    ∙ f.goes ending (more.unread ++ rest)
-    ∙ ap (plays_from form p ending (start p) []) (sym (append_assoc f.read more.unread rest));
+      ap (λ (x : List ℕ). after_text x (plays_from form p ending at more.line (more.unread ++ rest))) (append-nil (f.written ++ w))
+      ∙ ap (λ (x : List ℕ). after_text (f.written ++ w) (plays_from form p ending at x (more.unread ++ rest))) same
+      ∙ ap (λ (x : List ℕ). after_text (f.written ++ w) (plays_from form p ending at lines.line (x ++ (more.unread ++ rest)))) (sym none)
+      ∙ f.goes ending (more.unread ++ rest)
+      ∙ ap (plays_from form p ending (start p) []) (sym (append_assoc f.read more.unread rest));
 }
 
 -- ---- where a replay ends
@@ -128,11 +128,11 @@ comes form p old new at lines w text last f e = record {
   is = script-is old.left new.left f.read f.gave;
   appends = f.appends;
   report =
-    report-is form p (f.read ++ rest_in new.left)
-    ∙ sym (f.goes (plays_last form p) (rest_in new.left))
-    ∙ ap (after_text (f.written ++ w)) e
-    ∙ after_after (f.written ++ w) text last
-    ∙ ap (λ (x : List ℕ). after_text x last) (append_assoc f.written w text);
+      report-is form p (f.read ++ rest_in new.left)
+      ∙ sym (f.goes (plays_last form p) (rest_in new.left))
+      ∙ ap (after_text (f.written ++ w)) e
+      ∙ after_after (f.written ++ w) text last
+      ∙ ap (λ (x : List ℕ). after_text x last) (append_assoc f.written w text);
 }
 
 pub comes-refused : (form : Form) (p : PolicyOf) (old new : Moment) (at : Progress) (lines next : LinesOf) (w : List ℕ) (kind : Kind)
@@ -157,13 +157,13 @@ pub begins : (form : Form) (p : PolicyOf) (old new next : Moment) (at : Progress
 begins form p old new next at lines w text last f e a =
     let c = comes form p old new at lines w text last f e in
     let whole : bytes_of (report_of form p c.script) ≡ (c.written ++ (w ++ text)) ++ (last.told ++ last.last) =
-      ap bytes_of c.report ∙ append_assoc (c.written ++ (w ++ text)) last.told last.last in
+    ap bytes_of c.report ∙ append_assoc (c.written ++ (w ++ text)) last.told last.last in
     record {
       script = c.script;
       is = c.is;
       written = subst (AppendsSome old.held next.held) (sym whole)
-        (some_more old.held next.held (c.written ++ (w ++ text)) (last.told ++ last.last)
-        (some_after old.held new.held next.held c.written (w ++ text) c.appends a));
+          (some_more old.held next.held (c.written ++ (w ++ text)) (last.told ++ last.last)
+          (some_after old.held new.held next.held c.written (w ++ text) c.appends a));
     }
 
 pub begins-here : (form : Form) (p : PolicyOf) (old new next : Moment) (at : Progress) (lines : LinesOf) (w : List ℕ)
@@ -188,10 +188,10 @@ pub breaks : (form : Form) (p : PolicyOf) (old new next : Moment) (at : Progress
     → Breaks (cut_report_of form p) old next
 breaks form p old new next at lines w f none a same =
     let e : cut_report_of form p f.read ≡ after_text (f.written ++ w) (cut_off at) =
-      cut-is form p f.read
-      ∙ ap (plays_from form p cut_after (start p) []) (sym (append-nil f.read))
-      ∙ sym (f.goes cut_after [])
-      ∙ ap (after_text (f.written ++ w)) (cut_here form p at lines.line lines.unread none) in
+    cut-is form p f.read
+    ∙ ap (plays_from form p cut_after (start p) []) (sym (append-nil f.read))
+    ∙ sym (f.goes cut_after [])
+    ∙ ap (after_text (f.written ++ w)) (cut_here form p at lines.line lines.unread none) in
     let told : (cut_report_of form p f.read).told ≡ f.written ++ w = ap (λ (r : Report). r.told) e ∙ append-nil (f.written ++ w) in
     record {
       read = f.read;

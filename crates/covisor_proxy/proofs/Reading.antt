@@ -73,8 +73,7 @@ whole_here : (items line longer : List ℕ) (s e place : ℕ) → place ≡ befo
     → longer ≡ line ++ take place (slice_range items s e)
     → GoesOn Whole (record { line = line; unread = slice_range items s e }) (record { line = longer; unread = slice_range items (s + (place + 1)) e })
 whole_here items line longer s e place p q r =
-    let short : s + (place + 1) ≤ e = omega (arith, length-take (e - s) (drop s items), q) in
-    (
+    let short : s + (place + 1) ≤ e = omega (arith, length-take (e - s) (drop s items), q) in (
       subst (λ (k : ℕ). k < length (slice_range items s e)) p q,
       r ∙ ap (λ (k : ℕ). line ++ take k (slice_range items s e)) p,
       slice_behind items s e place short ∙ ap (λ (k : ℕ). drop (k + 1) (slice_range items s e)) p,

@@ -28,8 +28,8 @@ pub record Follows (form : Form) (p : PolicyOf) (old new : Moment) (at : Progres
   pub gave : Gave old.left new.left read
   pub appends : Appends old.held new.held written
   pub goes : (ending : List ℕ → Progress → Report) (rest : List ℕ)
-    → after_text (written ++ waiting) (plays_from form p ending at lines.line (lines.unread ++ rest))
-    ≡ plays_from form p ending (start p) [] (read ++ rest)
+      → after_text (written ++ waiting) (plays_from form p ending at lines.line (lines.unread ++ rest))
+      ≡ plays_from form p ending (start p) [] (read ++ rest)
 
 -- ---- where it ends
 

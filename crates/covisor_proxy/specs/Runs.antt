@@ -5,8 +5,10 @@ use Rattle.cv_io.specs.declared.files.FileFault.{FileFault}
 use Rattle.cv_io.specs.declared.files.FileFault.TheVariants.{Memory}
 use Rattle.cv_io.specs.declared.files.MemFile.{MemFile}
 use Rattle.policy_file.specs.declared.fault.PolicyFault.{PolicyFault}
-use Rattle.covisor_proxy.specs.Asked.{cut_report_for, report_for, stated}
-use Rattle.covisor_proxy.specs.Opening.{AnswersTo, Holds}
+use Rattle.replay_report.specs.Reports.{cut_report_of, report_of}
+use Rattle.script_text.specs.declared.form.Form.{Form}
+use Rattle.covisor_proxy.specs.Asked.{cut_report_for, over_file, report_for, stated}
+use Rattle.covisor_proxy.specs.Opening.{Answers, AnswersTo, Holds}
 use Rattle.covisor_proxy.specs.Outcomes.{Ends, IsScript, Moment, code_of}
 use Rattle.covisor_proxy.specs.declared.status.Status.{Status}
 use Rattle.covisor_proxy.specs.declared.words.Command.{Command}
@@ -27,6 +29,18 @@ has_script (Some Replay) = true
 has_script (Some (ReplayPolicy name)) = true
 has_script (Some (ExplainPolicy name)) = true
 has_script (Some (Make seed count)) = false
+
+-- a run ended with a status: the files answered in some way, and so much was read and written
+abbrev pub Ended : Status → Option Command → Option (List MemFile) → (fails fails' : ℕ) → Moment → Moment → Type 0
+Ended status command files fails fails' old new =
+    (file : Result (List ℕ) FileFault) × AnswersTo command files fails fails' file
+    × Ends status (report_for command file) (cut_report_for command file) old new
+
+-- so ended a replay over the policy of a file
+abbrev pub EndsOver : Status → Form → List ℕ → Option (List MemFile) → (fails fails' : ℕ) → Moment → Moment → Type 0
+EndsOver status form name files fails fails' old new =
+    (file : Result (List ℕ) FileFault) × Answers files fails fails' name file
+    × Ends status (over_file report_of form name file) (over_file cut_report_of form name file) old new
 
 -- the exit status is that of an end, and so the run ended: what was read, and what was written of the report
 pub record Runs (answer : ℕ) (command : Option Command) (files : Option (List MemFile)) (fails fails' : ℕ) (old new : Moment) : Type 0 where

@@ -1,23 +1,22 @@
 //! The forms of the program.
-ghost use Rattle.std.specs.Prelude.{◌≡◌, ◌≢◌, [], IfOk, List, Result, ℕ};
-ghost use Rattle.cv_io.specs.declared.files.FileFault.{FileFault};
+ghost use Rattle.std.specs.Prelude.{◌≡◌, ◌≢◌, [], IfOk};
 ghost use Rattle.made_script.specs.Summary.{summary_text};
 ghost use Rattle.make_report.specs.Making.{made_of};
 ghost use Rattle.policy_file.specs.declared.known.TheConstants.{BUILT_IN};
 ghost use Rattle.replay_report.specs.Reports.{cut_report_of, report_of};
 ghost use Rattle.replay_report.specs.Takings.{as_line};
-ghost use Rattle.covisor_proxy.specs.Asked.{over_built_in, over_file, stated};
+ghost use Rattle.covisor_proxy.specs.Asked.{over_built_in, stated};
 ghost use Rattle.covisor_proxy.specs.Chunks.{IsAtEnd};
 ghost use Rattle.covisor_proxy.specs.Following.{EndsWith};
-ghost use Rattle.covisor_proxy.specs.Opening.{Answers};
 ghost use Rattle.covisor_proxy.specs.Outcomes.{Ends, moment};
+ghost use Rattle.covisor_proxy.specs.Runs.{EndsOver};
 
-use crate::ending::{conclude, write_fault};
+use crate::ending::conclude;
 use crate::lines::Lines;
-use crate::opening::{NoPolicy, open};
+use crate::opening::open;
 use crate::replay::replay_over;
 use crate::status::Status;
-use crate::telling::{tell_absent, tell_refused};
+use crate::telling::tell;
 use crate::writing::write_all;
 use cv_io::{Files, Memory, Sink, Source, Text};
 use made_script::summary_line;
@@ -77,9 +76,7 @@ pub(crate) fn replay_file<F: Files, S: Source, K: Sink>(
     input: &mut S,
     out: &mut K,
 ) -> Status
-    ensures ends { (file : Result (List ℕ) FileFault)
-        × Answers (F.files files.old) (F.faults files.old) (F.faults files.new) name.now file
-        × Ends result (over_file report_of form name.now file) (over_file cut_report_of form name.now file)
+    ensures ends { EndsOver result form name.now (F.files files.old) (F.faults files.old) (F.faults files.new)
         (moment (S.remaining input.old) (S.faults input.old) (K.held out.old) (K.faults out.old))
         (moment (S.remaining input.new) (S.faults input.new) (K.held out.new) (K.faults out.new)) }
     ensures form { result ≢ Status.Usage }
@@ -87,10 +84,7 @@ pub(crate) fn replay_file<F: Files, S: Source, K: Sink>(
 {
     match open(alloc, files, name) {
         Ok(policy) => replay(alloc, form, policy, input, out),
-        Err(NoPolicy::Absent) => tell_absent(alloc, name, out),
-        Err(NoPolicy::Unread) => write_fault(out, b"fault read\n", Status::Read),
-        Err(NoPolicy::Refused { fault }) => tell_refused(alloc, &fault, out),
-        Err(NoPolicy::Memory) => Status::Memory,
+        Err(fault) => tell(alloc, name, fault, out),
     }
 }
 

@@ -15,11 +15,7 @@ pub(crate) enum NoPolicy {
 }
 
 /// The policy of a file.
-pub(crate) fn open<F: Files>(
-    alloc: Global,
-    files: &mut F,
-    name: &Text,
-) -> Result<Policy, NoPolicy>
+pub(crate) fn open<F: Files>(alloc: Global, files: &mut F, name: &Text) -> Result<Policy, NoPolicy>
     ensures { Opens (F.files files.old) (F.faults files.old) (F.faults files.new) name.now result }
 {
     match files.read(name) {

@@ -1,20 +1,43 @@
 //! The last lines of faults of a policy file.
-ghost use Rattle.std.specs.Prelude.{◌≡◌, ◌++◌, IfOk, IsTrue, codes};
+ghost use Rattle.std.specs.Prelude.{◌≡◌, ◌≢◌, ◌++◌, Err, IfOk, IsTrue, List, Option, codes, ℕ};
 ghost use Rattle.std.specs.List.{list_all};
 ghost use Rattle.script_text.specs.Lines.{is_ascii};
 ghost use Rattle.policy_file.specs.Terse.{terse as terse_of};
 ghost use Rattle.replay_report.specs.Takings.{as_line};
+ghost use Rattle.cv_io.specs.declared.files.MemFile.{MemFile};
+ghost use Rattle.script_text.specs.declared.form.Form.{Form};
 ghost use Rattle.covisor_proxy.specs.Following.{Alone};
+ghost use Rattle.covisor_proxy.specs.Opening.{Opens};
+ghost use Rattle.covisor_proxy.specs.Outcomes.{moment};
+ghost use Rattle.covisor_proxy.specs.Runs.{EndsOver};
 
 use crate::ending::write_fault;
+use crate::opening::NoPolicy;
 use crate::status::Status;
 use cv_io::{Memory, Sink, Text};
 use policy_file::PolicyFault;
 use script_text::say;
 use std::alloc::Global;
 
+/// There is no policy of a name.
+pub(crate) fn tell<K: Sink>(alloc: Global, name: &Text, fault: NoPolicy, out: &mut K) -> Status
+    ensures ends { (files : Option (List MemFile)) (fails fails' : ℕ) (form : Form) (left : Option (List ℕ)) (reads : ℕ)
+        → Opens files fails fails' name.now (Err fault)
+        → EndsOver result form name.now files fails fails'
+        (moment left reads (K.held out.old) (K.faults out.old)) (moment left reads (K.held out.new) (K.faults out.new)) }
+    ensures form { result ≢ Status.Usage }
+    ensures done { result ≢ Status.Done }
+{
+    match fault {
+        NoPolicy::Absent => tell_absent(alloc, name, out),
+        NoPolicy::Unread => write_fault(out, b"fault read\n", Status::Read),
+        NoPolicy::Refused { fault } => tell_refused(alloc, &fault, out),
+        NoPolicy::Memory => Status::Memory,
+    }
+}
+
 /// There is no file of a name.
-pub(crate) fn tell_absent<K: Sink>(alloc: Global, name: &Text, out: &mut K) -> Status
+fn tell_absent<K: Sink>(alloc: Global, name: &Text, out: &mut K) -> Status
     ensures { Alone Status.Absent result (K.held out.old) (K.held out.new) (K.faults out.old) (K.faults out.new)
         (as_line (codes "fault absent " ++ name.now)) }
 {
@@ -25,7 +48,7 @@ pub(crate) fn tell_absent<K: Sink>(alloc: Global, name: &Text, out: &mut K) -> S
 }
 
 /// The policy file is refused.
-pub(crate) fn tell_refused<K: Sink>(alloc: Global, fault: &PolicyFault, out: &mut K) -> Status
+fn tell_refused<K: Sink>(alloc: Global, fault: &PolicyFault, out: &mut K) -> Status
     ensures { Alone Status.Policy result (K.held out.old) (K.held out.new) (K.faults out.old) (K.faults out.new)
         (as_line (codes "fault policy " ++ terse_of fault.now)) }
 {

@@ -1,12 +1,9 @@
 //! The top call.
-ghost use Rattle.std.specs.Prelude.{◌≡◌, ◌≢◌, ◌↔◌, ◌⊎◌, List, None, Result, Some, true, ℕ};
+ghost use Rattle.std.specs.Prelude.{◌≡◌, ◌≢◌, ◌↔◌, ◌⊎◌, None, Some, true};
 ghost use Rattle.cv_io.specs.Outside.{Rose};
-ghost use Rattle.cv_io.specs.declared.files.FileFault.{FileFault};
-ghost use Rattle.covisor_proxy.specs.Asked.{cut_report_for, report_for};
 ghost use Rattle.covisor_proxy.specs.Chunks.{IsAtEnd};
-ghost use Rattle.covisor_proxy.specs.Opening.{AnswersTo};
-ghost use Rattle.covisor_proxy.specs.Outcomes.{Ends, moment};
-ghost use Rattle.covisor_proxy.specs.Runs.{IsAbsent, IsComplete, IsRefused, Runs, has_script};
+ghost use Rattle.covisor_proxy.specs.Outcomes.{moment};
+ghost use Rattle.covisor_proxy.specs.Runs.{Ended, IsAbsent, IsComplete, IsRefused, Runs, has_script};
 ghost use Rattle.covisor_proxy.specs.Words.{command_of};
 
 use crate::ending::write_fault;
@@ -61,18 +58,35 @@ fn answer<F: Files, S: Source, K: Sink>(
     input: &mut S,
     out: &mut K,
 ) -> Status
-    ensures ends { (file : Result (List ℕ) FileFault)
-        × AnswersTo (command_of words.now) (F.files files.old) (F.faults files.old) (F.faults files.new) file
-        × Ends result (report_for (command_of words.now) file) (cut_report_for (command_of words.now) file)
+    ensures ends { Ended result (command_of words.now) (F.files files.old) (F.faults files.old) (F.faults files.new)
         (moment (S.remaining input.old) (S.faults input.old) (K.held out.old) (K.faults out.old))
         (moment (S.remaining input.new) (S.faults input.new) (K.held out.new) (K.faults out.new)) }
     ensures usage { (result ≡ Status.Usage) ↔ (command_of words.now ≡ None) }
     ensures whole { result ≡ Status.Done → has_script (command_of words.now) ≡ true → IsAtEnd (S.remaining input.new) }
 {
     match asked(alloc, words) {
-        Ok(Some(command)) => obey(alloc, command, files, input, out),
-        Ok(None) => write_fault(out, b"fault usage\n", Status::Usage),
+        Ok(command) => respond(alloc, command, files, input, out),
         Err(_) => Status::Memory,
+    }
+}
+
+/// Does a command, if there is one.
+fn respond<F: Files, S: Source, K: Sink>(
+    alloc: Global,
+    command: Option<Command>,
+    files: &mut F,
+    input: &mut S,
+    out: &mut K,
+) -> Status
+    ensures ends { Ended result command (F.files files.old) (F.faults files.old) (F.faults files.new)
+        (moment (S.remaining input.old) (S.faults input.old) (K.held out.old) (K.faults out.old))
+        (moment (S.remaining input.new) (S.faults input.new) (K.held out.new) (K.faults out.new)) }
+    ensures usage { (result ≡ Status.Usage) ↔ (command ≡ None) }
+    ensures whole { result ≡ Status.Done → has_script command ≡ true → IsAtEnd (S.remaining input.new) }
+{
+    match command {
+        Some(command) => obey(alloc, command, files, input, out),
+        None => write_fault(out, b"fault usage\n", Status::Usage),
     }
 }
 
@@ -84,9 +98,7 @@ fn obey<F: Files, S: Source, K: Sink>(
     input: &mut S,
     out: &mut K,
 ) -> Status
-    ensures ends { (file : Result (List ℕ) FileFault)
-        × AnswersTo (Some command) (F.files files.old) (F.faults files.old) (F.faults files.new) file
-        × Ends result (report_for (Some command) file) (cut_report_for (Some command) file)
+    ensures ends { Ended result (Some command) (F.files files.old) (F.faults files.old) (F.faults files.new)
         (moment (S.remaining input.old) (S.faults input.old) (K.held out.old) (K.faults out.old))
         (moment (S.remaining input.new) (S.faults input.new) (K.held out.new) (K.faults out.new)) }
     ensures form { result ≢ Status.Usage }
@@ -94,8 +106,22 @@ fn obey<F: Files, S: Source, K: Sink>(
 {
     match command {
         Command::Replay => replay_built_in(alloc, input, out),
-        Command::ReplayPolicy { name } => replay_file(alloc, Form::Replay, &name, files, input, out),
-        Command::ExplainPolicy { name } => replay_file(alloc, Form::Explain, &name, files, input, out),
+        Command::ReplayPolicy { name } => replay_file(
+            alloc,
+            Form::Replay,
+            &name,
+            files,
+            input,
+            out,
+        ),
+        Command::ExplainPolicy { name } => replay_file(
+            alloc,
+            Form::Explain,
+            &name,
+            files,
+            input,
+            out,
+        ),
         Command::Make { seed, count } => make(alloc, seed, count, out),
     }
 }
