@@ -1,6 +1,7 @@
 -- One line after the other, and what is told in the end.
-use Rattle.std.proofs.Common.{◌≡◌, ◌∙◌, ℕ, zero, suc, ◌+◌, List, [], ◌∷◌, ◌++◌, Option, Some, None, Result, Ok, Err}
+use Rattle.std.proofs.Common.{◌≡◌, ◌≤◌, ◌<◌, ◌∙◌, ℕ, zero, suc, ◌+◌, List, [], ◌∷◌, ◌++◌, Option, Some, None, Result, Ok, Err}
 use Rattle.std.specs.Prelude.{IfOk}
+use Rattle.std.specs.Result.{IsErr}
 use Rattle.std.proofs.Common.{ap, arith, length, length-append, refl}
 use Rattle.hyper_core.specs.Worlds.{rule_count}
 use Rattle.made_script.specs.Drawing.{after, start as start_number}
@@ -8,17 +9,23 @@ use Rattle.made_script.specs.Script.{line_of, lines_behind, made, opening}
 use Rattle.made_script.specs.declared.summary.Summary.{Summary}
 use Rattle.policy_file.specs.Policies.{PolicyOf}
 use Rattle.policy_file.specs.declared.fault.PolicyFault.{PolicyFault}
-use Rattle.replay_report.specs.Players.{Takes}
+use Rattle.replay_report.specs.Players.{Takes, form_of, plan_of, progress_of, reported}
 use Rattle.replay_report.specs.Playing.{Played}
 use Rattle.replay_report.specs.Reports.{Progress, start, taken}
 use Rattle.replay_report.specs.declared.kind.Kind.{Kind}
+use Rattle.replay_report.specs.declared.player.Player.{Player}
 use Rattle.script_text.specs.declared.form.Form.{Form}
 use Rattle.script_text.specs.declared.form.Form.TheVariants.{Replay}
 use Rattle.make_report.specs.Bench.{IsBench, bench_read}
 use Rattle.make_report.specs.Counting.{counted, nothing}
 use Rattle.make_report.specs.Making.{Tally, after_line, after_lines, first, made_of, summary_in, summary_over}
-use Rattle.make_report.specs.Making.{told, with_line}
+use Rattle.make_report.specs.Making.{rules_of, tally_of, with_line}
 use Rattle.make_report.specs.declared.counting.Counts.{Counts}
+
+-- after an error nothing is owed of the value
+pub unowed : {T E : Type 0} (r : Result T E) (P : T → Type 0) → IsErr r → IfOk r P
+unowed (Ok x) P never = cc
+unowed (Err e) P err = tt
 
 -- ---- one line
 
@@ -27,9 +34,9 @@ abbrev pub counted_unless : Option Kind → Counts → List ℕ → List ℕ →
 counted_unless None n line text = counted n line text
 counted_unless (Some kind) n line text = n
 
-pub counts_done : (refused : Option Kind) (n m : Counts) (bytes line report text : List ℕ) → refused ≡ None
-    → m ≡ counted n bytes report → bytes ≡ line → report ≡ text → m ≡ counted_unless refused n line text
-counts_done refused n m bytes line report text none counts same told = rw (none, counts, same, told) refl
+pub counts_done : (refused : Option Kind) (n m : Counts) (line report text : List ℕ) → refused ≡ None
+    → m ≡ counted n line report → report ≡ text → m ≡ counted_unless refused n line text
+counts_done refused n m line report text none counts told = rw (none, counts, told) refl
 
 pub counts_kept : (refused : Option Kind) (kind : Kind) (n m : Counts) (line text : List ℕ) → refused ≡ Some kind
     → m ≡ n → m ≡ counted_unless refused n line text
@@ -45,26 +52,49 @@ with_read None (Err kind) before after n line text never = elim never [ ]
 with_read (Some kind) (Ok played) before after n line text never = elim never [ ]
 with_read (Some kind) (Err other) before after n line text (same, stands, told) = rw stands refl
 
+-- how many bytes of a script a line takes
+pub used_some : (k n : ℕ) → k ≡ n + 1 → 1 ≤ k
+used_some k n used = omega (arith, used)
+
+pub used_within : (k n : ℕ) → k ≡ n + 1 → k ≤ n + 1
+used_within k n used = omega (arith, used)
+
 pub line_taken : (form : Form) (p : PolicyOf) (refused : Option Kind) (before after at : Progress) (n m : Counts)
-    (bytes line old text : List ℕ) (used : ℕ)
-    → form ≡ Replay → bytes ≡ line → used ≡ length line + 1 → old ≡ []
-    → Takes refused (taken form p before bytes used) used before after old text
+    (line old text : List ℕ) (used : ℕ)
+    → form ≡ Replay → used ≡ length line + 1 → old ≡ []
+    → Takes refused (taken form p before line used) used before after old text
     → at ≡ after → m ≡ counted_unless refused n line text
     → record { progress = at; counts = m } ≡ after_line p (record { progress = before; counts = n }) line
 unfolding after_line
-line_taken form p refused before after at n m bytes line old text used replays same long empty takes stands counts =
+line_taken form p refused before after at n m line old text used replays long empty takes stands counts =
     let did = taken Replay p before line (length line + 1) in
     let taken_so : Takes refused did (length line + 1) before after [] text =
-    rw replays at (rw same at (rw long at (rw empty at takes))) in
+    rw replays at (rw long at (rw empty at takes)) in
     rw (stands, counts) (with_read refused did before after n line text taken_so)
+
+-- the same over what a replay is before and after
+pub player_line : (old new after : Player) (refused : Option Kind) (n m : Counts) (line : List ℕ) (used : ℕ)
+    → form_of old ≡ Replay → used ≡ length line + 1 → reported old ≡ []
+    → Takes refused (taken (form_of old) (plan_of old) (progress_of old) line used) used
+    (progress_of old) (progress_of new) (reported old) (reported new)
+    → progress_of after ≡ progress_of new → m ≡ counted_unless refused n line (reported new)
+    → tally_of after m ≡ after_line (plan_of old) (tally_of old n) line
+unfolding tally_of
+player_line old new after refused n m line used replays long empty takes stands counts =
+    line_taken (form_of old) (plan_of old) refused (progress_of old) (progress_of new) (progress_of after) n m
+    line (reported old) (reported new) used replays long empty takes stands counts
 
 -- ---- all lines
 
 -- the next line of a script is done
-pub line_on : (p q : PolicyOf) (t u : Tally) (line : List ℕ) (lines rest : List (List ℕ))
-    → lines ≡ line ∷ rest → u ≡ after_line p t line → q ≡ p → after_lines q u rest ≡ after_lines p t lines
+pub line_on : (p q : PolicyOf) (t u : Tally) (line bytes : List ℕ) (lines rest : List (List ℕ))
+    → lines ≡ line ∷ rest → bytes ≡ line → u ≡ after_line p t bytes → q ≡ p
+    → after_lines q u rest ≡ after_lines p t lines
 unfolding after_lines
-line_on p q t u line lines rest next done same = rw (next, done, same) refl
+line_on p q t u line bytes lines rest next read done same = rw (next, done, same, read) refl
+
+pub shorter : (line : List ℕ) (lines rest : List (List ℕ)) → lines ≡ line ∷ rest → length rest < length lines
+shorter line lines rest next = rw next (omega arith)
 
 -- none is left
 pub at_end : (p : PolicyOf) (t : Tally) (lines : List (List ℕ)) → lines ≡ [] → t ≡ after_lines p t lines
@@ -84,17 +114,44 @@ made_long seed n =
     let rest = behind_long 0 x n in
     omega (arith, length-append opening (lines_behind 0 x n), rest)
 
--- what is told of all lines
-pub told_of : (p q : PolicyOf) (n rules : ℕ) (begun at : Progress) (zero_counts counts : Counts) (lines : List (List ℕ))
-    → n ≡ length lines → q ≡ p → begun ≡ start p → zero_counts ≡ nothing
-    → record { progress = at; counts = counts } ≡ after_lines q (record { progress = begun; counts = zero_counts }) lines
-    → rules ≡ rule_count p at.stand.state 0
+-- ---- what is told
+
+tally_same : (a b : Progress) (m n : Counts) → a ≡ b → m ≡ n
+    → ◌≡◌ {A = Tally} (record { progress = a; counts = m }) (record { progress = b; counts = n })
+tally_same a b m n e f = rw (e, f) refl
+
+pub begun : (p : PolicyOf) (player : Player) (n : Counts) → progress_of player ≡ start p → n ≡ nothing
+    → tally_of player n ≡ first p
+unfolding tally_of first
+begun p player n begins none = tally_same (progress_of player) (start p) n nothing begins none
+
+pub counts_of : (player : Player) (n : Counts) (t : Tally) → tally_of player n ≡ t → n ≡ t.counts
+unfolding tally_of
+counts_of player n t all = ap (λ (u : Tally). u.counts) all
+
+pub rules_told : (p q : PolicyOf) (player : Player) (n : Counts) (t : Tally) (rules : ℕ) → tally_of player n ≡ t
+    → q ≡ p → rules ≡ rule_count q (progress_of player).stand.state 0 → rules ≡ rules_of p t
+unfolding tally_of rules_of
+rules_told p q player n t rules all same count =
+    count
+    ∙ ap (λ (r : PolicyOf). rule_count r (progress_of player).stand.state 0) same
+    ∙ ap (λ (u : Tally). rule_count p u.progress.stand.state 0) all
+
+summary_same : (a b accepted given rules held sent put : ℕ) → a ≡ b → accepted ≡ given → rules ≡ held → sent ≡ put
+    → ◌≡◌ {A = Summary} (record { lines = a; accepted = accepted; rules = rules; sent = sent })
+    (record { lines = b; accepted = given; rules = held; sent = put })
+summary_same a b accepted given rules held sent put e f g h = rw (e, f, g, h) refl
+
+pub told_of : (p : PolicyOf) (n rules : ℕ) (counts : Counts) (t : Tally) (lines : List (List ℕ))
+    → n ≡ length lines → counts ≡ t.counts → rules ≡ rules_of p t → t ≡ after_lines p (first p) lines
     → record { lines = n; accepted = counts.accepted; rules = rules; sent = counts.sent } ≡ summary_in p lines
 unfolding summary_in
-told_of p q n rules begun at zero_counts counts lines long same begins none all count =
-    let all_so : record { progress = at; counts = counts } ≡ after_lines p (first p) lines =
-    rw same at (rw begins at (rw none at all)) in
-    rw (long, count) (ap (told p (length lines)) all_so)
+told_of p n rules counts t lines long same count all =
+    let whole = after_lines p (first p) lines in
+    let counted_so : counts ≡ whole.counts = same ∙ ap (λ (u : Tally). u.counts) all in
+    summary_same n (length lines) counts.accepted whole.counts.accepted rules (rules_of p whole) counts.sent whole.counts.sent
+    long (ap (λ (m : Counts). m.accepted) counted_so) (count ∙ ap (rules_of p) all)
+    (ap (λ (m : Counts). m.sent) counted_so)
 
 pub summary_long : (p : PolicyOf) (lines : List (List ℕ)) → (summary_in p lines).lines ≡ length lines
 unfolding summary_in

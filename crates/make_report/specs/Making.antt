@@ -20,7 +20,7 @@ pub record Tally : Type 0 where
   pub progress : Progress
   pub counts : Counts
 
-abbrev pub tally_of : Player → Counts → Tally
+unfoldable pub tally_of : Player → Counts → Tally
 tally_of player counts = record { progress = progress_of player; counts = counts }
 
 -- a line was done, and what was reported of it is counted; a line that isn't done changes nothing
@@ -39,8 +39,12 @@ unfoldable pub after_lines : PolicyOf → Tally → List (List ℕ) → Tally
 after_lines p t lines = fold (after_line p) t lines
 
 -- nothing was done
-abbrev pub first : PolicyOf → Tally
+unfoldable pub first : PolicyOf → Tally
 first p = record { progress = start p; counts = nothing }
+
+-- how many composed rules the first virtual switch has
+unfoldable pub rules_of : PolicyOf → Tally → ℕ
+rules_of p t = rule_count p t.progress.stand.state 0
 
 -- what is told: how many lines there are, how many messages were accepted, how many composed rules the first virtual
 -- switch has in the end, and how many messages were put to the switch
@@ -48,7 +52,7 @@ abbrev pub told : PolicyOf → ℕ → Tally → Summary
 told p lines t = record {
   lines = lines;
   accepted = t.counts.accepted;
-  rules = rule_count p t.progress.stand.state 0;
+  rules = rules_of p t;
   sent = t.counts.sent;
 }
 

@@ -6,15 +6,23 @@ ghost use Rattle.make_report.specs.Making.{after_line, after_lines, made_of, sum
 
 use crate::counting::Counts;
 use crate::policy::policy;
-use cv_io::{Memory, Text};
+use cv_io::Memory;
 use made_script::{Made, Summary};
 use policy_file::Policy;
 use replay_report::Player;
 use script_text::Form;
 use std::alloc::Global;
 
+/// How many bytes of a script a line takes with its line feed.
+fn used(line: &[u8]) -> usize
+    ensures { result ≡ length line.now + 1 }
+{
+    line.len() + 1
+}
+
 /// Does a line, counts what is reported of it, and forgets the report.
-fn play_line(player: &mut Player, counts: &mut Counts, line: &Text) -> Result<(), Memory>
+#[tactic(none)]
+fn play_line(player: &mut Player, counts: &mut Counts, line: &[u8]) -> Result<(), Memory>
     requires form { form_of player.old ≡ Replay }
     requires report { reported player.old ≡ [] }
     ensures tally { OnOk result (tally_of player.new counts.new
@@ -23,8 +31,8 @@ fn play_line(player: &mut Player, counts: &mut Counts, line: &Text) -> Result<()
     ensures plan { OnOk result (plan_of player.new ≡ plan_of player.old) }
     ensures report { OnOk result (reported player.new ≡ []) }
 {
-    match player.line(line.as_bytes(), line.len() + 1)? {
-        None => *counts = counts.count(line.as_bytes(), player.report())?,
+    match player.line(line, used(line))? {
+        None => *counts = counts.count(line, player.report())?,
         Some(_) => {}
     }
     player.clear();
@@ -32,6 +40,7 @@ fn play_line(player: &mut Player, counts: &mut Counts, line: &Text) -> Result<()
 }
 
 /// Does the lines that are left of a script, one after the other.
+#[tactic(none)]
 fn play_lines(player: &mut Player, counts: &mut Counts, script: &mut Made) -> Result<(), Memory>
     requires form { form_of player.old ≡ Replay }
     requires report { reported player.old ≡ [] }
@@ -43,11 +52,12 @@ fn play_lines(player: &mut Player, counts: &mut Counts, script: &mut Made) -> Re
         let Some(line) = script.next()? else {
             return Ok(());
         };
-        play_line(player, counts, &line)?;
+        play_line(player, counts, line.as_bytes())?;
     }
 }
 
 /// What a script of so many lines gives over a policy.
+#[tactic(none)]
 fn summary(alloc: Global, policy: Policy, mut script: Made, lines: u64) -> Result<Summary, Memory>
     requires { lines ≡ length script }
     ensures { IfOk result (λ summary. summary ≡ summary_in policy script) }

@@ -1,16 +1,40 @@
-use Rattle.std.proofs.Common.{◌≡◌, ap, sym, subst, ◌∙◌}
-use Rattle.replay_report.specs.Players.{plan_of, progress_of}
-use Rattle.hyper_core.specs.Worlds.{rule_count}
-use Rattle.make_report.proofs.Stepping.{told_of}
+use Rattle.std.proofs.Common.{◌≡◌, ◌∙◌, ap, refl}
+use Rattle.replay_report.specs.Players.{plan_of}
+use Rattle.make_report.specs.Making.{Tally, after_lines, first, tally_of}
+use Rattle.make_report.proofs.Stepping.{begun, counts_of, rules_told, told_of, unowed}
 use Rattle.make_report.proofs.making.summary.Goals as goal
 
 pub returns : goal.returns
 returns c =
+    let p = c.args.policy in
     let opened = c.in_ok-player.player in
     let player = c.play_lines.new.player in
-    told_of c.args.policy (plan_of opened) c.args.lines c.in_ok-rules.field-0
-    (progress_of opened) (progress_of player) c.new-counts.result c.play_lines.new.counts c.args.script
-    c.requires c.in_ok-player.ensures.plan c.in_ok-player.ensures.begins c.new-counts.ensures
-    c.in_ok-play_lines.ensures.tally
-    (c.in_ok-rules.ensures ∙ ap (λ p. rule_count p (progress_of player).stand.state 0)
-    (c.in_ok-play_lines.ensures.plan ∙ c.in_ok-player.ensures.plan))
+    let counts = c.play_lines.new.counts in
+    let t = tally_of player counts in
+    let begins = begun p opened c.new-counts.result c.in_ok-player.ensures.begins c.new-counts.ensures in
+    let all : t ≡ after_lines p (first p) c.args.script =
+        c.in_ok-play_lines.ensures.tally
+        ∙ ap (λ q. after_lines q (tally_of opened c.new-counts.result) c.args.script) c.in_ok-player.ensures.plan
+        ∙ ap (λ (u : Tally). after_lines p u c.args.script) begins in
+    told_of p c.args.lines c.in_ok-rules.field-0 counts t c.args.script c.requires
+    (counts_of player counts t refl)
+    (rules_told p (plan_of player) player counts t c.in_ok-rules.field-0 refl
+    (c.in_ok-play_lines.ensures.plan ∙ c.in_ok-player.ensures.plan) c.in_ok-rules.ensures)
+    all
+
+pub play_lines-requires-clause-form : goal.play_lines-requires-clause-form
+play_lines-requires-clause-form c = c.in_ok-player.ensures.form
+
+pub play_lines-requires-clause-report : goal.play_lines-requires-clause-report
+play_lines-requires-clause-report c = c.in_ok-player.ensures.report
+
+-- after want of memory
+pub returns-in_err-player : goal.returns-in_err-player
+returns-in_err-player c = unowed c.from_residual.result _ c.from_residual.ensures.0
+
+pub returns-in_err-play_lines : goal.returns-in_err-play_lines
+returns-in_err-play_lines c =
+    unowed c.from_residual-in_err-play_lines.result _ c.from_residual-in_err-play_lines.ensures.0
+
+pub returns-in_err-rules : goal.returns-in_err-rules
+returns-in_err-rules c = unowed c.from_residual-in_err-rules.result _ c.from_residual-in_err-rules.ensures.0
