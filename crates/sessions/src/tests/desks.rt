@@ -81,14 +81,12 @@ impl Desk for Book {
         if pass.hears == 0 {
             return Ok(Heard::Closed { at: 7 });
         }
-        pass.keep(
-            Event::Msg {
-                session: *session,
-                frame,
-            },
-            Reply::Done,
-        )?;
         pass.hears -= 1;
+        let event = Event::Msg {
+            session: *session,
+            frame,
+        };
+        pass.keep(event, Reply::Done)?;
         Ok(Heard::Heard)
     }
 
@@ -106,10 +104,13 @@ impl Desk for Book {
     fn take(&self, pass: &mut Log, session: &Session) -> Result<Taken, Memory> {
         pass.calls.push(Call::Take)?;
         if !pass.waiting.is_empty() {
-            let told = pass.waiting.as_slice()[0].copied()?;
-            let reply = Reply::Taken { message: told };
-            pass.keep(Event::Take { session: *session }, reply)?;
-            return Ok(Taken::Message(pass.waiting.remove(0)));
+            let message = pass.waiting.remove(0);
+            let told = message.copied()?;
+            pass.keep(
+                Event::Take { session: *session },
+                Reply::Taken { message: told },
+            )?;
+            return Ok(Taken::Message(message));
         }
         if pass.empties > 0 {
             pass.empties -= 1;
