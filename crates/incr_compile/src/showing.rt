@@ -82,7 +82,8 @@ pub(crate) fn show_all(
     let ids = store.ids()?;
     index.reserve(ids.len())?;
     show(index, op, side, store, &ids);
-    Ok(())
+    // What was put in is sorted into groups now, so that no question looks at all of it.
+    index.reserve(0)
 }
 
 /// Shows the rule of an id no longer.
