@@ -306,7 +306,7 @@ impl Given {
 }
 
 /// Ids as an index has them.
-pub fn numbers(alloc: Global, ids: &[u64]) -> Result<Vec<usize>, Memory>
+pub(crate) fn numbers(alloc: Global, ids: &[u64]) -> Result<Vec<usize>, Memory>
     ensures { IfOk result (λ numbers. numbers.items ≡ ids.now) }
 {
     let mut numbers = Vec::with_capacity(alloc, ids.len())?;

@@ -30,7 +30,7 @@ use std::alloc::Global;
 use std::sync::ledger::Ledger;
 
 /// The name, among what a rule is made of, of a rule of the virtual switch: a leaf of its nodes.
-pub fn own(id: usize) -> Origin
+pub(crate) fn own(id: usize) -> Origin
     ensures { result ≡ own_of id }
 {
     Origin::Leaf(Leaf {
@@ -40,7 +40,7 @@ pub fn own(id: usize) -> Origin
 }
 
 /// The name of a rule to which the link of a place leads.
-pub fn arrived(place: u32, id: usize) -> Origin
+pub(crate) fn arrived(place: u32, id: usize) -> Origin
     ensures { result ≡ arrived_of place id }
 {
     Origin::Rule { operand: place, id }
@@ -48,9 +48,9 @@ pub fn arrived(place: u32, id: usize) -> Origin
 
 /// A rule and its id.
 #[derive(Clone, Copy)]
-pub struct Numbered<'a> {
-    pub id: usize,
-    pub rule: &'a Rule,
+pub(crate) struct Numbered<'a> {
+    pub(crate) id: usize,
+    pub(crate) rule: &'a Rule,
 }
 
 /// What a node makes rules of: the rules of the virtual switch, and those of the nodes to which links
@@ -84,7 +84,7 @@ fn add_alone<'a, G: Ledger>(
 
 /// Appends the rule, if there is one, that a rule which stands at the node makes with one to which the
 /// link of a place leads. This is one step.
-pub fn add_pair<'a, G: Ledger>(
+pub(crate) fn add_pair<'a, G: Ledger>(
     alloc: Global,
     size: u64,
     here: Numbered<'a>,
@@ -298,7 +298,7 @@ fn add_by_left_at<'a, G: Ledger>(
 }
 
 /// Appends what the rules of the virtual switch of these ids make.
-pub fn add_all_by_left<'a, G: Ledger>(
+pub(crate) fn add_all_by_left<'a, G: Ledger>(
     alloc: Global,
     around: Around<'a>,
     come: &[usize],

@@ -6,12 +6,12 @@
 
 pub mod exits;
 pub mod given;
-pub mod joining;
+mod joining;
 pub mod laws;
 mod listing;
-pub mod meeting;
+mod meeting;
 pub mod node;
-pub mod standing;
+mod standing;
 pub mod turning;
 
 pub use exits::{Exit, LinkEnd};

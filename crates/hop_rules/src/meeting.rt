@@ -212,7 +212,7 @@ fn add_each_by_right<'a, G: Ledger>(
 }
 
 /// Appends what the rules of these ids make that came where the link of a place leads.
-pub fn add_all_by_right<'a, G: Ledger>(
+pub(crate) fn add_all_by_right<'a, G: Ledger>(
     alloc: Global,
     around: Around<'a>,
     place: u32,
