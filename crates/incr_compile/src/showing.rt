@@ -83,7 +83,8 @@ pub(crate) fn show_all(
     index.reserve(ids.len())?;
     show(index, op, side, store, &ids);
     // What was put in is sorted into groups now, so that no question looks at all of it.
-    index.reserve(0)
+    index.reserve(0)?;
+    Ok(())
 }
 
 /// Shows the rule of an id no longer.

@@ -11,5 +11,6 @@ show-requires-clause-once c = all-once c.args.store.now c.deref.result.now c.len
 
 pub returns : goal.returns
 returns c =
-    c.show.ensures c.args.store.now _ (sym (c.deref.ensures.value ∙ c.in_ok-ids.ensures)) (all-held c.args.store.now)
+    c.reserve-2.ensures.items
+    ∙ c.show.ensures c.args.store.now _ (sym (c.deref.ensures.value ∙ c.in_ok-ids.ensures)) (all-held c.args.store.now)
     ∙ ap (λ z. z ++ filter_map (shown (shown_as c.args.op c.args.side)) (rules_in c.args.store.now)) (c.reserve.ensures.items ∙ c.requires)
