@@ -1,11 +1,11 @@
 -- One line after the other, and what is told in the end.
-use Rattle.std.proofs.Common.{◌≡◌, ◌≤◌, ◌<◌, ◌∙◌, ℕ, zero, suc, ◌+◌, List, [], ◌∷◌, ◌++◌, Option, Some, None, Result, Ok, Err}
+use Rattle.std.proofs.Common.{◌≡◌, ◌≤◌, ◌<◌, ◌∙◌, ℕ, zero, suc, ◌+◌, List, [], ◌∷◌, Option, Some, None, Result, Ok, Err}
 use Rattle.std.specs.Prelude.{IfOk}
 use Rattle.std.specs.Result.{IsErr}
 use Rattle.std.proofs.Common.{ap, arith, length, length-append, refl}
 use Rattle.hyper_core.specs.Worlds.{rule_count}
 use Rattle.made_script.specs.Drawing.{after, start as start_number}
-use Rattle.made_script.specs.Script.{line_of, lines_behind, made, opening}
+use Rattle.made_script.specs.Script.{lines_behind, made, opening}
 use Rattle.made_script.specs.declared.summary.Summary.{Summary}
 use Rattle.policy_file.specs.Policies.{PolicyOf}
 use Rattle.policy_file.specs.declared.fault.PolicyFault.{PolicyFault}
@@ -149,7 +149,8 @@ unfolding summary_in
 told_of p n rules counts t lines long same count all =
     let whole = after_lines p (first p) lines in
     let counted_so : counts ≡ whole.counts = same ∙ ap (λ (u : Tally). u.counts) all in
-    summary_same n (length lines) counts.accepted whole.counts.accepted rules (rules_of p whole) counts.sent whole.counts.sent
+    summary_same n (length lines) counts.accepted whole.counts.accepted rules (rules_of p whole)
+    counts.sent whole.counts.sent
     long (ap (λ (m : Counts). m.accepted) counted_so) (count ∙ ap (rules_of p) all)
     (ap (λ (m : Counts). m.sent) counted_so)
 

@@ -1,4 +1,5 @@
-//! A made script, line by line.
+//! A made script, line by line. What is to be shown of a replay is answered goal by goal, since a search would compute
+//! the definitions of the machine.
 ghost use Rattle.std.specs.Prelude.{◌≡◌, ◌+◌, [], IfOk, OnOk, length};
 ghost use Rattle.script_text.specs.declared.form.Form.TheVariants.{Replay};
 ghost use Rattle.replay_report.specs.Players.{form_of, plan_of, reported};

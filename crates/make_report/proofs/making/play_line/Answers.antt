@@ -1,4 +1,4 @@
-use Rattle.std.proofs.Common.{◌≡◌, ◌∙◌, length}
+use Rattle.std.proofs.Common.{◌∙◌, length}
 use Rattle.replay_report.specs.Players.{reported}
 use Rattle.make_report.proofs.Stepping.{counts_done, counts_kept, player_line, unowed, used_some, used_within}
 use Rattle.make_report.proofs.making.play_line.Goals.{in-None+in_ok-counts-in-None, in-Some}
@@ -16,12 +16,13 @@ returns-clause-tally c =
     player_line c.args.player.now c.line.new.self c.clear.new.self c.in_ok-line.field-0
     c.args.counts.now c.match-branch-2.counts c.args.line.now c.used.result
     c.requires.form c.used.ensures c.requires.report c.in_ok-line.ensures.takes c.clear.ensures.progress
-    (elim c.match-branch-2.branch
-    [ in-None+in_ok-counts-in-None w ↦ counts_done c.in_ok-line.field-0 c.args.counts.now c.match-branch-2.counts
-      c.args.line.now w.report.result.now (reported c.line.new.self)
-      w.in-None.is (w.counts-is ∙ w.in_ok-counts-in-None.ensures) w.report.ensures
-    | in-Some w ↦ counts_kept c.in_ok-line.field-0 _ c.args.counts.now c.match-branch-2.counts
-      c.args.line.now (reported c.line.new.self) w.in-Some.is w.counts-is ])
+    (elim c.match-branch-2.branch [
+      | in-None+in_ok-counts-in-None w ↦ counts_done c.in_ok-line.field-0 c.args.counts.now c.match-branch-2.counts
+          c.args.line.now w.report.result.now (reported c.line.new.self)
+          w.in-None.is (w.counts-is ∙ w.in_ok-counts-in-None.ensures) w.report.ensures
+      | in-Some w ↦ counts_kept c.in_ok-line.field-0 _ c.args.counts.now c.match-branch-2.counts
+          c.args.line.now (reported c.line.new.self) w.in-Some.is w.counts-is
+    ])
 
 pub returns-clause-form : goal.returns-clause-form
 returns-clause-form c = c.clear.ensures.form ∙ c.in_ok-line.ensures.form ∙ c.requires.form

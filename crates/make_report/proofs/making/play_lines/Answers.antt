@@ -1,4 +1,4 @@
-use Rattle.std.proofs.Common.{◌≡◌, ◌∷◌, ◌++◌, ◌∙◌, refl}
+use Rattle.std.proofs.Common.{◌∙◌, refl}
 use Rattle.replay_report.specs.Players.{plan_of}
 use Rattle.make_report.specs.Making.{tally_of}
 use Rattle.make_report.proofs.Stepping.{at_end, line_on, shorter, unowed}

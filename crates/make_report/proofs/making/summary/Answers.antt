@@ -13,9 +13,9 @@ returns c =
     let t = tally_of player counts in
     let begins = begun p opened c.new-counts.result c.in_ok-player.ensures.begins c.new-counts.ensures in
     let all : t ≡ after_lines p (first p) c.args.script =
-        c.in_ok-play_lines.ensures.tally
-        ∙ ap (λ q. after_lines q (tally_of opened c.new-counts.result) c.args.script) c.in_ok-player.ensures.plan
-        ∙ ap (λ (u : Tally). after_lines p u c.args.script) begins in
+    c.in_ok-play_lines.ensures.tally
+    ∙ ap (λ q. after_lines q (tally_of opened c.new-counts.result) c.args.script) c.in_ok-player.ensures.plan
+    ∙ ap (λ (u : Tally). after_lines p u c.args.script) begins in
     told_of p c.args.lines c.in_ok-rules.field-0 counts t c.args.script c.requires
     (counts_of player counts t refl)
     (rules_told p (plan_of player) player counts t c.in_ok-rules.field-0 refl
