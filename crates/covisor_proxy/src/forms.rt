@@ -2,10 +2,10 @@
 ghost use Rattle.std.specs.Prelude.{◌≡◌, ◌≢◌, [], IfOk};
 ghost use Rattle.made_script.specs.Summary.{summary_text};
 ghost use Rattle.make_report.specs.Making.{made_of};
-ghost use Rattle.policy_file.specs.declared.known.TheConstants.{BUILT_IN};
 ghost use Rattle.replay_report.specs.Reports.{cut_report_of, report_of};
 ghost use Rattle.replay_report.specs.Takings.{as_line};
-ghost use Rattle.covisor_proxy.specs.Asked.{over_built_in, stated};
+ghost use Rattle.covisor_proxy.specs.Asked.{over_built_in};
+ghost use Rattle.covisor_proxy.specs.BuiltIn.{built_in_read};
 ghost use Rattle.covisor_proxy.specs.Chunks.{IsAtEnd};
 ghost use Rattle.covisor_proxy.specs.Following.{EndsWith};
 ghost use Rattle.covisor_proxy.specs.Outcomes.{Ends, moment};
@@ -13,14 +13,14 @@ ghost use Rattle.covisor_proxy.specs.Runs.{EndsOver};
 
 use crate::ending::conclude;
 use crate::lines::Lines;
-use crate::opening::open;
+use crate::opening::{open, open_built_in};
 use crate::replay::replay_over;
 use crate::status::Status;
 use crate::telling::tell;
 use crate::writing::write_all;
 use cv_io::{Files, Memory, Sink, Source, Text};
 use made_script::summary_line;
-use policy_file::{Policy, built_in};
+use policy_file::Policy;
 use replay_report::Player;
 use script_text::Form;
 use std::alloc::Global;
@@ -55,13 +55,13 @@ pub(crate) fn replay_built_in<S: Source, K: Sink>(
     input: &mut S,
     out: &mut K,
 ) -> Status
-    ensures ends { Ends result (over_built_in report_of (stated BUILT_IN.now)) (over_built_in cut_report_of (stated BUILT_IN.now))
+    ensures ends { Ends result (over_built_in report_of built_in_read) (over_built_in cut_report_of built_in_read)
         (moment (S.remaining input.old) (S.faults input.old) (K.held out.old) (K.faults out.old))
         (moment (S.remaining input.new) (S.faults input.new) (K.held out.new) (K.faults out.new)) }
     ensures form { result ≢ Status.Usage }
     ensures whole { result ≡ Status.Done → IsAtEnd (S.remaining input.new) }
 {
-    match built_in(alloc) {
+    match open_built_in(alloc) {
         Ok(policy) => replay(alloc, Form::Replay, policy, input, out),
         Err(_) => Status::Memory,
     }
