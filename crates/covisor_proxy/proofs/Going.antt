@@ -50,10 +50,6 @@ follows-start form p m at lines w b l e =
     (subst (λ (x : LinesOf). Follows form p m m (start p) x w) (sym l)
     (subst (λ (x : List ℕ). Follows form p m m (start p) (record { line = []; unread = [] }) x) (sym e) (begins_so form p m)))
 
-pub begun : (at : Progress) (p p' : PolicyOf) → at ≡ start p → p' ≡ p → IsBegun at p'
-unfolding IsBegun
-begun at p p' e same = e ∙ ap start (sym same)
-
 -- a part of a line was taken
 pub follows-part : (form : Form) (p : PolicyOf) (old new : Moment) (at : Progress) (lines next : LinesOf) (w : List ℕ)
     → Follows form p old new at lines w → GoesOn Part lines next → Follows form p old new at next w

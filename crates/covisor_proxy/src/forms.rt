@@ -2,12 +2,13 @@
 ghost use Rattle.std.specs.Prelude.{◌≡◌, ◌≢◌, [], IfOk};
 ghost use Rattle.made_script.specs.Summary.{summary_text};
 ghost use Rattle.make_report.specs.Making.{made_of};
+ghost use Rattle.replay_report.specs.Players.{form_of, plan_of, progress_of, reported};
 ghost use Rattle.replay_report.specs.Reports.{cut_report_of, report_of};
 ghost use Rattle.replay_report.specs.Takings.{as_line};
 ghost use Rattle.covisor_proxy.specs.Asked.{over_built_in};
 ghost use Rattle.covisor_proxy.specs.BuiltIn.{built_in_read};
 ghost use Rattle.covisor_proxy.specs.Chunks.{IsAtEnd};
-ghost use Rattle.covisor_proxy.specs.Following.{EndsWith};
+ghost use Rattle.covisor_proxy.specs.Following.{EndsWith, IsBegun};
 ghost use Rattle.covisor_proxy.specs.Outcomes.{Ends, moment};
 ghost use Rattle.covisor_proxy.specs.Runs.{EndsOver};
 
@@ -24,6 +25,16 @@ use policy_file::Policy;
 use replay_report::Player;
 use script_text::Form;
 use std::alloc::Global;
+
+/// A replay of which nothing is done yet.
+fn begin(alloc: Global, form: Form, policy: Policy) -> Result<Player, Memory>
+    ensures form { IfOk result (λ player. form_of player ≡ form) }
+    ensures plan { IfOk result (λ player. plan_of player ≡ policy) }
+    ensures begins { IfOk result (λ player. IsBegun (progress_of player) policy) }
+    ensures report { IfOk result (λ player. reported player ≡ []) }
+{
+    Player::open(alloc, form, policy)
+}
 
 /// Replays a script over a policy.
 fn replay<S: Source, K: Sink>(
@@ -42,7 +53,7 @@ fn replay<S: Source, K: Sink>(
     let Ok(mut lines) = Lines::new(alloc) else {
         return Status::Memory;
     };
-    let Ok(mut player) = Player::open(alloc, form, policy) else {
+    let Ok(mut player) = begin(alloc, form, policy) else {
         return Status::Memory;
     };
     let outcome = replay_over(&mut player, &mut lines, input, out);
