@@ -10,7 +10,6 @@ use Rattle.replay_report.specs.Takings.{as_line}
 use Rattle.script_text.specs.declared.form.Form.{Form}
 use Rattle.cv_io.specs.declared.files.FileFault.TheVariants as faults
 use Rattle.cv_io.specs.declared.files.MemFile.{MemFile}
-use Rattle.policy_file.specs.Reading.{policy_in_bytes}
 use Rattle.policy_file.specs.Terse.{terse}
 use Rattle.policy_file.specs.declared.fault.PolicyFault.{PolicyFault}
 use Rattle.script_text.specs.declared.form.Form.TheVariants as forms
@@ -174,10 +173,6 @@ reached-end (Ok _) form p at w old new ok r = r.1
 reached-end (Err stop) form p at w old new ok r = absurd (false≢true ok)
 
 -- ---- policies
-
-pub stated-is : (bytes : List ℕ) → stated bytes ≡ policy_in_bytes bytes
-unfolding stated
-stated-is bytes = refl
 
 pub over-built-in : (status : Status) (r : Result PolicyOf PolicyFault) (p : PolicyOf) (old new : Moment) → r ≡ Ok p
     → Ends status (report_of forms.Replay p) (cut_report_of forms.Replay p) old new

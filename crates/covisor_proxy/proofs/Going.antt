@@ -13,7 +13,7 @@ use Rattle.replay_report.proofs.Followed.{behind_feed, line_at, long_refused, pa
 use Rattle.replay_report.proofs.Splitting.{before}
 use Rattle.script_text.specs.declared.form.Form.{Form}
 use Rattle.covisor_proxy.specs.Chunks.{Gave, GoesOn, IsAtEnd, LinesOf}
-use Rattle.covisor_proxy.specs.Following.{Breaks, Comes, Does, Follows}
+use Rattle.covisor_proxy.specs.Following.{Breaks, Comes, Does, Follows, IsBegun}
 use Rattle.covisor_proxy.specs.Outcomes.{Begins, Moment, bytes_of, moment}
 use Rattle.covisor_proxy.specs.Written.{Appends, AppendsSome}
 use Rattle.covisor_proxy.specs.declared.lines.Taken.TheVariants.{Whole, Part}
@@ -33,14 +33,22 @@ unfolding cut_report_of
 cut-is form p read = refl
 
 -- nothing was read yet
-pub follows-start : (form : Form) (p : PolicyOf) (m : Moment) → Follows form p m m (start p) (record { line = []; unread = [] }) []
-follows-start form p m = record {
+begins_so : (form : Form) (p : PolicyOf) (m : Moment) → Follows form p m m (start p) (record { line = []; unread = [] }) []
+begins_so form p m = record {
   read = [];
   written = [];
   gave = gave-none m.left;
   appends = appends_none m.held;
   goes = λ ending rest. refl;
 }
+
+pub follows-start : (form : Form) (p : PolicyOf) (m : Moment) (at : Progress) (lines : LinesOf) (w : List ℕ) → IsBegun at p
+    → lines ≡ record { line = []; unread = [] } → w ≡ [] → Follows form p m m at lines w
+unfolding IsBegun
+follows-start form p m at lines w b l e =
+    subst (λ (x : Progress). Follows form p m m x lines w) (sym b)
+    (subst (λ (x : LinesOf). Follows form p m m (start p) x w) (sym l)
+    (subst (λ (x : List ℕ). Follows form p m m (start p) (record { line = []; unread = [] }) x) (sym e) (begins_so form p m)))
 
 -- a part of a line was taken
 pub follows-part : (form : Form) (p : PolicyOf) (old new : Moment) (at : Progress) (lines next : LinesOf) (w : List ℕ)

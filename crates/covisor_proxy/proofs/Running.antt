@@ -7,11 +7,11 @@ use Rattle.cv_io.specs.declared.files.FileFault.TheVariants as faults
 use Rattle.cv_io.specs.declared.files.MemFile.{MemFile}
 use Rattle.policy_file.specs.Policies.{PolicyOf}
 use Rattle.policy_file.specs.declared.fault.PolicyFault.{PolicyFault}
-use Rattle.policy_file.specs.declared.known.TheConstants.{BUILT_IN}
 use Rattle.replay_report.specs.Reports.{Report, report_of}
 use Rattle.script_text.specs.declared.form.Form.{Form}
 use Rattle.script_text.specs.declared.form.Form.TheVariants as forms
 use Rattle.covisor_proxy.specs.Asked.{cut_report_for, over, over_built_in, over_file, report_for, stated}
+use Rattle.covisor_proxy.specs.BuiltIn.{built_in_read}
 use Rattle.covisor_proxy.specs.Chunks.{IsAtEnd}
 use Rattle.covisor_proxy.specs.Opening.{Answers, AnswersTo, Holds}
 use Rattle.covisor_proxy.specs.Outcomes.{BreaksOff, Ends, IsScript, Moment, Settles, code_of}
@@ -71,7 +71,7 @@ pub refused-for : (command : Option Command) (files : Option (List MemFile)) (fa
     → AnswersTo command files fails fails' file → (report_for command file script).status ≡ 3 → IsRefused command files
 refused-for None files fails fails' file script a e = absurd (omega arith)
 refused-for (Some commands.Replay) files fails fails' file script a e =
-    absurd (never_built_in (stated BUILT_IN.now) script 3 (λ h. omega (arith, h)) (λ h. omega (arith, h)) (λ h. omega (arith, h)) e)
+    absurd (never_built_in built_in_read script 3 (λ h. omega (arith, h)) (λ h. omega (arith, h)) (λ h. omega (arith, h)) e)
 refused-for (Some (commands.ReplayPolicy name)) files fails fails' file script a e =
     refused_file (Some (commands.ReplayPolicy name)) files forms.Replay name fails fails' file script refl a e
 refused-for (Some (commands.ExplainPolicy name)) files fails fails' file script a e =
@@ -94,7 +94,7 @@ pub absent-for : (command : Option Command) (files : Option (List MemFile)) (fai
     → AnswersTo command files fails fails' file → (report_for command file script).status ≡ 7 → IsAbsent command files
 absent-for None files fails fails' file script a e = absurd (omega arith)
 absent-for (Some commands.Replay) files fails fails' file script a e =
-    absurd (never_built_in (stated BUILT_IN.now) script 7 (λ h. omega (arith, h)) (λ h. omega (arith, h)) (λ h. omega (arith, h)) e)
+    absurd (never_built_in built_in_read script 7 (λ h. omega (arith, h)) (λ h. omega (arith, h)) (λ h. omega (arith, h)) e)
 absent-for (Some (commands.ReplayPolicy name)) files fails fails' file script a e =
     absent_file (Some (commands.ReplayPolicy name)) files forms.Replay name fails fails' file script refl a e
 absent-for (Some (commands.ExplainPolicy name)) files fails fails' file script a e =
@@ -113,7 +113,7 @@ pub unread-for : (command : Option Command) (files : Option (List MemFile)) (fai
     → AnswersTo command files fails fails' file → (report_for command file script).status ≡ 5 → Rose fails fails'
 unread-for None files fails fails' file script a e = absurd (omega arith)
 unread-for (Some commands.Replay) files fails fails' file script a e =
-    absurd (never_built_in (stated BUILT_IN.now) script 5 (λ h. omega (arith, h)) (λ h. omega (arith, h)) (λ h. omega (arith, h)) e)
+    absurd (never_built_in built_in_read script 5 (λ h. omega (arith, h)) (λ h. omega (arith, h)) (λ h. omega (arith, h)) e)
 unread-for (Some (commands.ReplayPolicy name)) files fails fails' file script a e = unread_file files forms.Replay name fails fails' file script a e
 unread-for (Some (commands.ExplainPolicy name)) files fails fails' file script a e = unread_file files forms.Explain name fails fails' file script a e
 unread-for (Some (commands.Make seed count)) files fails fails' file script a e = absurd (omega arith)

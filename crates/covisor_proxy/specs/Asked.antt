@@ -8,10 +8,10 @@ use Rattle.policy_file.specs.Policies.{PolicyOf}
 use Rattle.policy_file.specs.Reading.{policy_in_bytes}
 use Rattle.policy_file.specs.Terse.{terse}
 use Rattle.policy_file.specs.declared.fault.PolicyFault.{PolicyFault}
-use Rattle.policy_file.specs.declared.known.TheConstants.{BUILT_IN}
 use Rattle.replay_report.specs.Reports.{Report, cut_report_of, lone, report_of}
 use Rattle.script_text.specs.declared.form.Form.{Form}
 use Rattle.script_text.specs.declared.form.Form.TheVariants as forms
+use Rattle.covisor_proxy.specs.BuiltIn.{built_in_read}
 use Rattle.covisor_proxy.specs.declared.words.Command.{Command}
 use Rattle.covisor_proxy.specs.declared.words.Command.TheVariants.{Replay, ReplayPolicy, ExplainPolicy, Make}
 
@@ -43,7 +43,7 @@ over_file gives form name (Err Memory) script = lone [] 10
 -- what a command gives
 abbrev pub gives : Scripts → Option Command → Result (List ℕ) FileFault → List ℕ → Report
 gives of None file script = lone (codes "fault usage") 2
-gives of (Some Replay) file script = over_built_in of (stated BUILT_IN.now) script
+gives of (Some Replay) file script = over_built_in of built_in_read script
 gives of (Some (ReplayPolicy name)) file script = over_file of forms.Replay name file script
 gives of (Some (ExplainPolicy name)) file script = over_file of forms.Explain name file script
 gives of (Some (Make seed count)) file script = lone (summary_text (made_of seed count)) 0

@@ -20,6 +20,10 @@ use Rattle.covisor_proxy.specs.declared.stop.Stop.TheVariants.{Refused, Read, Wr
 
 -- ---- how far a replay is
 
+-- nothing was done yet; this stays closed to callers, whose proofs would else open the whole machine
+unfoldable pub IsBegun : Progress → PolicyOf → Type 0
+IsBegun at p = at ≡ start p
+
 -- so much was read and written, so much of the report waits: whatever follows in the script, and however it ends, what
 -- was written, what waits, and the report from here on are the whole report
 pub record Follows (form : Form) (p : PolicyOf) (old new : Moment) (at : Progress) (lines : LinesOf) (waiting : List ℕ) : Type 0 where

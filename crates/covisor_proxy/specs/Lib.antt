@@ -1,6 +1,7 @@
 pub mod Words
 pub mod Written
 pub mod Chunks
+pub mod BuiltIn
 pub mod Asked
 pub mod Outcomes
 pub mod Opening

@@ -2,28 +2,39 @@
 ghost use Rattle.std.specs.Prelude.{◌≡◌, ◌≢◌, [], IfOk};
 ghost use Rattle.made_script.specs.Summary.{summary_text};
 ghost use Rattle.make_report.specs.Making.{made_of};
-ghost use Rattle.policy_file.specs.declared.known.TheConstants.{BUILT_IN};
+ghost use Rattle.replay_report.specs.Players.{form_of, plan_of, progress_of, reported};
 ghost use Rattle.replay_report.specs.Reports.{cut_report_of, report_of};
 ghost use Rattle.replay_report.specs.Takings.{as_line};
-ghost use Rattle.covisor_proxy.specs.Asked.{over_built_in, stated};
+ghost use Rattle.covisor_proxy.specs.Asked.{over_built_in};
+ghost use Rattle.covisor_proxy.specs.BuiltIn.{built_in_read};
 ghost use Rattle.covisor_proxy.specs.Chunks.{IsAtEnd};
-ghost use Rattle.covisor_proxy.specs.Following.{EndsWith};
+ghost use Rattle.covisor_proxy.specs.Following.{EndsWith, IsBegun};
 ghost use Rattle.covisor_proxy.specs.Outcomes.{Ends, moment};
 ghost use Rattle.covisor_proxy.specs.Runs.{EndsOver};
 
 use crate::ending::conclude;
 use crate::lines::Lines;
-use crate::opening::open;
+use crate::opening::{open, open_built_in};
 use crate::replay::replay_over;
 use crate::status::Status;
 use crate::telling::tell;
 use crate::writing::write_all;
 use cv_io::{Files, Memory, Sink, Source, Text};
 use made_script::summary_line;
-use policy_file::{Policy, built_in};
+use policy_file::Policy;
 use replay_report::Player;
 use script_text::Form;
 use std::alloc::Global;
+
+/// A replay of which nothing is done yet.
+fn begin(alloc: Global, form: Form, policy: Policy) -> Result<Player, Memory>
+    ensures form { IfOk result (λ player. form_of player ≡ form) }
+    ensures plan { IfOk result (λ player. plan_of player ≡ policy) }
+    ensures begins { IfOk result (λ player. IsBegun (progress_of player) policy) }
+    ensures report { IfOk result (λ player. reported player ≡ []) }
+{
+    Player::open(alloc, form, policy)
+}
 
 /// Replays a script over a policy.
 fn replay<S: Source, K: Sink>(
@@ -42,7 +53,7 @@ fn replay<S: Source, K: Sink>(
     let Ok(mut lines) = Lines::new(alloc) else {
         return Status::Memory;
     };
-    let Ok(mut player) = Player::open(alloc, form, policy) else {
+    let Ok(mut player) = begin(alloc, form, policy) else {
         return Status::Memory;
     };
     let outcome = replay_over(&mut player, &mut lines, input, out);
@@ -55,13 +66,13 @@ pub(crate) fn replay_built_in<S: Source, K: Sink>(
     input: &mut S,
     out: &mut K,
 ) -> Status
-    ensures ends { Ends result (over_built_in report_of (stated BUILT_IN.now)) (over_built_in cut_report_of (stated BUILT_IN.now))
+    ensures ends { Ends result (over_built_in report_of built_in_read) (over_built_in cut_report_of built_in_read)
         (moment (S.remaining input.old) (S.faults input.old) (K.held out.old) (K.faults out.old))
         (moment (S.remaining input.new) (S.faults input.new) (K.held out.new) (K.faults out.new)) }
     ensures form { result ≢ Status.Usage }
     ensures whole { result ≡ Status.Done → IsAtEnd (S.remaining input.new) }
 {
-    match built_in(alloc) {
+    match open_built_in(alloc) {
         Ok(policy) => replay(alloc, Form::Replay, policy, input, out),
         Err(_) => Status::Memory,
     }

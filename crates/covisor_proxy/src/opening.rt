@@ -1,7 +1,9 @@
 //! The policy that a file holds.
+ghost use Rattle.std.specs.Prelude.{◌≡◌, IfOk, Ok};
+ghost use Rattle.covisor_proxy.specs.BuiltIn.{built_in_read};
 ghost use Rattle.covisor_proxy.specs.Opening.{Opens, Reads};
 
-use cv_io::{FileFault, Files, Text};
+use cv_io::{FileFault, Files, Memory, Text};
 use policy_file::{Policy, PolicyFault};
 use std::alloc::Global;
 
@@ -12,6 +14,13 @@ pub(crate) enum NoPolicy {
     Unread,
     Refused { fault: PolicyFault },
     Memory,
+}
+
+/// The policy that stands where no file is named.
+pub(crate) fn open_built_in(alloc: Global) -> Result<Policy, Memory>
+    ensures { IfOk result (λ policy. built_in_read ≡ Ok policy) }
+{
+    policy_file::built_in(alloc)
 }
 
 /// The policy of a file.

@@ -1,8 +1,8 @@
 //! A replay: a script is read line by line, and its report is written as it comes.
 ghost use Rattle.std.specs.Prelude.{◌≡◌, ◌≤◌, ◌+◌, [], IfErr, IfOk, None, OnOk, length};
 ghost use Rattle.replay_report.specs.Players.{Takes, form_of, plan_of, progress_of, reported};
-ghost use Rattle.replay_report.specs.Reports.{start, taken};
-ghost use Rattle.covisor_proxy.specs.Following.{Closes, ClosesNot, Does, Halts, Leaves, Reaches, Reads, ReadsNot};
+ghost use Rattle.replay_report.specs.Reports.{taken};
+ghost use Rattle.covisor_proxy.specs.Following.{Closes, ClosesNot, Does, Halts, IsBegun, Leaves, Reaches, Reads, ReadsNot};
 ghost use Rattle.covisor_proxy.specs.Outcomes.{moment};
 
 use crate::lines::{Lines, Taken};
@@ -21,7 +21,7 @@ pub(crate) fn replay_over<S: Source, K: Sink>(
     input: &mut S,
     out: &mut K,
 ) -> Result<(), Stop>
-    requires begins { progress_of player.old ≡ start (plan_of player.old) }
+    requires begins { IsBegun (progress_of player.old) (plan_of player.old) }
     requires silent { reported player.old ≡ [] }
     requires unread { lines.old ≡ record { line = []; unread = [] } }
     ensures reaches { Reaches result (form_of player.old) (plan_of player.old) (progress_of player.new) (reported player.new)

@@ -10,10 +10,21 @@ use Rattle.covisor_proxy.specs.Following.{Does, Follows, Halts}
 use Rattle.covisor_proxy.specs.Outcomes.{moment}
 use Rattle.covisor_proxy.specs.declared.lines.Taken.{Taken}
 use Rattle.covisor_proxy.specs.declared.lines.Taken.TheVariants.{Whole, Part}
-use Rattle.covisor_proxy.proofs.Going.{follows-line, follows-part, follows-read}
+use Rattle.covisor_proxy.proofs.Going.{follows-line, follows-part, follows-read, follows-start}
 use Rattle.covisor_proxy.proofs.Reaching.{begins-still, reaches-halted, reaches-last, reaches-unread, taken-same}
 use Rattle.covisor_proxy.proofs.replay.replay_over.Goals as goal
 use Rattle.covisor_proxy.proofs.replay.replay_over.Goals.{in-Whole+in_ok-whole_line-in-Whole, in-Part+in_ok-more-in-Part+else-not-branch}
+
+pub loop-init : goal.loop-init
+loop-init g c =
+    let here = moment (g.S.Source.remaining c.args.input.now) (g.S.Source.faults c.args.input.now) (g.K.Sink.held c.args.out.now) (g.K.Sink.faults c.args.out.now) in
+    record {
+      follows = follows-start (form_of c.args.player.now) (plan_of c.args.player.now) here (progress_of c.args.player.now) c.args.lines.now (reported c.args.player.now) c.requires.begins c.requires.unread c.requires.silent;
+      reads = refl;
+      writes = refl;
+      form = refl;
+      plan = refl;
+    }
 
 pub returns-in_err-take : goal.returns-in_err-take
 returns-in_err-take g c =
