@@ -59,12 +59,6 @@ impl Turn {
             come: List::new(alloc),
         }
     }
-
-    pub fn is_none(&self) -> bool
-        ensures { result ≡ true → self.now ≡ no_turn }
-    {
-        self.gone.is_empty() && self.come.is_empty()
-    }
 }
 
 /// The rule alone.
