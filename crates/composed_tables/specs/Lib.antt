@@ -1,0 +1,5 @@
+pub mod Tables
+pub mod Placing
+pub mod Rules
+pub mod Composing
+pub mod ComposedLaw

@@ -1,0 +1,81 @@
+-- The composed rules of a setting: those of the expression of each virtual switch, and those of its ports through hops.
+use Rattle.std.specs.Prelude.{◌≡◌, ◌≢◌, ℕ, ◌<◌, ◌^◌, All, true, false, Contains, Some, List, length, slice_get, IsPermutation}
+use Rattle.std.specs.List.{AllByRecursion}
+use Rattle.agreement.specs.declared.state.Setting.{Setting}
+use Rattle.hop_rules.specs.Links.{links}
+use Rattle.hop_rules.specs.Tables.{TableOf, fabric, is_whole, own_ports, rules_at as rules_kept}
+use Rattle.incr_compile.specs.Compiling.{IsMemberDelta, IsOfTables, policy_in, rules_at}
+use Rattle.incr_compile.specs.Trees.{has_member, tree_of}
+use Rattle.incr_compile.specs.declared.compiled.LeafDelta.{LeafDelta}
+use Rattle.incr_compile.specs.declared.tree.Tree.{Tree}
+use Rattle.of10_match.specs.Normal.{IsNormal}
+use Rattle.policy_expr.specs.Policy.{members_of}
+use Rattle.policy_meaning.specs.Fitting.{IsFittingTable, levels_of}
+use Rattle.policy_meaning.specs.LeafFact.{EachPair, IsSoundTable}
+use Rattle.policy_meaning.specs.Networks.{fabric_of, ports_of, switch_links}
+use Rattle.policy_meaning.specs.Switches.{SwitchOf}
+use Rattle.policy_meaning.specs.declared.leaf.LeafTable.{LeafTable}
+use Rattle.policy_meaning.specs.declared.network.Link.{Link}
+use Rattle.policy_meaning.specs.declared.network.Network.{Network}
+use Rattle.policy_meaning.specs.declared.rule.Rule.{Rule}
+
+-- a compiled expression for each virtual switch, and the table of hops
+pub record RulesOf : Type 0 where
+  pub trees : List Tree
+  pub sizes : List ℕ
+  pub hops : TableOf
+
+-- the rules of the expression of a virtual switch, as they were handed over to the table of hops
+abbrev pub IsTied : RulesOf → ℕ → Tree → Type 0
+IsTied r v t = is_whole r.hops v ≡ false → IsPermutation (rules_at (tree_of t)) (rules_kept r.hops v)
+
+-- so it is for each virtual switch, and the table isn't lost
+pub record AreTied (r : RulesOf) : Type 0 where
+  pub kept : r.hops.lost ≡ false
+  pub sizes : r.hops.sizes ≡ r.sizes
+  pub count : length r.trees ≡ length r.sizes
+  pub each : (v : ℕ) (t : Tree) → slice_get r.trees v ≡ Some t → IsTied r v t
+
+-- the compiled expression is that of a virtual switch over these tables
+pub record IsTreeOf (tables : List LeafTable) (x : SwitchOf) (t : Tree) : Type 0 where
+  pub policy : policy_in (tree_of t) ≡ x.expr
+  pub tables_are : IsOfTables tables (ports_of x) (tree_of t)
+
+-- the table of hops has the links, sizes and outside ports of a setting; no link leads to a virtual switch that is whole
+pub record IsLaidOut (s : Setting) (t : TableOf) : Type 0 where
+  pub hops : t.hops ≡ s.hops
+  pub sizes : (v : ℕ) → (fabric t).sizes v ≡ (fabric_of s.network).sizes v
+  pub links_are : (v : ℕ) → links t.plan v ≡ switch_links (slice_get s.network.switches v)
+  pub whole : (v : ℕ) (x : SwitchOf) → slice_get s.network.switches v ≡ Some x → is_whole t v ≡ x.whole
+  pub apart : (v : ℕ) → AllByRecursion (λ (l : Link). is_whole t l.peer.v ≡ false) (links t.plan v)
+  pub ports : (v : ℕ) (x : SwitchOf) → slice_get s.network.switches v ≡ Some x → x.whole ≡ false
+      → AllByRecursion (λ (p : ℕ). Contains (own_ports t) (record { v = v; port = p })) x.outside
+
+-- a virtual switch can take the change: the member is one of its expression, and what comes are rules of the member
+pub record CanTake (r : RulesOf) (v : ℕ) (delta : LeafDelta) : Type 0 where
+  pub there : v < length r.trees
+  pub member : (t : Tree) → slice_get r.trees v ≡ Some t → has_member delta.member (tree_of t) ≡ true
+  pub come : (t : Tree) → slice_get r.trees v ≡ Some t → IsMemberDelta delta (tree_of t)
+
+-- a rule has a level below so many, and a normal match
+pub record IsFitting (size : ℕ) (r : Rule) : Type 0 where
+  pub below : r.level < size
+  pub normal : IsNormal r.m
+
+-- the trees of the first so many virtual switches are those over these tables
+abbrev pub AreTreesOf : Network → List Tree → Type 0
+AreTreesOf net trees =
+    (v : ℕ) (x : SwitchOf) (t : Tree) → slice_get net.switches v ≡ Some x → slice_get trees v ≡ Some t → IsTreeOf net.tables x t
+
+-- a setting whose tables are sound, whose expressions name each member once, and have few levels
+pub record CanCompile (net : Network) : Type 0 where
+  pub fit : All IsFittingTable net.tables
+  pub sound : AllByRecursion IsSoundTable net.tables
+  pub once : (v : ℕ) (x : SwitchOf) → slice_get net.switches v ≡ Some x → EachPair (λ i j. i ≢ j) (members_of x.expr)
+  pub size : (v : ℕ) (x : SwitchOf) → slice_get net.switches v ≡ Some x → levels_of net.tables x.expr < 2 ^ 64
+
+-- these are the composed rules of a setting
+pub record AreRulesOf (s : Setting) (r : RulesOf) : Type 0 where
+  pub count : length r.trees ≡ length s.network.switches
+  pub trees_are : AreTreesOf s.network r.trees
+  pub laid_out : IsLaidOut s r.hops

@@ -1,0 +1,20 @@
+//! The composed part of the machine, kept under changes of members' rules: a compiled expression for each
+//! virtual switch, the rules of its ports through hops, and for each switch the gate and the table of the
+//! entries that are put there. A change of a member's rules goes through them as what went and what came,
+//! and ends as one batch for each switch.
+#![tactic(auto)]
+
+pub mod part;
+pub mod laws;
+pub mod placing;
+pub mod rules;
+pub mod switch_table;
+pub mod tables;
+
+pub use rules::Rules;
+pub use switch_table::SwitchTable;
+pub use tables::SwitchBatch;
+
+
+#[cfg(test)]
+mod tests;

@@ -1,0 +1,164 @@
+//! The composed rules: those of the expression of each virtual switch, and those of its ports through hops.
+ghost use Rattle.std.specs.Prelude.{◌≡◌, ◌≢◌, ◌<◌, ◌^◌, ◌↔◌, [], ℕ, All, false, IfOk, IsTrue, List, OnOk, Some, length, map, slice_get};
+ghost use Rattle.std.specs.List.{AllByRecursion};
+ghost use Rattle.agreement.specs.Fitting.{IsFittingSetting};
+ghost use Rattle.agreement.specs.declared.state.Setting.{Setting as SettingOf};
+ghost use Rattle.alg_priority.specs.Sizes.{capped};
+ghost use Rattle.hop_rules.specs.Tables.{TableOf, fabric, is_whole};
+ghost use Rattle.policy_meaning.specs.Fitting.{IsFittingTable, levels_of};
+ghost use Rattle.policy_meaning.specs.Hops.{hop_size};
+ghost use Rattle.policy_meaning.specs.Switches.{SwitchOf};
+ghost use Rattle.policy_meaning.specs.declared.rule.Rule.{Rule as RuleOf};
+ghost use Rattle.composed_tables.specs.Composing.{AreExact, Changes, IsGood, rules_in};
+ghost use Rattle.composed_tables.specs.Rules.{AreRulesOf, AreTied, AreTreesOf, CanCompile, CanTake, IsFitting, IsLaidOut, IsTreeOf};
+
+use agreement::Setting;
+use cv_io::{List, Memory, Steps};
+use hop_rules::{HopTable, PortDelta};
+use incr_compile::{Compiled, LeafDelta};
+use op_compose::RuleDelta;
+use policy_meaning::{Network, Rule, VirtualSwitch, expression_size};
+use std::alloc::Global;
+use std::marker::Model;
+use std::sync::ledger::Ledger;
+use virtual_topology::Topology;
+
+/// A compiled expression for each virtual switch, and the rules of their ports.
+#[derive(Drop)]
+pub struct Rules {
+    trees: Vec<Compiled>,
+    /// How many levels the rules of each virtual switch have.
+    sizes: List<u64>,
+    hops: HopTable,
+}
+
+impl Model for Rules {
+    ghost use Rattle.composed_tables.specs.Rules.{RulesOf};
+    ghost use Rattle.incr_compile.specs.contracts.tree.Tree as e;
+    ghost use Rattle.std.specs.Coded.{codes};
+
+    ghost Value = { RulesOf };
+
+    ghost coded = { Prim.hlevel (codes, e.the_row.coded) };
+
+    ghost view = { λ a. record { trees = a.trees.items; sizes = a.sizes; hops = a.hops } };
+}
+
+/// Whether a rule's level is below so many, and its match normal.
+fn is_fitting(size: u64, rule: &Rule) -> bool
+    ensures { IsTrue result → IsFitting size rule.now }
+{
+    rule.level < size && rule.m.normal() == rule.m
+}
+
+/// Whether rules' levels are below so many, and their matches normal. Rules that come of a sound setting are such;
+/// a law that says so makes the test superfluous.
+fn are_fitting(size: u64, rules: &List<Rule>) -> bool
+    ensures { IsTrue result → AllByRecursion (IsFitting size) rules.now }
+{
+    rules.as_slice().iter().all(|rule| is_fitting(size, rule))
+}
+
+/// The compiled expression of a virtual switch.
+fn compile<G: Ledger>(
+    alloc: Global,
+    network: &Network,
+    v: usize,
+    x: &VirtualSwitch,
+    steps: &mut Steps<G>,
+) -> Result<Compiled, Memory>
+    requires can { CanCompile network.now }
+    requires there { slice_get network.now.switches v ≡ Some x.now }
+    ensures { IfOk result (IsTreeOf network.now.tables x.now) }
+{
+    let ports = x.ports(alloc)?;
+    Compiled::build(alloc, &x.expr, &network.tables, &ports, steps)
+}
+
+/// The compiled expressions of all virtual switches.
+fn compile_all<G: Ledger>(
+    alloc: Global,
+    network: &Network,
+    steps: &mut Steps<G>,
+) -> Result<Vec<Compiled>, Memory>
+    requires { CanCompile network.now }
+    ensures count { IfOk result (λ trees. length trees.items ≡ length network.now.switches) }
+    ensures trees { IfOk result (λ trees. AreTreesOf network.now trees.items) }
+{
+    let mut trees = Vec::new(alloc);
+    for (v, x) in network.switches.as_slice().iter().enumerate() {
+        trees.push(compile(alloc, network, v, x, steps)?)?;
+    }
+    Ok(trees)
+}
+
+/// How many levels the rules of each virtual switch have.
+fn sizes(alloc: Global, network: &Network) -> Result<List<u64>, Memory>
+    requires { All IsFittingTable network.now.tables }
+    ensures { IfOk result (λ sizes. sizes ≡ map (λ (x : SwitchOf). capped (levels_of network.now.tables x.expr)) network.now.switches) }
+{
+    let mut sizes = List::new(alloc);
+    for x in network.switches.as_slice() {
+        sizes.push(expression_size(&network.tables, &x.expr))?;
+    }
+    Ok(sizes)
+}
+
+/// Of which virtual switches rules are for all ports at once.
+fn wholes(alloc: Global, network: &Network) -> Result<List<bool>, Memory>
+    ensures { IfOk result (λ wholes. wholes ≡ map (λ (x : SwitchOf). x.whole) network.now.switches) }
+{
+    let mut wholes = List::new(alloc);
+    for x in network.switches.as_slice() {
+        wholes.push(x.whole)?;
+    }
+    Ok(wholes)
+}
+
+/// All rules of a virtual switch are handed over.
+fn hand_over<G: Ledger>(
+    alloc: Global,
+    hops: &mut HopTable,
+    sizes: &List<u64>,
+    trees: &[Compiled],
+    v: usize,
+    steps: &mut Steps<G>,
+) -> Result<(), Memory>
+    requires there { v < length trees.now }
+{
+    let come = trees[v].rules()?;
+    let size = *sizes.get(v).unwrap_or(&0);
+    if !are_fitting(size, &come) {
+        return Err(Memory);
+    }
+    let delta = RuleDelta {
+        gone: List::new(alloc),
+        come,
+    };
+    hops.apply(v as u32, &delta, steps)?;
+    Ok(())
+}
+
+impl Rules {
+    /// What a virtual switch makes of the change of a member, and the ports of it.
+    pub fn apply<G: Ledger>(
+        &mut self,
+        v: u32,
+        delta: LeafDelta,
+        steps: &mut Steps<G>,
+    ) -> Result<List<PortDelta>, Memory>
+        requires tied { AreTied self.old }
+        requires can { CanTake self.old v delta }
+        ensures tied { OnOk result (AreTied self.new) }
+        ensures rules { (before after : SettingOf) → AreRulesOf before self.old → Changes v delta before after → OnOk result (AreRulesOf after self.new) }
+        ensures exact { (before after : SettingOf) → IsGood before → IsGood after → AreRulesOf before self.old → Changes v delta before after
+            → IfOk result (AreExact before.network.switches (rules_in before) (rules_in after)) }
+    {
+        let told = self.trees[v as usize].apply(delta, steps)?;
+        let size = *self.sizes.get(v as usize).unwrap_or(&0);
+        if !are_fitting(size, &told.come) {
+            return Err(Memory);
+        }
+        self.hops.apply(v, &told, steps)
+    }
+}
