@@ -1,5 +1,5 @@
 -- The composed part of a setting, and how it changes with the rules of a member.
-use Rattle.std.specs.Prelude.{◌≡◌, ◌≢◌, ℕ, ◌<◌, ◌≤◌, Bool, true, Option, Some, List, [], ◌∷◌, if◌then◌else◌, length, slice_get, take}
+use Rattle.std.specs.Prelude.{◌≡◌, ◌≢◌, ℕ, ◌<◌, ◌≤◌, Bool, true, Option, Some, List, [], ◌∷◌, if◌then◌else◌, length, map, slice_get, take, IsPermutation}
 use Rattle.std.specs.List.{AllByRecursion, enumerate_from}
 use Rattle.agreement.specs.Entries.{entries_of}
 use Rattle.agreement.specs.OneEntry.{IsNamedOnce}
@@ -9,7 +9,7 @@ use Rattle.exact_gate.specs.declared.delta.GateDelta.{GateDelta}
 use Rattle.hop_rules.specs.declared.delta.PortDelta.{PortDelta}
 use Rattle.incr_compile.specs.Compiling.{MemberChanges}
 use Rattle.incr_compile.specs.declared.compiled.LeafDelta.{LeafDelta}
-use Rattle.install_plan.specs.Tables.{after}
+use Rattle.install_plan.specs.Tables.{IsBatch, after, entry_of}
 use Rattle.install_plan.specs.declared.written.Batch.{Batch}
 use Rattle.install_plan.specs.declared.written.Written.{Written}
 use Rattle.list_change.specs.Changes.{Changed}
@@ -19,11 +19,12 @@ use Rattle.policy_meaning.specs.Networks.{fabric_of, ports_of, switch_rules, tab
 use Rattle.policy_meaning.specs.Switches.{SwitchOf}
 use Rattle.policy_meaning.specs.declared.leaf.LeafTable.{LeafTable}
 use Rattle.switch_meaning.specs.BatchLaw.{HasNoTwins}
+use Rattle.switch_meaning.specs.Keys.{installed}
 use Rattle.switch_meaning.specs.declared.entry.PhysEntry.{PhysEntry}
 use Rattle.switch_meaning.specs.declared.wiring.Wiring.{Wiring}
 use Rattle.composed_tables.specs.Placing.{RulesBy, changed_by, entrances}
 use Rattle.composed_tables.specs.Rules.{AreRulesOf, RulesOf}
-use Rattle.composed_tables.specs.Tables.{CanGoBack, HasNow, IsKept, IsTurned, IsUndone, SwitchTableOf}
+use Rattle.composed_tables.specs.Tables.{CanGoBack, HasHad, HasNow, IsKept, IsTurned, IsUndone, SwitchTableOf}
 use Rattle.composed_tables.specs.declared.part.Part.TheVariants.{Come, Gone}
 use Rattle.composed_tables.specs.declared.tables.SwitchBatch.{SwitchBatch}
 
@@ -46,6 +47,10 @@ AreEntryDeltas before after deltas = (n : ℕ) (d : GateDelta) → slice_get del
 -- each switch has these entries
 abbrev pub HaveNow : (ℕ → List PhysEntry) → List SwitchTableOf → Type 0
 HaveNow entries tables = (n : ℕ) (x : SwitchTableOf) → slice_get tables n ≡ Some x → HasNow (entries n) x
+
+-- each switch had them
+abbrev pub HaveHad : (ℕ → List PhysEntry) → List SwitchTableOf → Type 0
+HaveHad entries tables = (n : ℕ) (x : SwitchTableOf) → slice_get tables n ≡ Some x → HasHad (entries n) x
 
 -- no switch has twins
 abbrev pub HaveNoTwins : (ℕ → List PhysEntry) → Type 0
@@ -97,6 +102,17 @@ pub record AreStopped (count : ℕ) (before now : List SwitchTableOf) : Type 0 w
   pub back : (n : ℕ) → n < count → (x y : SwitchTableOf) → slice_get before n ≡ Some x → slice_get now n ≡ Some y → CanGoBack x y
   pub rest : (n : ℕ) → count ≤ n → IsKeptAt n before now
 
+-- the batch of each switch is the difference of what stood and what stands, with cookies from where those before it end
+abbrev pub AreBatches : ℕ → List SwitchTableOf → List SwitchTableOf → List SwitchBatch → Type 0
+AreBatches next before now batches =
+    (n : ℕ) (x y : SwitchTableOf) (b : SwitchBatch) → slice_get before n ≡ Some x → slice_get now n ≡ Some y → slice_get batches n ≡ Some b
+    → IsBatch x.installed.now y.installed.now (cookie_after next (take n batches)) b.batch
+
+-- what stands on each switch is what stood there
+abbrev pub StandAsBefore : List SwitchTableOf → List SwitchTableOf → Type 0
+StandAsBefore before now =
+    (n : ℕ) (x y : SwitchTableOf) → slice_get before n ≡ Some x → slice_get now n ≡ Some y → y.installed.now ≡ x.installed.now
+
 -- what is kept of a setting: where ports lie, the virtual switches and their rules, and what is to stand on each switch
 pub record ComposedOf : Type 0 where
   pub wiring : Wiring
@@ -117,6 +133,13 @@ pub record IsOf (s : Setting) (c : ComposedOf) : Type 0 where
   pub tables : HaveNow (entries_of s) c.tables
   pub count : length c.tables ≡ length s.switches
 
+-- it can be taken back to that of a setting
+pub record WasOf (s : Setting) (c : ComposedOf) : Type 0 where
+  pub wiring : c.wiring ≡ s.wiring
+  pub switches : c.switches ≡ s.network.switches
+  pub tables : HaveHad (entries_of s) c.tables
+  pub count : length c.tables ≡ length s.switches
+
 -- from one setting to the other only the rules of a member of this virtual switch change, and so
 pub record Changes (v : ℕ) (delta : LeafDelta) (before after : Setting) : Type 0 where
   pub rest : after ≡ record before { network = record before.network { tables = after.network.tables } }
@@ -125,3 +148,7 @@ pub record Changes (v : ℕ) (delta : LeafDelta) (before after : Setting) : Type
       → MemberChanges delta (λ i. table_rules (ports_of x) (slice_get before.network.tables i)) (λ i. table_rules (ports_of x) (slice_get after.network.tables i))
   pub others : (u : ℕ) (x : SwitchOf) → u ≢ v → slice_get before.network.switches u ≡ Some x
       → EachMember (λ i. table_rules (ports_of x) (slice_get after.network.tables i) ≡ table_rules (ports_of x) (slice_get before.network.tables i)) x.expr
+
+-- what stands on a switch is what is installed of the setting's entries, in some order
+abbrev pub IsStandingOf : Setting → ℕ → List Written → Type 0
+IsStandingOf s n standing = IsPermutation (installed (entries_of s n)) (map entry_of standing)

@@ -1,8 +1,8 @@
 -- The composed rules of a setting: those of the expression of each virtual switch, and those of its ports through hops.
-use Rattle.std.specs.Prelude.{◌≡◌, ◌≢◌, ℕ, ◌<◌, ◌^◌, All, true, false, Contains, Some, List, length, slice_get, IsPermutation}
+use Rattle.std.specs.Prelude.{◌≡◌, ◌≢◌, ℕ, ◌<◌, ◌^◌, All, true, false, Contains, Some, List, length, map, slice_get, IsPermutation}
 use Rattle.std.specs.List.{AllByRecursion}
 use Rattle.agreement.specs.declared.state.Setting.{Setting}
-use Rattle.hop_rules.specs.Links.{links}
+use Rattle.hop_rules.specs.Links.{links, place}
 use Rattle.hop_rules.specs.Tables.{TableOf, fabric, is_whole, own_ports, rules_at as rules_kept}
 use Rattle.incr_compile.specs.Compiling.{IsMemberDelta, IsOfTables, policy_in, rules_at}
 use Rattle.incr_compile.specs.Trees.{has_member, tree_of}
@@ -18,6 +18,8 @@ use Rattle.policy_meaning.specs.declared.leaf.LeafTable.{LeafTable}
 use Rattle.policy_meaning.specs.declared.network.Link.{Link}
 use Rattle.policy_meaning.specs.declared.network.Network.{Network}
 use Rattle.policy_meaning.specs.declared.rule.Rule.{Rule}
+use Rattle.virtual_topology.specs.declared.plan.TopologyPlan.{TopologyPlan}
+use Rattle.virtual_topology.specs.Wires.{Joint, outside_joints}
 
 -- a compiled expression for each virtual switch, and the table of hops
 pub record RulesOf : Type 0 where
@@ -79,3 +81,16 @@ pub record AreRulesOf (s : Setting) (r : RulesOf) : Type 0 where
   pub count : length r.trees ≡ length s.network.switches
   pub trees_are : AreTreesOf s.network r.trees
   pub laid_out : IsLaidOut s r.hops
+
+-- a port is an outside port of a virtual switch
+abbrev pub IsOutside : TopologyPlan → ℕ → ℕ → Type 0
+IsOutside plan v p = Contains (map (λ (j : Joint). place j.0) (outside_joints plan)) (record { v = v; port = p })
+
+-- a topology and a setting of it whose expressions can be compiled; no link leads to a virtual switch that is whole
+pub record IsReadyFor (plan : TopologyPlan) (s : Setting) : Type 0 where
+  pub can : CanCompile s.network
+  pub count : length s.network.switches ≡ length plan.virtuals
+  pub links_are : (v : ℕ) → links plan v ≡ switch_links (slice_get s.network.switches v)
+  pub apart : (v u : ℕ) (x : SwitchOf) → slice_get s.network.switches u ≡ Some x → x.whole ≡ true
+      → AllByRecursion (λ (l : Link). l.peer.v ≢ u) (links plan v)
+  pub ports : (v : ℕ) (x : SwitchOf) → slice_get s.network.switches v ≡ Some x → AllByRecursion (IsOutside plan v) x.outside

@@ -4,6 +4,7 @@
 //! and ends as one batch for each switch.
 #![tactic(auto)]
 
+pub mod composed;
 pub mod part;
 pub mod laws;
 pub mod placing;
@@ -11,6 +12,7 @@ pub mod rules;
 pub mod switch_table;
 pub mod tables;
 
+pub use composed::Composed;
 pub use rules::Rules;
 pub use switch_table::SwitchTable;
 pub use tables::SwitchBatch;

@@ -10,10 +10,10 @@ ghost use Rattle.policy_meaning.specs.Hops.{hop_size};
 ghost use Rattle.policy_meaning.specs.Switches.{SwitchOf};
 ghost use Rattle.policy_meaning.specs.declared.rule.Rule.{Rule as RuleOf};
 ghost use Rattle.composed_tables.specs.Composing.{AreExact, Changes, IsGood, rules_in};
-ghost use Rattle.composed_tables.specs.Rules.{AreRulesOf, AreTied, AreTreesOf, CanCompile, CanTake, IsFitting, IsLaidOut, IsTreeOf};
+ghost use Rattle.composed_tables.specs.Rules.{AreRulesOf, AreTied, AreTreesOf, CanCompile, CanTake, IsFitting, IsReadyFor, IsTreeOf};
 
 use agreement::Setting;
-use cv_io::{List, Memory, Steps};
+use cv_io::{Duplicate, List, Memory, Steps};
 use hop_rules::{HopTable, PortDelta};
 use incr_compile::{Compiled, LeafDelta};
 use op_compose::RuleDelta;
@@ -139,7 +139,54 @@ fn hand_over<G: Ledger>(
     Ok(())
 }
 
+/// The rules of all virtual switches are handed over.
+fn hand_over_all<G: Ledger>(
+    alloc: Global,
+    hops: &mut HopTable,
+    sizes: &List<u64>,
+    trees: &[Compiled],
+    steps: &mut Steps<G>,
+) -> Result<(), Memory>
+{
+    for v in 0..trees.len() {
+        hand_over(alloc, hops, sizes, trees, v, steps)?;
+    }
+    Ok(())
+}
+
+/// The table of hops of a setting, without rules.
+fn empty_hops(
+    alloc: Global,
+    topology: &Topology,
+    setting: &Setting,
+    sizes: &List<u64>,
+) -> Result<HopTable, Memory>
+{
+    let wholes = wholes(alloc, &setting.network)?;
+    HopTable::new(alloc, topology.copy()?, sizes.copied()?, setting.hops, wholes)
+}
+
 impl Rules {
+    /// The composed rules of a setting of this topology, from scratch.
+    pub fn build<G: Ledger>(
+        alloc: Global,
+        topology: &Topology,
+        setting: &Setting,
+        steps: &mut Steps<G>,
+    ) -> Result<Rules, Memory>
+        requires fits { IsFittingSetting setting.now }
+        requires ready { IsReadyFor topology.now setting.now }
+        ensures tied { IfOk result AreTied }
+        ensures rules { IfOk result (AreRulesOf setting.now) }
+    {
+        let network = &setting.network;
+        let trees = compile_all(alloc, network, steps)?;
+        let sizes = sizes(alloc, network)?;
+        let mut hops = empty_hops(alloc, topology, setting, &sizes)?;
+        hand_over_all(alloc, &mut hops, &sizes, trees.as_slice(), steps)?;
+        Ok(Rules { trees, sizes, hops })
+    }
+
     /// What a virtual switch makes of the change of a member, and the ports of it.
     pub fn apply<G: Ledger>(
         &mut self,
