@@ -1,5 +1,6 @@
-pub mod Sets
-pub mod Switching
 pub mod Moving
 pub mod Entering
 pub mod Nodes
+pub mod Trees
+pub mod Finding
+pub mod Cancelling

@@ -3,17 +3,14 @@ use Rattle.std.specs.Prelude.{◌≡◌, ℕ, ◌++◌, List, IsPermutation}
 use Rattle.agreement.specs.Entries.{dropping, entries_of}
 use Rattle.agreement.specs.declared.state.Setting.{Setting}
 use Rattle.hop_rules.specs.declared.delta.PortDelta.{PortDelta}
-use Rattle.install_plan.specs.Tables.{IsTable}
 use Rattle.list_change.specs.Changes.{Changed}
 use Rattle.policy_meaning.specs.Switches.{SwitchOf}
-use Rattle.switch_meaning.specs.BatchLaw.{HasNoTwins}
 use Rattle.switch_meaning.specs.Fixed.{fixed_entries}
 use Rattle.switch_meaning.specs.declared.entry.PhysEntry.{PhysEntry}
 use Rattle.switch_meaning.specs.declared.wiring.Wiring.{Wiring}
 use Rattle.composed_tables.specs.Composing.{AreExact, rules_in}
 use Rattle.composed_tables.specs.Placing.{RulesBy, changed_by, entries_by}
 use Rattle.composed_tables.specs.declared.part.Part.TheVariants.{Come, Gone}
-use Rattle.composed_tables.specs.Tables.{HasNow, Stands, SwitchTableOf}
 
 -- the entries of a switch are those of the rules that enter its virtual switches, and those that don't hang on tables
 abbrev pub EntriesByEntrance : Type 0
@@ -26,8 +23,3 @@ EntriesChange =
     (w : Wiring) (switches : List SwitchOf) (before after : RulesBy) (deltas : List PortDelta) → AreExact switches before after deltas
     → (n : ℕ) → Changed (entries_by w switches before n) (entries_by w switches after n)
     (entries_by w switches (changed_by Gone deltas) n) (entries_by w switches (changed_by Come deltas) n)
-
--- what stands on a switch that has these entries is what is installed of them
-abbrev pub StandsAsInstalled : Type 0
-StandsAsInstalled =
-    (entries : List PhysEntry) (x : SwitchTableOf) → HasNoTwins entries → HasNow entries x → IsTable x.installed.now → Stands entries x.installed.now

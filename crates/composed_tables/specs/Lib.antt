@@ -1,4 +1,3 @@
-pub mod Tables
 pub mod Placing
 pub mod Rules
 pub mod Composing

@@ -5,16 +5,14 @@ ghost use Rattle.agreement.specs.Entries.{entries_of as entries_of_of};
 ghost use Rattle.agreement.specs.Fitting.{IsFittingSetting};
 ghost use Rattle.agreement.specs.declared.state.Setting.{Setting as SettingOf};
 ghost use Rattle.install_plan.specs.Tables.{entry_of};
-ghost use Rattle.composed_tables.specs.Composing.{AreBatches, Changes, IsGood, IsOf, StandAsBefore, WasOf, up_of};
-ghost use Rattle.composed_tables.specs.Composing.{AreKept, AreTurned, HaveNow, IsStandingOf};
+ghost use Rattle.composed_tables.specs.Composing.{Changes, IsGood, IsOf, IsStandingOf, WasOf};
+ghost use Rattle.switch_tables.specs.Turning.{AreBatches, AreKept, AreTurned, HaveNow, StandAsBefore, up_of};
 ghost use Rattle.composed_tables.specs.Placing.{entry_delta};
 ghost use Rattle.composed_tables.specs.Rules.{CanTake, IsReadyFor, RulesOf};
-ghost use Rattle.composed_tables.specs.Tables.{HasNow};
+ghost use Rattle.switch_tables.specs.Tables.{HasNow};
 
 use crate::placing::entry_deltas;
 use crate::rules::Rules;
-use crate::switch_table::SwitchTable;
-use crate::tables::{SwitchBatch, change_all, undo_all};
 use agreement::{Setting, entries_of};
 use cv_io::{Duplicate, List, Memory, Steps};
 use hop_rules::PortDelta;
@@ -25,6 +23,7 @@ use std::alloc::Global;
 use std::marker::Model;
 use std::sync::ledger::Ledger;
 use switch_meaning::Wiring;
+use switch_tables::{SwitchBatch, SwitchTable, change_all, undo_all};
 use virtual_topology::Topology;
 
 /// Where ports lie, the virtual switches and their composed rules, and what is to stand on each switch. The

@@ -9,13 +9,10 @@ pub mod part;
 pub mod laws;
 pub mod placing;
 pub mod rules;
-pub mod switch_table;
-pub mod tables;
 
 pub use composed::Composed;
 pub use rules::Rules;
-pub use switch_table::SwitchTable;
-pub use tables::SwitchBatch;
+pub use switch_tables::SwitchBatch;
 
 
 #[cfg(test)]

@@ -1,7 +1,7 @@
 //! What is to stand on each switch, changed switch by switch; want of memory takes back what was changed.
 ghost use Rattle.std.specs.Prelude.{◌≡◌, ◌≤◌, ◌<◌, ◌∷◌, [], ℕ, IfOk, OnErr, length, map, slice_get};
-ghost use Rattle.composed_tables.specs.Composing.{AreKept, AreStopped, AreTurned, IsKeptAt, IsTurnedAt, IsUndoneAt};
-ghost use Rattle.composed_tables.specs.Composing.{OthersStay, after_all as after_all_of, cookie_after, up_of};
+ghost use Rattle.switch_tables.specs.Turning.{AreKept, AreStopped, AreTurned, IsKeptAt, IsTurnedAt, IsUndoneAt};
+ghost use Rattle.switch_tables.specs.Turning.{OthersStay, after_all as after_all_of, cookie_after, up_of};
 
 use crate::switch_table::SwitchTable;
 use cv_io::{List, Memory};

@@ -6,7 +6,7 @@ ghost use Rattle.install_plan.specs.Tables.{IsBatch, IsTable, entry_of, numbered
 ghost use Rattle.list_change.specs.Changes.{Changed};
 ghost use Rattle.switch_meaning.specs.BatchLaw.{HasNoTwins};
 ghost use Rattle.switch_meaning.specs.declared.entry.PhysEntry.{PhysEntry as PhysEntryOf};
-ghost use Rattle.composed_tables.specs.Tables.{HasHad, HasNow, IsKept, IsTurned, IsUndone};
+ghost use Rattle.switch_tables.specs.Tables.{HasHad, HasNow, IsKept, IsTurned, IsUndone};
 
 use cv_io::{Duplicate, List, Memory};
 use exact_gate::Gate;
@@ -23,7 +23,7 @@ pub struct SwitchTable {
 }
 
 impl Model for SwitchTable {
-    ghost use Rattle.composed_tables.specs.Tables.{SwitchTableOf};
+    ghost use Rattle.switch_tables.specs.Tables.{SwitchTableOf};
 
     ghost Value = { SwitchTableOf };
 

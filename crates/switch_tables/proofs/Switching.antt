@@ -23,9 +23,9 @@ use Rattle.exact_gate.specs.declared.delta.GateDelta.{GateDelta}
 use Rattle.exact_gate.proofs.Changing.{difference-same}
 use Rattle.exact_gate.proofs.Standing.{in-stands, passing-same, same-flip, same-self, stands-in}
 use Rattle.policy_meaning.proofs.Lists.{all-append}
-use Rattle.composed_tables.specs.ComposedLaw.{StandsAsInstalled}
-use Rattle.composed_tables.specs.Tables.{CanGoBack, Has, HasHad, HasNow, IsKept, IsTurned, IsUndone, SwitchTableOf}
-use Rattle.composed_tables.proofs.Sets.{Once, are_twins, changed-stands, counts-permuted, in-parts, no-twins-once, place-once}
+use Rattle.switch_tables.specs.StandingLaw.{StandsAsInstalled}
+use Rattle.switch_tables.specs.Tables.{CanGoBack, Has, HasHad, HasNow, IsKept, IsTurned, IsUndone, SwitchTableOf}
+use Rattle.switch_tables.proofs.Sets.{Once, are_twins, changed-stands, counts-permuted, in-parts, no-twins-once, place-once}
 
 -- ---- what passes before and after, in parts
 
