@@ -4,3 +4,5 @@ pub mod Nodes
 pub mod Trees
 pub mod Finding
 pub mod Cancelling
+pub mod Kept
+pub mod Exact

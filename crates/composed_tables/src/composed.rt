@@ -189,7 +189,7 @@ impl Composed {
         let Some(mut rules) = self.rules.take() else {
             return Err(Memory);
         };
-        let deltas = rules.apply(v, delta, steps)?;
+        let deltas = rules.apply(self.alloc, v, delta, steps)?;
         let batches = self.change_tables(deltas.as_slice(), ups, next)?;
         self.rules = Some(rules);
         Ok(batches)

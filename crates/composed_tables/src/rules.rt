@@ -1,16 +1,16 @@
 //! The composed rules: those of the expression of each virtual switch, and those of its ports through hops.
-ghost use Rattle.std.specs.Prelude.{◌≡◌, ◌≢◌, ◌<◌, ◌^◌, ◌↔◌, [], ℕ, All, false, IfOk, IsTrue, List, OnOk, Some, length, map, slice_get};
+ghost use Rattle.std.specs.Prelude.{◌≡◌, ◌<◌, ◌++◌, ◌×◌, ◌∷◌, [], All, false, filter, IfOk, IsPermutation, IsTrue, List, OnOk, Some, length, map, slice_get};
 ghost use Rattle.std.specs.List.{AllByRecursion};
 ghost use Rattle.agreement.specs.Fitting.{IsFittingSetting};
 ghost use Rattle.agreement.specs.declared.state.Setting.{Setting as SettingOf};
 ghost use Rattle.alg_priority.specs.Sizes.{capped};
-ghost use Rattle.hop_rules.specs.Tables.{TableOf, fabric, is_whole};
+ghost use Rattle.hop_rules.specs.Tables.{IsHanded, is_whole, rules_at as rules_kept};
 ghost use Rattle.policy_meaning.specs.Fitting.{IsFittingTable, levels_of};
-ghost use Rattle.policy_meaning.specs.Hops.{hop_size};
 ghost use Rattle.policy_meaning.specs.Switches.{SwitchOf};
 ghost use Rattle.policy_meaning.specs.declared.rule.Rule.{Rule as RuleOf};
-ghost use Rattle.composed_tables.specs.Composing.{AreExact, Changes, IsGood, rules_in};
-ghost use Rattle.composed_tables.specs.Rules.{AreRulesOf, AreTied, AreTreesOf, CanCompile, CanTake, IsFitting, IsReadyFor, IsTreeOf};
+ghost use Rattle.composed_tables.specs.Composing.{AreExact, Changes, rules_in};
+ghost use Rattle.composed_tables.specs.Rules.{ArePortDeltas, AreRulesOf, AreTied, AreTreesOf, CanChangeAt, CanCompile};
+ghost use Rattle.composed_tables.specs.Rules.{CanTake, IsChangedAt, IsFitting, IsReadyFor, IsTreeOf, is_parted as is_parted_of};
 
 use agreement::Setting;
 use cv_io::{Duplicate, List, Memory, Steps};
@@ -29,6 +29,8 @@ pub struct Rules {
     trees: Vec<Compiled>,
     /// How many levels the rules of each virtual switch have.
     sizes: List<u64>,
+    /// Of which of them rules are for all ports at once.
+    whole: List<bool>,
     hops: HopTable,
 }
 
@@ -41,7 +43,7 @@ impl Model for Rules {
 
     ghost coded = { Prim.hlevel (codes, e.the_row.coded) };
 
-    ghost view = { λ a. record { trees = a.trees.items; sizes = a.sizes; hops = a.hops } };
+    ghost view = { λ a. record { trees = a.trees.items; sizes = a.sizes; whole = a.whole; hops = a.hops } };
 }
 
 /// Whether a rule's level is below so many, and its match normal.
@@ -115,27 +117,85 @@ fn wholes(alloc: Global, network: &Network) -> Result<List<bool>, Memory>
     Ok(wholes)
 }
 
+/// Only what changed at ports by themselves.
+fn parted(deltas: List<PortDelta>, whole: &List<bool>) -> List<PortDelta>
+    ensures { result ≡ filter (is_parted whole.now) deltas }
+{
+    let mut items = deltas.into_vec();
+    items.retain(|delta| is_parted(whole, delta));
+    List::from_vec(items)
+}
+
+/// Whether a delta is of a port by itself.
+fn is_parted(whole: &List<bool>, delta: &PortDelta) -> bool
+    ensures { result ≡ is_parted_of whole.now delta.now }
+{
+    match whole.get(delta.v as usize) {
+        Some(whole) => !*whole,
+        None => true,
+    }
+}
+
+/// What changed for all ports of a virtual switch at once.
+fn whole_delta(alloc: Global, v: u32, told: RuleDelta) -> Result<List<PortDelta>, Memory>
+    ensures { IfOk result (λ deltas. deltas ≡ record { v = v; port = 0; gone = told.gone; come = told.come } ∷ []) }
+{
+    let mut deltas = List::new(alloc);
+    deltas.push(PortDelta {
+        v,
+        port: 0,
+        gone: told.gone,
+        come: told.come,
+    })?;
+    Ok(deltas)
+}
+
+/// The rules of a virtual switch that isn't whole change, and those of ports with them.
+fn change_ports<G: Ledger>(
+    hops: &mut HopTable,
+    sizes: &List<u64>,
+    whole: &List<bool>,
+    v: u32,
+    told: &RuleDelta,
+    steps: &mut Steps<G>,
+) -> Result<List<PortDelta>, Memory>
+    requires kept { hops.old.lost ≡ false }
+    requires sizes { sizes.now ≡ hops.old.sizes }
+    requires wholes { whole.now ≡ hops.old.whole }
+    requires there { v < length hops.old.sizes }
+    requires parted { is_whole hops.old v ≡ false }
+    requires gone { (kept : List RuleOf) × IsPermutation (rules_kept hops.old v) (told.now.gone ++ kept) }
+    ensures handed { OnOk result (IsHanded hops.old hops.new v told.now.gone told.now.come) }
+    ensures deltas { IfOk result (ArePortDeltas hops.old hops.new) }
+{
+    let size = *sizes.get(v as usize).unwrap_or(&0);
+    if !are_fitting(size, &told.come) {
+        return Err(Memory);
+    }
+    let deltas = hops.apply(v, told, steps)?;
+    Ok(parted(deltas, whole))
+}
+
 /// All rules of a virtual switch are handed over.
 fn hand_over<G: Ledger>(
     alloc: Global,
     hops: &mut HopTable,
     sizes: &List<u64>,
+    whole: &List<bool>,
     trees: &[Compiled],
     v: usize,
     steps: &mut Steps<G>,
 ) -> Result<(), Memory>
-    requires there { v < length trees.now }
+    requires { v < length trees.now }
 {
-    let come = trees[v].rules()?;
-    let size = *sizes.get(v).unwrap_or(&0);
-    if !are_fitting(size, &come) {
-        return Err(Memory);
+    if whole.as_slice()[v] {
+        return Ok(());
     }
-    let delta = RuleDelta {
+    let told = RuleDelta {
         gone: List::new(alloc),
-        come,
+        come: trees[v].rules()?,
     };
-    hops.apply(v as u32, &delta, steps)?;
+    change_ports(hops, sizes, whole, v as u32, &told, steps)?;
     Ok(())
 }
 
@@ -144,12 +204,12 @@ fn hand_over_all<G: Ledger>(
     alloc: Global,
     hops: &mut HopTable,
     sizes: &List<u64>,
+    whole: &List<bool>,
     trees: &[Compiled],
     steps: &mut Steps<G>,
-) -> Result<(), Memory>
-{
+) -> Result<(), Memory> {
     for v in 0..trees.len() {
-        hand_over(alloc, hops, sizes, trees, v, steps)?;
+        hand_over(alloc, hops, sizes, whole, trees, v, steps)?;
     }
     Ok(())
 }
@@ -158,12 +218,11 @@ fn hand_over_all<G: Ledger>(
 fn empty_hops(
     alloc: Global,
     topology: &Topology,
-    setting: &Setting,
     sizes: &List<u64>,
-) -> Result<HopTable, Memory>
-{
-    let wholes = wholes(alloc, &setting.network)?;
-    HopTable::new(alloc, topology.copy()?, sizes.copied()?, setting.hops, wholes)
+    whole: &List<bool>,
+    hops: u32,
+) -> Result<HopTable, Memory> {
+    HopTable::new(alloc, topology.copy()?, sizes.copied()?, hops, whole.copied()?)
 }
 
 impl Rules {
@@ -182,14 +241,21 @@ impl Rules {
         let network = &setting.network;
         let trees = compile_all(alloc, network, steps)?;
         let sizes = sizes(alloc, network)?;
-        let mut hops = empty_hops(alloc, topology, setting, &sizes)?;
-        hand_over_all(alloc, &mut hops, &sizes, trees.as_slice(), steps)?;
-        Ok(Rules { trees, sizes, hops })
+        let whole = wholes(alloc, network)?;
+        let mut hops = empty_hops(alloc, topology, &sizes, &whole, setting.hops)?;
+        hand_over_all(alloc, &mut hops, &sizes, &whole, trees.as_slice(), steps)?;
+        Ok(Rules {
+            trees,
+            sizes,
+            whole,
+            hops,
+        })
     }
 
-    /// What a virtual switch makes of the change of a member, and the ports of it.
+    /// A member of a virtual switch changes its rules. What is told is what went and came at the entrances.
     pub fn apply<G: Ledger>(
         &mut self,
+        alloc: Global,
         v: u32,
         delta: LeafDelta,
         steps: &mut Steps<G>,
@@ -198,14 +264,26 @@ impl Rules {
         requires can { CanTake self.old v delta }
         ensures tied { OnOk result (AreTied self.new) }
         ensures rules { (before after : SettingOf) → AreRulesOf before self.old → Changes v delta before after → OnOk result (AreRulesOf after self.new) }
-        ensures exact { (before after : SettingOf) → IsGood before → IsGood after → AreRulesOf before self.old → Changes v delta before after
+        ensures exact { (before after : SettingOf) → AreRulesOf before self.old → Changes v delta before after
             → IfOk result (AreExact before.network.switches (rules_in before) (rules_in after)) }
     {
-        let told = self.trees[v as usize].apply(delta, steps)?;
-        let size = *self.sizes.get(v as usize).unwrap_or(&0);
-        if !are_fitting(size, &told.come) {
-            return Err(Memory);
+        let told = change_tree(self.trees.as_mut_slice(), v, delta, steps)?;
+        if self.whole.as_slice()[v as usize] {
+            return whole_delta(alloc, v, told);
         }
-        self.hops.apply(v, &told, steps)
+        change_ports(&mut self.hops, &self.sizes, &self.whole, v, &told, steps)
     }
+}
+
+/// The compiled expression of a virtual switch changes with a member.
+fn change_tree<G: Ledger>(
+    trees: &mut [Compiled],
+    v: u32,
+    delta: LeafDelta,
+    steps: &mut Steps<G>,
+) -> Result<RuleDelta, Memory>
+    requires { CanChangeAt trees.old v delta }
+    ensures { IfOk result (IsChangedAt v delta trees.old trees.new) }
+{
+    trees[v as usize].apply(delta, steps)
 }
