@@ -1,2 +1,4 @@
 pub mod Sets
 pub mod Switching
+pub mod Cookies
+pub mod Each

@@ -1,5 +1,5 @@
 -- Entries in lists: how often they stand there, and in which of two lists.
-use Rattle.std.proofs.Common.{◌≡◌, ℕ, ◌+◌, ◌≤◌, ◌<◌, ◌⊎◌, inl, inr, Bool, true, false, ◌&&◌, ◌||◌, cond, List, [], ◌∷◌, ◌++◌, refl, sym, ap, subst, ◌∙◌, arith, count_by, ◌==◌}
+use Rattle.std.proofs.Common.{◌≡◌, ℕ, zero, suc, ◌+◌, ◌≤◌, ◌<◌, ◌⊎◌, length, get_or, take, inl, inr, Bool, true, false, ◌&&◌, ◌||◌, cond, List, [], ◌∷◌, ◌++◌, refl, sym, ap, subst, ◌∙◌, arith, count_by, ◌==◌}
 use Rattle.std.specs.Prelude.{filter, not, IsPermutation}
 use Rattle.std.specs.List.{AllByRecursion, IsDistinct, list_any, remove}
 use Rattle.std.specs.Cmp.Lexicographic.{pointwise}
@@ -23,7 +23,7 @@ use Rattle.switch_meaning.specs.Keys.{same_key}
 use Rattle.switch_meaning.specs.Same.{same_entry}
 use Rattle.switch_meaning.specs.declared.entry.PhysEntry.{PhysEntry}
 use Rattle.switch_meaning.proofs.Items.{fails, join_and, split_and}
-use Rattle.switch_meaning.proofs.Members.{IsIn, distinct-narrower, first-or-later, here, in-all, in-either, in-left, in-right, place, same-items, there}
+use Rattle.switch_meaning.proofs.Members.{IsIn, distinct-narrower, here, in-all, in-either, in-left, in-right, place, same-items, there}
 use Rattle.install_plan.specs.Tables.{place_cmp, same_place}
 use Rattle.install_plan.proofs.Counting.{counted-in, place_total}
 use Rattle.exact_gate.specs.Standing.{stands_in}
@@ -53,6 +53,7 @@ no-twins-once xs d =
 -- what stands in one part of a list doesn't stand in the other
 pub apart-parts : (xs ys : List PhysEntry) (e : PhysEntry) → Once (xs ++ ys) → IsIn e xs → IsIn e ys → ⊥
 unfolding IsDistinct
+apart-parts [] ys e d i j = elim i [ ]
 apart-parts (x ∷ xs) ys e d here j = let f : same_entry e e ≡ false = in-all (λ y. same_entry e y ≡ false) (in-right xs ys j) d.0 in let t = same-self e in cc
 apart-parts (x ∷ xs) ys e d (there i) j = apart-parts xs ys e d.1 i j
 
@@ -192,16 +193,32 @@ none-there e x (y ∷ ys) p s m a =
 pub place-once : (e : PhysEntry) (xs : List PhysEntry) → HasNoTwins xs → AllByRecursion (λ (x : PhysEntry). IsMatch x.m) xs → count_by (same_place e) xs ≤ 1
 unfolding IsDistinct
 place-once e [] d m = omega arith
-place-once e (x ∷ xs) d m = by (same_place e x) refl
+place-once e (x ∷ xs) d m = by (same_place e x) refl (place-once e xs d.1 m.1)
   where
-    by : (b : Bool) → same_place e x ≡ b → count_by (same_place e) (x ∷ xs) ≤ 1
-    by true s =
+    by : (b : Bool) → same_place e x ≡ b → count_by (same_place e) xs ≤ 1 → count_by (same_place e) (x ∷ xs) ≤ 1
+    by true s rest =
         let z : one (same_place e x) ≡ 1 = ap one s in
         let c = count-cons (same_place e) x xs in
         let n = none-there e x xs m.0 s m.1 d.0 in
         omega (arith, z, c, n)
-    by false s =
+    by false s rest =
         let z : one (same_place e x) ≡ 0 = ap one s in
         let c = count-cons (same_place e) x xs in
-        let n = place-once e xs d.1 m.1 in
-        omega (arith, z, c, n)
+        omega (arith, z, c, rest)
+
+-- ---- each entry, as far as a loop has come
+
+module _ {A : Type 0} (P : A → Type 0) where
+  pub all-more : (xs : List A) (i : ℕ) (x : A) → i < length xs → x ≡ get_or xs i x → P x → AllByRecursion P (take i xs) → AllByRecursion P (take (i + 1) xs)
+  all-more [] i x lt e p a = absurd (omega arith)
+  all-more (y ∷ ys) zero x lt e p a =
+      let one : 0 + 1 ≡ suc 0 = omega arith in
+      subst (λ (n : ℕ). AllByRecursion P (take n (y ∷ ys))) (sym one) (subst P e p, tt)
+  all-more (y ∷ ys) (suc i) x lt e p a =
+      let next : suc i + 1 ≡ suc (i + 1) = omega arith in
+      subst (λ (n : ℕ). AllByRecursion P (take n (y ∷ ys))) (sym next) (a.0, all-more ys i x (omega arith) e p a.1)
+
+  pub all-taken : (xs : List A) (i : ℕ) → length xs ≤ i → AllByRecursion P (take i xs) → AllByRecursion P xs
+  all-taken [] i le a = tt
+  all-taken (y ∷ ys) zero le a = absurd (omega arith)
+  all-taken (y ∷ ys) (suc i) le a = (a.0, all-taken ys i (omega arith) a.1)

@@ -4,7 +4,6 @@ use Rattle.exact_gate.specs.declared.delta.GateDelta.{GateDelta}
 use Rattle.install_plan.specs.Tables.{IsBatch, after}
 use Rattle.install_plan.specs.declared.written.Batch.{Batch}
 use Rattle.install_plan.specs.declared.written.Written.{Written}
-use Rattle.switch_meaning.specs.BatchLaw.{HasNoTwins}
 use Rattle.switch_meaning.specs.declared.entry.PhysEntry.{PhysEntry}
 use Rattle.switch_tables.specs.Tables.{CanGoBack, HasHad, HasNow, IsKept, IsTurned, IsUndone, SwitchTableOf}
 use Rattle.switch_tables.specs.declared.tables.SwitchBatch.{SwitchBatch}
@@ -16,10 +15,6 @@ HaveNow entries tables = (n : ℕ) (x : SwitchTableOf) → slice_get tables n �
 -- each switch had them
 abbrev pub HaveHad : (ℕ → List PhysEntry) → List SwitchTableOf → Type 0
 HaveHad entries tables = (n : ℕ) (x : SwitchTableOf) → slice_get tables n ≡ Some x → HasHad (entries n) x
-
--- no switch has twins
-abbrev pub HaveNoTwins : (ℕ → List PhysEntry) → Type 0
-HaveNoTwins entries = (n : ℕ) → HasNoTwins (entries n)
 
 -- the next cookie after those of some entries
 abbrev pub after_all : ℕ → List Written → ℕ
@@ -48,6 +43,10 @@ IsKeptAt n before now = (x y : SwitchTableOf) → slice_get before n ≡ Some x 
 abbrev pub IsUndoneAt : ℕ → List SwitchTableOf → List SwitchTableOf → Type 0
 IsUndoneAt n before now = (x y : SwitchTableOf) → slice_get before n ≡ Some x → slice_get now n ≡ Some y → IsUndone x y
 
+-- it can be made what it was
+abbrev pub CanGoBackAt : ℕ → List SwitchTableOf → List SwitchTableOf → Type 0
+CanGoBackAt n before now = (x y : SwitchTableOf) → slice_get before n ≡ Some x → slice_get now n ≡ Some y → CanGoBack x y
+
 -- all others are the same
 abbrev pub OthersStay : ℕ → List SwitchTableOf → List SwitchTableOf → Type 0
 OthersStay n before now = (m : ℕ) → m ≢ n → slice_get now m ≡ slice_get before m
@@ -64,7 +63,7 @@ AreKept before now = (n : ℕ) → IsKeptAt n before now
 
 -- a change stopped after so many switches: those can be taken back, the others are as they were
 pub record AreStopped (count : ℕ) (before now : List SwitchTableOf) : Type 0 where
-  pub back : (n : ℕ) → n < count → (x y : SwitchTableOf) → slice_get before n ≡ Some x → slice_get now n ≡ Some y → CanGoBack x y
+  pub back : (n : ℕ) → n < count → CanGoBackAt n before now
   pub rest : (n : ℕ) → count ≤ n → IsKeptAt n before now
 
 -- the batch of each switch is the difference of what stood and what stands, with cookies from where those before it end

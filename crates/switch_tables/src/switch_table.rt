@@ -1,10 +1,7 @@
 //! What is to stand on a switch: a gate with all entries that are put there, and the table of those that pass.
-ghost use Rattle.std.specs.Prelude.{◌≡◌, [], List, OnErr, OnOk, IfOk};
-ghost use Rattle.std.specs.List.{AllByRecursion};
+ghost use Rattle.std.specs.Prelude.{◌≡◌, [], List, OnErr, IfOk};
 ghost use Rattle.agreement.specs.FreeOrder.{HaveMatches};
-ghost use Rattle.install_plan.specs.Tables.{IsBatch, IsTable, entry_of, numbered};
-ghost use Rattle.list_change.specs.Changes.{Changed};
-ghost use Rattle.switch_meaning.specs.BatchLaw.{HasNoTwins};
+ghost use Rattle.of10_match.specs.Ranges.{IsMatch};
 ghost use Rattle.switch_meaning.specs.declared.entry.PhysEntry.{PhysEntry as PhysEntryOf};
 ghost use Rattle.switch_tables.specs.Tables.{HasHad, HasNow, IsKept, IsTurned, IsUndone};
 
@@ -30,13 +27,20 @@ impl Model for SwitchTable {
     ghost view = { λ a. record { gate = a.gate; installed = a.installed } };
 }
 
-/// The matches of entries have their numbers in range: their types say so.
+/// The match of an entry has its numbers in range: their types say so.
+fn is_in_range(entry: &PhysEntry)
+    ensures { IsMatch entry.now.m }
+{
+    // The proof learns that the match is in range.
+    let _ = &entry.m.in_port;
+}
+
+/// So have those of all entries.
 fn are_in_range(entries: &List<PhysEntry>)
     ensures { HaveMatches entries.now }
 {
     for entry in entries.as_slice() {
-        // The proof learns that the match is in range.
-        let _ = &entry.m.in_port;
+        is_in_range(entry);
     }
 }
 

@@ -18,6 +18,7 @@ pub struct SwitchBatch {
 }
 
 /// The next cookie after those of some entries.
+#[tactic(auto, using(crate::proofs::Cookies::after_next, crate::proofs::Cookies::after_end))]
 fn after_all(next: u64, adds: &[Written]) -> u64
     ensures { result ≡ after_all_of next adds.now }
 {
