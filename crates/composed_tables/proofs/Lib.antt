@@ -6,3 +6,5 @@ pub mod Finding
 pub mod Cancelling
 pub mod Kept
 pub mod Exact
+pub mod After
+pub mod Applied
