@@ -13,6 +13,7 @@ use Rattle.cv_io.specs.declared.leaf.Leaf.{Leaf}
 use Rattle.cv_io.specs.Leaves.{ancestry_cmp, leaf_cmp, same_leaf}
 use Rattle.list_change.specs.Changes.{Changed}
 use Rattle.match_index.proofs.Counts.{any_count, count-append, count-cons, count-permuted, one}
+use Rattle.of10_actions.specs.Same.{same_action}
 use Rattle.of10_match.specs.Order.{by_bytes}
 use Rattle.of10_match.specs.Ranges.{IsMatch}
 use Rattle.of10_match.specs.Same.{same_match}
@@ -40,10 +41,12 @@ Once xs = IsDistinct same_entry xs
 -- the same entry twice would be twins
 same-twins : (d e : PhysEntry) → same_entry d e ≡ true → are_twins d e ≡ true
 same-twins d e t =
-    let a = split_and (same_match d.m e.m) _ t in
-    let b = split_and _ _ a.1 in
-    let c = split_and _ _ b.1 in
-    join_and (same_key d e) (pointwise same_leaf d.ancestry e.ancestry) (join_and _ _ a.0 b.0) c.1
+    let leaves : Bool = pointwise same_leaf d.ancestry e.ancestry in
+    let actions : Bool = pointwise same_action d.actions e.actions in
+    let a = split_and (same_match d.m e.m) ((d.priority == e.priority) && (actions && leaves)) t in
+    let b = split_and (d.priority == e.priority) (actions && leaves) a.1 in
+    let c = split_and actions leaves b.1 in
+    join_and (same_key d e) leaves (join_and (same_match d.m e.m) (d.priority == e.priority) a.0 b.0) c.1
 
 pub no-twins-once : (xs : List PhysEntry) → HasNoTwins xs → Once xs
 no-twins-once xs d =
@@ -153,7 +156,7 @@ number-same a b e = grind (arith, nat_tests)
 leaf-same : (a b : Leaf) → leaf_cmp a b ≡ Equal → same_leaf a b ≡ true
 leaf-same a b e =
     let s = both-equal (nat_cmp a.member b.member) (nat_cmp a.kind b.kind) e in
-    join_and _ _ (number-same a.member b.member s.0) (number-same a.kind b.kind s.1)
+    join_and (a.member == b.member) (a.kind == b.kind) (number-same a.member b.member s.0) (number-same a.kind b.kind s.1)
 
 ancestry-same : (a b : List Leaf) → ancestry_cmp a b ≡ Equal → pointwise same_leaf a b ≡ true
 ancestry-same [] [] e = refl
@@ -177,7 +180,7 @@ one-place e x y p q s t =
     let k = both-equal (ordering_then (nat_cmp x.priority y.priority) (by_bytes x.m y.m)) (ancestry_cmp x.ancestry y.ancestry) c in
     let m = both-equal (nat_cmp x.priority y.priority) (by_bytes x.m y.m) k.0 in
     let same : same_match x.m y.m ≡ true = (match_decides x.m y.m).1 (by_bytes-equal x.m y.m p q m.1) in
-    join_and (same_key x y) (pointwise same_leaf x.ancestry y.ancestry) (join_and _ _ same (number-same x.priority y.priority m.0)) (ancestry-same x.ancestry y.ancestry k.1)
+    join_and (same_key x y) (pointwise same_leaf x.ancestry y.ancestry) (join_and (same_match x.m y.m) (x.priority == y.priority) same (number-same x.priority y.priority m.0)) (ancestry-same x.ancestry y.ancestry k.1)
 
 none-there : (e x : PhysEntry) (xs : List PhysEntry) → IsMatch x.m → same_place e x ≡ true → AllByRecursion (λ y. IsMatch y.m) xs
     → AllByRecursion (λ y. are_twins x y ≡ false) xs → count_by (same_place e) xs ≡ 0
