@@ -1,15 +1,17 @@
 -- Switches changed one after the other, and taken back.
-use Rattle.std.proofs.Common.{◌≡◌, ◌≢◌, ℕ, zero, suc, ◌+◌, ◌<◌, ◌≤◌, ◌⊎◌, inl, inr, Bool, List, [], ◌∷◌, ◌++◌, Option, Some, None, length, take, map, refl, sym, ap, subst, ◌∙◌, arith}
+use Rattle.std.proofs.Common.{◌≡◌, ◌≢◌, ℕ, zero, suc, ◌+◌, ◌<◌, ◌≤◌, ◌⊎◌, inl, inr, Bool, List, [], ◌∷◌, ◌++◌, Option, Some, None, length, take, get_or, map, refl, sym, ap, subst, ◌∙◌, arith}
 use Rattle.std.specs.Prelude.{slice_get}
 use Rattle.std.proofs.lemmas.Bool.{cases_lt}
+use Rattle.std.proofs.lemmas.List.{length-append, map-append, take_more}
 use Rattle.std.proofs.lemmas.Option.{slice_get_within}
 use Rattle.exact_gate.specs.declared.delta.GateDelta.{GateDelta}
 use Rattle.install_plan.specs.declared.written.Batch.{Batch}
 use Rattle.switch_meaning.specs.declared.entry.PhysEntry.{PhysEntry}
 use Rattle.switch_meaning.proofs.Items.{some_injective}
 use Rattle.switch_tables.specs.Tables.{CanGoBack, HasHad, HasNow, IsKept, IsTurned, IsUndone, SwitchTableOf}
-use Rattle.switch_tables.specs.Turning.{AreKept, AreStopped, AreTurned, CanGoBackAt, IsKeptAt, IsTurnedAt, IsUndoneAt, OthersStay, cookie_after}
+use Rattle.switch_tables.specs.Turning.{AreKept, AreStopped, AreTurned, CanGoBackAt, IsKeptAt, IsTurnedAt, IsUndoneAt, OthersStay, cookie_after, up_of}
 use Rattle.switch_tables.specs.declared.tables.SwitchBatch.{SwitchBatch}
+use Rattle.switch_tables.proofs.Cookies.{cookie-more}
 
 below-or-at : (m n : ℕ) → m < n + 1 → (m < n) ⊎ (m ≡ n)
 below-or-at m n lt = by (cases_lt m n)
@@ -31,7 +33,7 @@ module _ (base cur new : List SwitchTableOf) (n : ℕ) (others : OthersStay n cu
     each-more done here m lt = by (below-or-at m n lt)
       where
         by : (m < n) ⊎ (m ≡ n) → PAt m base new
-        by (inl f) x y a b = done m f x y a (sym (others m (λ e. absurd (omega arith))) ∙ b)
+        by (inl f) = λ x y a b. done m f x y a (sym (others m (λ e. absurd (omega arith))) ∙ b)
         by (inr e) = subst (λ (k : ℕ). PAt k base new) (sym e) (λ x y a b. here x y (rest n (omega arith) ∙ a) b)
 
 -- one row more
@@ -114,3 +116,21 @@ stopped-kept count base cur new long s undone same n x z at to = by (cases_lt n 
     by : (n < count) ⊎ (count ≤ n) → IsKept x z
     by (inl lt) = there (slice_get cur n) refl (let l = slice_get_within base n x at in omega arith) lt
     by (inr le) = s.rest n le x z at (sym (same n le) ∙ to)
+
+-- what is the same is kept
+pub same-kept-at : (n : ℕ) (base new : List SwitchTableOf) → slice_get new n ≡ slice_get base n → IsKeptAt n base new
+same-kept-at n base new e x y p q = subst (λ (z : SwitchTableOf). IsKept x z) (some_injective (sym p ∙ (sym e ∙ q))) (same-kept x)
+
+pub row-more : (next cookie other : ℕ) (old new : List SwitchBatch) (row : SwitchBatch) → new ≡ old ++ row ∷ [] → other ≡ cookie_after cookie (row ∷ [])
+    → cookie ≡ cookie_after next old → other ≡ cookie_after next new
+row-more next cookie other old new row pushed e f =
+    e ∙ (ap (λ (k : ℕ). cookie_after k (row ∷ [])) f ∙ (sym (cookie-more next old row) ∙ ap (cookie_after next) (sym pushed)))
+
+pub ups-more : (ups : List Bool) (old new : List SwitchBatch) (n : ℕ) (d : Bool) (b : Batch) → new ≡ old ++ (record { up = get_or ups n d; batch = b }) ∷ []
+    → map up_of old ≡ take n ups → n < length ups → map up_of new ≡ take (n + 1) ups
+ups-more ups old new n d b pushed e lt =
+    ap (map up_of) pushed ∙ (map-append up_of old ((record { up = get_or ups n d; batch = b }) ∷ [])
+    ∙ (ap (λ (z : List Bool). z ++ get_or ups n d ∷ []) e ∙ sym (take_more ups n d lt)))
+
+pub count-more : (old new : List SwitchBatch) (row : SwitchBatch) (n : ℕ) → new ≡ old ++ row ∷ [] → length old ≡ n → length new ≡ n + 1
+count-more old new row n pushed e = let a = ap length pushed in let b = length-append old (row ∷ []) in omega (arith, a, b, e)
