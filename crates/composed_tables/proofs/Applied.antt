@@ -22,15 +22,11 @@ use Rattle.policy_meaning.specs.declared.network.Link.{Link}
 use Rattle.policy_meaning.specs.declared.rule.Rule.{Rule}
 use Rattle.policy_meaning.proofs.Lists.{all-map}
 use Rattle.composed_tables.specs.Composing.{AreExact, Changes, rules_in}
-use Rattle.composed_tables.specs.Rules.{ArePortDeltas, AreRulesOf, AreTied, IsChangedAt, IsLaidOut, IsTreeOf, LeadsToParted, RulesOf}
+use Rattle.composed_tables.specs.Rules.{ArePortDeltas, AreRulesOf, AreTied, IsChangedAt, IsLaidOut, IsTreeOf, KeepsRest, LeadsToParted, RulesOf}
 use Rattle.composed_tables.proofs.Cancelling.{same-after}
 use Rattle.composed_tables.proofs.Exact.{parted-exact, whole-exact}
 use Rattle.composed_tables.proofs.Kept.{There, beside, within}
 use Rattle.composed_tables.proofs.Trees.{sized-of, stays-of}
-
--- the table of hops keeps all but the rules
-abbrev pub KeepsRest : TableOf → TableOf → Type 0
-KeepsRest before after = after ≡ record before { rules = after.rules }
 
 pub same-rest : (before after : TableOf) → after ≡ before → KeepsRest before after
 same-rest before after same = same ∙ (λ i. record before { rules = (sym same i).rules })

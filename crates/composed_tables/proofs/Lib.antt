@@ -8,3 +8,4 @@ pub mod Kept
 pub mod Exact
 pub mod After
 pub mod Applied
+pub mod Porting

@@ -38,6 +38,10 @@ pub record RulesOf : Type 0 where
 abbrev pub IsTied : RulesOf → ℕ → Tree → Type 0
 IsTied r v t = is_whole r.hops v ≡ false → IsPermutation (rules_at (tree_of t)) (rules_kept r.hops v)
 
+-- each compiled expression is a sound tree
+abbrev pub AreSound : List Tree → Type 0
+AreSound trees = (v : ℕ) (t : Tree) → slice_get trees v ≡ Some t → IsTree (tree_of t)
+
 -- so it is for each virtual switch, the table has its sizes, and isn't lost
 pub record AreTied (r : RulesOf) : Type 0 where
   pub kept : r.hops.lost ≡ false
@@ -45,7 +49,7 @@ pub record AreTied (r : RulesOf) : Type 0 where
   pub wholes : r.hops.whole ≡ r.whole
   pub count : length r.sizes ≡ length r.trees
   pub count_whole : length r.whole ≡ length r.trees
-  pub sound : (v : ℕ) (t : Tree) → slice_get r.trees v ≡ Some t → IsTree (tree_of t)
+  pub sound : AreSound r.trees
   pub each : (v : ℕ) (t : Tree) → slice_get r.trees v ≡ Some t → IsTied r v t
 
 -- the compiled expression is that of a virtual switch over these tables
@@ -134,3 +138,25 @@ pub record IsReadyFor (plan : TopologyPlan) (s : Setting) : Type 0 where
   pub links_are : (v : ℕ) → links plan v ≡ switch_links (slice_get s.network.switches v)
   pub leads : (v : ℕ) → AllByRecursion (LeadsToParted s.network) (links plan v)
   pub ports : (v : ℕ) (x : SwitchOf) → slice_get s.network.switches v ≡ Some x → AllByRecursion (IsOutside plan v) x.outside
+
+-- the table of hops keeps all but the rules
+abbrev pub KeepsRest : TableOf → TableOf → Type 0
+KeepsRest before after = after ≡ record before { rules = after.rules }
+
+-- the rules of a virtual switch were handed over, unless they are for all ports at once
+pub record IsHandedOver (v : ℕ) (trees : List Tree) (before after : TableOf) : Type 0 where
+  pub rest : KeepsRest before after
+  pub others : (u : ℕ) → (u == v) ≡ false → rules_kept after u ≡ rules_kept before u
+  pub own : (t : Tree) → slice_get trees v ≡ Some t → is_whole before v ≡ false → IsPermutation (rules_at (tree_of t)) (rules_kept after v)
+
+-- so were those of all
+pub record AreHandedOver (trees : List Tree) (before after : TableOf) : Type 0 where
+  pub rest : KeepsRest before after
+  pub each : (v : ℕ) (t : Tree) → slice_get trees v ≡ Some t → is_whole before v ≡ false → IsPermutation (rules_at (tree_of t)) (rules_kept after v)
+
+-- a table of hops of these sizes that no rules were handed over to
+pub record IsEmptyTable (sizes : List ℕ) (whole : List Bool) (t : TableOf) : Type 0 where
+  pub kept : t.lost ≡ false
+  pub sizes_are : t.sizes ≡ sizes
+  pub wholes : t.whole ≡ whole
+  pub none : (v : ℕ) → rules_kept t v ≡ []

@@ -1,15 +1,18 @@
 //! The composed rules: those of the expression of each virtual switch, and those of its ports through hops.
-ghost use Rattle.std.specs.Prelude.{◌≡◌, ◌<◌, ◌++◌, ◌×◌, ◌∷◌, [], All, false, filter, IfOk, IsPermutation, IsTrue, List, OnOk, Some, length, map, slice_get};
+ghost use Rattle.std.specs.Prelude.{◌≡◌, ◌<◌, ◌^◌, ◌++◌, ◌×◌, ◌∷◌, [], ℕ, All, false, filter, IfOk, IsPermutation, IsTrue, List, OnOk, Some, length, map, slice_get};
 ghost use Rattle.std.specs.List.{AllByRecursion};
 ghost use Rattle.agreement.specs.Fitting.{IsFittingSetting};
 ghost use Rattle.agreement.specs.declared.state.Setting.{Setting as SettingOf};
 ghost use Rattle.alg_priority.specs.Sizes.{capped};
-ghost use Rattle.hop_rules.specs.Tables.{IsHanded, is_whole, rules_at as rules_kept};
+ghost use Rattle.hop_rules.specs.Tables.{IsHanded, fabric, is_whole, rules_at as rules_kept};
+ghost use Rattle.incr_compile.specs.Trees.{IsTree, tree_of};
 ghost use Rattle.policy_meaning.specs.Fitting.{IsFittingTable, levels_of};
+ghost use Rattle.policy_meaning.specs.Hops.{hop_size};
 ghost use Rattle.policy_meaning.specs.Switches.{SwitchOf};
 ghost use Rattle.policy_meaning.specs.declared.rule.Rule.{Rule as RuleOf};
 ghost use Rattle.composed_tables.specs.Composing.{AreExact, Changes, rules_in};
-ghost use Rattle.composed_tables.specs.Rules.{ArePortDeltas, AreRulesOf, AreTied, AreTreesOf, CanChangeAt, CanCompile};
+ghost use Rattle.composed_tables.specs.Rules.{ArePortDeltas, AreRulesOf, AreSound, AreTied, AreTreesOf, CanChangeAt, CanCompile};
+ghost use Rattle.composed_tables.specs.Rules.{AreHandedOver, IsEmptyTable, IsHandedOver};
 ghost use Rattle.composed_tables.specs.Rules.{CanTake, IsChangedAt, IsFitting, IsReadyFor, IsTreeOf, is_parted as is_parted_of};
 
 use agreement::Setting;
@@ -71,7 +74,8 @@ fn compile<G: Ledger>(
 ) -> Result<Compiled, Memory>
     requires can { CanCompile network.now }
     requires there { slice_get network.now.switches v ≡ Some x.now }
-    ensures { IfOk result (IsTreeOf network.now.tables x.now) }
+    ensures of { IfOk result (IsTreeOf network.now.tables x.now) }
+    ensures sound { IfOk result (λ t. IsTree (tree_of t)) }
 {
     let ports = x.ports(alloc)?;
     Compiled::build(alloc, &x.expr, &network.tables, &ports, steps)
@@ -86,6 +90,7 @@ fn compile_all<G: Ledger>(
     requires { CanCompile network.now }
     ensures count { IfOk result (λ trees. length trees.items ≡ length network.now.switches) }
     ensures trees { IfOk result (λ trees. AreTreesOf network.now trees.items) }
+    ensures sound { IfOk result (λ trees. AreSound trees.items) }
 {
     let mut trees = Vec::new(alloc);
     for (v, x) in network.switches.as_slice().iter().enumerate() {
@@ -168,7 +173,7 @@ fn change_ports<G: Ledger>(
     ensures handed { OnOk result (IsHanded hops.old hops.new v told.now.gone told.now.come) }
     ensures deltas { IfOk result (ArePortDeltas hops.old hops.new) }
 {
-    let size = *sizes.get(v as usize).unwrap_or(&0);
+    let size = sizes.as_slice()[v as usize];
     if !are_fitting(size, &told.come) {
         return Err(Memory);
     }
@@ -186,7 +191,15 @@ fn hand_over<G: Ledger>(
     v: usize,
     steps: &mut Steps<G>,
 ) -> Result<(), Memory>
-    requires { v < length trees.now }
+    requires there { v < length trees.now }
+    requires few { length trees.now < 2 ^ 32 }
+    requires count { length sizes.now ≡ length trees.now }
+    requires wholes { length whole.now ≡ length trees.now }
+    requires kept { hops.old.lost ≡ false }
+    requires sizes_are { hops.old.sizes ≡ sizes.now }
+    requires wholes_are { hops.old.whole ≡ whole.now }
+    requires none { rules_kept hops.old v ≡ [] }
+    ensures { OnOk result (IsHandedOver v trees.now hops.old hops.new) }
 {
     if whole.as_slice()[v] {
         return Ok(());
@@ -207,7 +220,13 @@ fn hand_over_all<G: Ledger>(
     whole: &List<bool>,
     trees: &[Compiled],
     steps: &mut Steps<G>,
-) -> Result<(), Memory> {
+) -> Result<(), Memory>
+    requires few { length trees.now < 2 ^ 32 }
+    requires count { length sizes.now ≡ length trees.now }
+    requires wholes { length whole.now ≡ length trees.now }
+    requires empty { IsEmptyTable sizes.now whole.now hops.old }
+    ensures { OnOk result (AreHandedOver trees.now hops.old hops.new) }
+{
     for v in 0..trees.len() {
         hand_over(alloc, hops, sizes, whole, trees, v, steps)?;
     }
@@ -221,7 +240,15 @@ fn empty_hops(
     sizes: &List<u64>,
     whole: &List<bool>,
     hops: u32,
-) -> Result<HopTable, Memory> {
+) -> Result<HopTable, Memory>
+    requires hop { 0 < hops }
+    requires sizes { length sizes.now ≡ length topology.now.virtuals }
+    requires wholes { length whole.now ≡ length topology.now.virtuals }
+    requires fits { (v : ℕ) → hop_size (fabric (record { plan = topology.now; sizes = sizes.now; hops = hops; whole = whole.now; rules = []; lost = false })) hops v < 2 ^ 64 }
+    ensures empty { IfOk result (IsEmptyTable sizes.now whole.now) }
+    ensures plan { IfOk result (λ t. t.plan ≡ topology.now) }
+    ensures hops { IfOk result (λ t. t.hops ≡ hops) }
+{
     HopTable::new(alloc, topology.copy()?, sizes.copied()?, hops, whole.copied()?)
 }
 

@@ -97,9 +97,9 @@ pub same-kept : (x : SwitchTableOf) → IsKept x x
 same-kept x = record { has = λ old h. h; stands = refl }
 
 -- what stopped is taken back
-pub stopped-kept : (count : ℕ) (base cur new : List SwitchTableOf) → length cur ≡ length base → AreStopped count base cur
+pub stopped_kept : (count : ℕ) (base cur new : List SwitchTableOf) → length cur ≡ length base → AreStopped count base cur
     → ((n : ℕ) → n < count → IsUndoneAt n cur new) → ((n : ℕ) → count ≤ n → slice_get new n ≡ slice_get cur n) → AreKept base new
-stopped-kept count base cur new long s undone same n x z at to = by (cases_lt n count)
+stopped_kept count base cur new long s undone same n x z at to = by (cases_lt n count)
   where
     middle : (y : SwitchTableOf) → slice_get cur n ≡ Some y → n < count → IsKept x z
     middle y f lt = back-kept x y z (s.back n lt x y at f) (undone n lt y z f to)

@@ -120,6 +120,7 @@ fn change_each(
 
 /// What is to stand on each switch is changed, and the batches of those that are up take cookies from a number
 /// on. Where memory is wanting, all is as before.
+#[tactic(auto, using(crate::proofs::Each::stopped_kept))]
 pub fn change_all(
     alloc: Global,
     tables: &mut [SwitchTable],
