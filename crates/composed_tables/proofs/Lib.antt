@@ -9,3 +9,4 @@ pub mod Exact
 pub mod After
 pub mod Applied
 pub mod Porting
+pub mod Building

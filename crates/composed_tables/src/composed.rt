@@ -38,7 +38,7 @@ pub struct Composed {
 }
 
 impl Model for Composed {
-    ghost use Rattle.std.specs.Prelude.{◌<◌, ◌^◌, ◌×◌, Unit, MatchOption, length};
+    ghost use Rattle.std.specs.Prelude.{◌<◌, ◌^◌, IfSome, length};
     ghost use Rattle.std.specs.Coded.{codes};
     ghost use Rattle.incr_compile.specs.contracts.tree.Tree as e;
     ghost use Rattle.policy_meaning.specs.Switches.{switch_code};
@@ -51,7 +51,7 @@ impl Model for Composed {
 
     ghost view = { λ a. record { wiring = a.wiring; switches = a.switches; rules = a.rules; tables = a.tables.items } };
 
-    ghost invariant = { λ a. (MatchOption a.rules Unit AreTied) × ((length a.switches < 2 ^ 32) × (length a.tables.items < 2 ^ 32)) };
+    ghost invariant = { λ a. (IfSome a.rules AreTied) × ((length a.switches < 2 ^ 32) × (length a.tables.items < 2 ^ 32)) };
 }
 
 /// A switch that is to have these entries, and nothing standing before.
