@@ -76,4 +76,3 @@ AreBatches next before now batches =
 abbrev pub StandAsBefore : List SwitchTableOf → List SwitchTableOf → Type 0
 StandAsBefore before now =
     (n : ℕ) (x y : SwitchTableOf) → slice_get before n ≡ Some x → slice_get now n ≡ Some y → y.installed.now ≡ x.installed.now
-
