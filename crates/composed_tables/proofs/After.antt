@@ -1,7 +1,9 @@
 -- What is kept, after a change of a member.
 use Rattle.std.proofs.Common.{◌≡◌, ℕ, ◌+◌, ◌<◌, ◌≤◌, List, [], ◌++◌, Option, Some, None, length, map, take, refl, sym, ap, subst, ◌∙◌, arith}
 use Rattle.std.specs.Prelude.{slice_get}
-use Rattle.std.specs.List.{range_with_len}
+use Rattle.std.proofs.lemmas.List.{append-nil}
+use Rattle.std.proofs.lemmas.List.Sorted.{IsPermutation-refl}
+use Rattle.std.specs.List.{IsDistinct, range_with_len}
 use Rattle.std.proofs.lemmas.List.FromFn.{get_or-map-range_with_len, length-map-range_with_len}
 use Rattle.std.proofs.lemmas.Option.{slice_get-get_or, slice_get_within}
 use Rattle.agreement.specs.Entries.{dropping, entries_of}
@@ -11,7 +13,9 @@ use Rattle.exact_gate.specs.declared.delta.GateDelta.{GateDelta}
 use Rattle.hop_rules.specs.declared.delta.PortDelta.{PortDelta}
 use Rattle.incr_compile.specs.declared.compiled.LeafDelta.{LeafDelta}
 use Rattle.install_plan.specs.Tables.{IsTable, entry_of}
+use Rattle.install_plan.specs.declared.written.Batch.{Batch}
 use Rattle.list_change.specs.Changes.{Changed}
+use Rattle.list_change.proofs.Permute.{by-equation}
 use Rattle.policy_meaning.specs.Switches.{SwitchOf}
 use Rattle.switch_meaning.specs.BatchLaw.{HasNoTwins}
 use Rattle.switch_meaning.specs.Fixed.{fixed_entries}
@@ -138,3 +142,10 @@ of-kept before c d of w x none long kept = record {
   where
     never : (r : RulesOf) → None ≡ Some r → ⊥
     never r e = cc
+
+-- a switch of a setting, from nothing
+pub built-table : (s : Setting) (n : ℕ) → IsGood s → (next : ℕ) (x y : SwitchTableOf) (b : Batch) → HasNow [] x → IsTurned [] (entries_of s n) next x y b → HasNow (entries_of s n) y
+unfolding IsDistinct
+built-table s n good next x y b h t =
+    t.now_has [] (entries_of s n) h tt (good-no-twins s good n)
+    (record { kept = []; was = IsPermutation-refl []; is = by-equation (entries_of s n) (entries_of s n ++ []) (sym (append-nil (entries_of s n))) })

@@ -10,3 +10,5 @@ pub mod After
 pub mod Applied
 pub mod Porting
 pub mod Building
+pub mod Pushing
+pub mod Built

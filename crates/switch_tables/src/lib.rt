@@ -8,3 +8,6 @@ pub mod tables;
 
 pub use switch_table::SwitchTable;
 pub use tables::{SwitchBatch, change_all, undo_all};
+
+#[cfg(test)]
+mod tests;
