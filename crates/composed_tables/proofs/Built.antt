@@ -60,7 +60,7 @@ module _ (s : Setting) (plan : TopologyPlan) (ready : IsReadyFor plan s) (sizes 
         let here : Contains (map (λ (j : Joint). place j.0) (outside_joints hops.plan)) (record { v = v; port = p }) =
         subst (λ (z : TopologyPlan). Contains (map (λ (j : Joint). place j.0) (outside_joints z)) (record { v = v; port = p })) (sym plan-same) out in
         place-in (record { v = v; port = p }) (own_ports hops)
-        (in-filter (λ (q : Place). not (is_whole hops q.v)) (from-place (record { v = v; port = p }) _ here) (ap not (whole-of v x at ∙ w)))
+        (in-filter (λ (q : Place). not (is_whole hops q.v)) (from-place (record { v = v; port = p }) (map (λ (j : Joint). place j.0) (outside_joints hops.plan)) here) (ap not (whole-of v x at ∙ w)))
 
     laid-out : IsLaidOut s hops
     laid-out = record {

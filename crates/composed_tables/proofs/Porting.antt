@@ -1,13 +1,15 @@
 -- Deltas of ports, without those of whole virtual switches.
 use Rattle.std.proofs.Common.{◌≡◌, ℕ, ◌==◌, Bool, true, false, ◌&&◌, cond, List, [], ◌∷◌, Option, Some, None, refl, sym, ap, subst, ◌∙◌, eqb-true}
-use Rattle.std.specs.Prelude.{Contains, filter, find, not, slice_index_or, if◌then◌else◌}
+use Rattle.std.specs.Prelude.{Contains, filter, find, map, not, slice_index_or, if◌then◌else◌}
 use Rattle.std.specs.Option.{option_map_or}
+use Rattle.hop_rules.specs.Links.{place}
 use Rattle.hop_rules.specs.Tables.{AreDeltas, ChangesBy, TableOf, gone_at, come_at, is_of, is_whole, own_ports, port_rules}
 use Rattle.hop_rules.specs.declared.delta.PortDelta.{PortDelta}
 use Rattle.policy_meaning.specs.declared.network.Place.{Place}
 use Rattle.policy_meaning.specs.declared.rule.Rule.{Rule}
 use Rattle.switch_meaning.proofs.Items.{fails, split_and}
 use Rattle.switch_meaning.proofs.Members.{filter-in, from-place}
+use Rattle.virtual_topology.specs.Wires.{Joint, outside_joints}
 use Rattle.composed_tables.specs.Placing.{rules_at as rules_on, rules_for}
 use Rattle.composed_tables.specs.Rules.{ArePortDeltas, is_parted}
 use Rattle.composed_tables.specs.declared.part.Part.{Part}
@@ -43,7 +45,7 @@ module _ (whole : List Bool) (p : Place) where
       by false e rest = rest
 
 own-open : (t : TableOf) (p : Place) → Contains (own_ports t) p → is_whole t p.v ≡ false
-own-open t p own = open-by (is_whole t p.v) (filter-in (λ (q : Place). not (is_whole t q.v)) p _ (from-place p (own_ports t) own)).1
+own-open t p own = open-by (is_whole t p.v) (filter-in (λ (q : Place). not (is_whole t q.v)) p (map (λ (j : Joint). place j.0) (outside_joints t.plan)) (from-place p (own_ports t) own)).1
   where
     open-by : (b : Bool) → not b ≡ true → b ≡ false
     open-by true e = cc
