@@ -3,7 +3,6 @@ use Rattle.std.proofs.Common.{◌≡◌, ℕ, zero, suc, ◌+◌, ◌<◌, ◌�
 use Rattle.std.specs.Prelude.{find}
 use Rattle.std.proofs.Math.Seq.{drop-nil}
 
-
 module _ {X : Type 0} (p : X → Bool) (xs : List X) (i : ℕ) where
   find-cons : (x : X) (ys : List X) (b : Bool) → p x ≡ b → find p (x ∷ ys) ≡ cond b (Some x) (find p ys)
   find-cons x ys b e = ap (λ c. cond c (Some x) (find p ys)) e

@@ -5,15 +5,14 @@
 #![tactic(auto)]
 
 pub mod composed;
-pub mod part;
 pub mod laws;
+pub mod part;
 pub mod placing;
 pub mod rules;
 
 pub use composed::Composed;
 pub use rules::Rules;
 pub use switch_tables::SwitchBatch;
-
 
 #[cfg(test)]
 mod tests;

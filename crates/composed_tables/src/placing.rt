@@ -191,7 +191,16 @@ fn add_ports(
         (record { port = Some p; rules = rules_at part deltas.now (entrance_of site.v (Some p)) })) outside.now) }
 {
     for port in outside.as_slice() {
-        add_entrance(alloc, entries, wiring, site, outside, Some(*port), deltas, part)?;
+        add_entrance(
+            alloc,
+            entries,
+            wiring,
+            site,
+            outside,
+            Some(*port),
+            deltas,
+            part,
+        )?;
     }
     Ok(())
 }

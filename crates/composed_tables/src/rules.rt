@@ -249,7 +249,13 @@ fn empty_hops(
     ensures plan { IfOk result (λ t. t.plan ≡ topology.now) }
     ensures hops { IfOk result (λ t. t.hops ≡ hops) }
 {
-    HopTable::new(alloc, topology.copy()?, sizes.copied()?, hops, whole.copied()?)
+    HopTable::new(
+        alloc,
+        topology.copy()?,
+        sizes.copied()?,
+        hops,
+        whole.copied()?,
+    )
 }
 
 impl Rules {
