@@ -1,8 +1,9 @@
 -- The rules of a virtual switch that were handed over, as they are kept.
-use Rattle.std.specs.Prelude.{◌≡◌, ℕ, ◌+◌, ◌*◌, ◌%◌, ◌^◌, Option, Some, None, List, [], ◌∷◌, ◌++◌, filter_map, map, option_map, IsPermutation}
+use Rattle.std.specs.Prelude.{◌≡◌, ℕ, ◌+◌, ◌*◌, ◌%◌, ◌^◌, ◌==◌, false, Option, Some, None, List, [], ◌∷◌, ◌++◌, filter_map, map, option_map, filter, IsPermutation}
+use Rattle.std.specs.List.{list_any}
 use Rattle.cv_io.specs.declared.leaf.Leaf.{Leaf}
 use Rattle.match_index.specs.declared.item.Item.{Item}
-use Rattle.rule_ancestry.specs.Holding.{Held, id_of, item_of}
+use Rattle.rule_ancestry.specs.Holding.{Held, id_of, is_outside, item_at, item_of}
 use Rattle.policy_meaning.specs.declared.rule.Rule.{Rule}
 use Rattle.of10_match.specs.Fields.{MatchOf}
 use Rattle.hop_rules.specs.Items.{item_for}
@@ -44,13 +45,19 @@ listed exits h = option_map (item_for h.id) (asks_by h.item (over exits h.item.t
 abbrev pub AreListed : GivenOf → List (Held Rule) → Type 0
 AreListed g rules = IsPermutation g.items (filter_map (listed g.exits) rules)
 
--- a rule leaves, and its id is noted
-pub record TakesOne (old new : GivenOf) (ids ids' : List ℕ) (rule : Rule) : Type 0 where
+-- the id of a rule that is held is noted, and wasn't yet
+pub record Notes (held : List (Held Rule)) (ids ids' : List ℕ) (rule : Rule) : Type 0 where
   pub id : ℕ
+  pub there : item_at held id ≡ Some rule
+  pub new : list_any (λ j. id == j) ids ≡ false
   pub noted : ids' ≡ ids ++ id ∷ []
-  pub rules : IsPermutation old.rules (record { id = id; item = rule } ∷ new.rules)
-  pub listed : AreListed old old.rules → AreListed new new.rules
-  pub exits : new.exits ≡ old.exits
+
+-- rules that are held, each under another of these ids
+pub record AreFoundAt (held : List (Held Rule)) (ids : List ℕ) (rules : List Rule) : Type 0 where
+  pub going : List (Held Rule)
+  pub was : IsPermutation held (going ++ filter (is_outside ids) held)
+  pub ids_are : map id_of going ≡ ids
+  pub rules_are : map item_of going ≡ rules
 
 -- rules leave, which had these ids
 pub record Takes (old new : GivenOf) (ids : List ℕ) (rules : List Rule) : Type 0 where
@@ -69,10 +76,6 @@ pub record Puts (old new : GivenOf) (ids : List ℕ) (rules : List Rule) : Type 
   pub rules_are : map item_of coming ≡ rules
   pub items : new.items ≡ old.items
   pub exits : new.exits ≡ old.exits
-
--- some rules are there
-abbrev pub AreThere : List (Held Rule) → List Rule → Type 0
-AreThere held rules = (rest : List Rule) × IsPermutation (map item_of held) (rules ++ rest)
 
 -- rules of these ids are there, and all others are listed
 pub record AreUnlisted (g : GivenOf) (ids : List ℕ) : Type 0 where

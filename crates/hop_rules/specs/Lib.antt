@@ -5,3 +5,4 @@ pub mod Items
 pub mod Handed
 pub mod Nodes
 pub mod Turns
+pub mod Tables

@@ -1,5 +1,5 @@
 //! Where links lead from virtual switches.
-ghost use Rattle.std.specs.Prelude.{◌≡◌, ◌<◌, ◌^◌, IfOk, filter_map, flat_map, length};
+ghost use Rattle.std.specs.Prelude.{◌≡◌, ◌<◌, ◌^◌, IfOk, flat_map, length};
 ghost use Rattle.std.specs.List.{enumerate_from};
 ghost use Rattle.hop_rules.specs.Links.{end as end_of, ends as ends_of, exit_at as exit_at_of, exits as exits_of, port_ends as port_ends_of};
 

@@ -1,16 +1,17 @@
 //! The rules of a virtual switch that were handed over, each under an id.
-ghost use Rattle.std.specs.Prelude.{◌≡◌, ◌≤◌, ◌++◌, ◌∷◌, [], IfOk, IfSome, OnErr, OnOk, IsPermutation, IsSome, List, Some, false, filter_map, length, map, true};
+ghost use Rattle.std.specs.Prelude.{◌≡◌, ◌==◌, ◌≤◌, ◌∷◌, [], IfOk, IfSome, OnErr, OnOk, IsPermutation, List, Some, false, filter_map, length, map, true};
+ghost use Rattle.std.specs.List.{list_any};
 ghost use Rattle.match_index.specs.Items.{ids_of};
 ghost use Rattle.match_index.specs.Questions.{is_meeting};
 ghost use Rattle.std.specs.Option.{option_copied};
 ghost use Rattle.rule_ancestry.specs.Holding.{item_at};
 ghost use Rattle.policy_meaning.specs.declared.rule.Rule.{Rule};
 ghost use Rattle.hop_rules.specs.Standing.{over as over_of};
-ghost use Rattle.hop_rules.specs.Handed.{AreListed, AreThere, AreUnlisted, Puts, Takes, TakesOne, asks_by, leaves_mark, listed, mark_of, mixed as mixed_of};
+ghost use Rattle.hop_rules.specs.Handed.{AreFoundAt, AreListed, AreUnlisted, Notes, Puts, Takes, asks_by, leaves_mark, listed, mark_of, mixed as mixed_of};
 ghost use Rattle.hop_rules.specs.Under.{Rises};
 
 use crate::exits::Exit;
-use crate::listing::{hide_one, show};
+use crate::listing::{hide, show};
 use crate::standing::{asked, over};
 use cv_io::{Duplicate, Leaf, List, Memory};
 use match_index::Index;
@@ -101,6 +102,29 @@ impl Filed for Marked {
     }
 }
 
+/// Whether an id is one of these.
+fn has(ids: &[usize], id: usize) -> bool
+    ensures { result ≡ list_any (λ j. id == j) ids.now }
+{
+    for other in ids {
+        if id == *other {
+            return true;
+        }
+    }
+    false
+}
+
+/// Rules that are found by their marks.
+fn all_marked(alloc: Global, rules: &[Rule]) -> Result<Vec<Marked>, Memory>
+    ensures { IfOk result (λ marked. marked.items ≡ rules.now) }
+{
+    let mut marked = Vec::with_capacity(alloc, rules.len())?;
+    for rule in rules {
+        marked.push(Marked::of(alloc, rule)?)?;
+    }
+    Ok(marked)
+}
+
 /// What a rule of an id asks where its link leads, if it leads over one.
 fn asked_at(store: &Store<Marked>, exits: &[Exit], id: usize) -> Option<Match>
     ensures { (rule : Rule) → item_at store.now id ≡ Some rule → result ≡ asks_by rule (over_of exits.now rule.tail) }
@@ -183,58 +207,74 @@ impl Given {
         }
     }
 
-    /// The id of a rule that is there.
-    fn find(&self, rule: &Rule) -> Result<Option<usize>, Memory>
-        ensures found { IfOk result (λ found. IfSome found (λ id. item_at self.now.rules id ≡ Some rule.now)) }
-        ensures there { AreThere self.now.rules (rule.now ∷ []) → IfOk result IsSome }
+    /// Whether the rule of an id is this one, and the id is none of these.
+    fn is_another(&self, id: usize, rule: &Rule, ids: &[usize]) -> bool
+        ensures rule { result ≡ true → item_at self.now.rules id ≡ Some rule.now }
+        ensures id { result ≡ true → list_any (λ j. id == j) ids.now ≡ false }
     {
-        // That no two are held under one id.
-        let _count = self.store.len();
+        if has(ids, id) {
+            return false;
+        }
+        self.is_at(id, rule)
+    }
+
+    /// The id of a rule that is there, which is none of these.
+    fn find(&self, rule: &Rule, ids: &[usize]) -> Result<Option<usize>, Memory>
+        ensures rule { IfOk result (λ found. IfSome found (λ id. item_at self.now.rules id ≡ Some rule.now)) }
+        ensures id { IfOk result (λ found. IfSome found (λ id. list_any (λ j. id == j) ids.now ≡ false)) }
+    {
         for id in self.store.descend(mark(rule))? {
-            if self.is_at(id, rule) {
+            if self.is_another(id, rule, ids) {
                 return Ok(Some(id));
             }
         }
         Ok(None)
     }
 
-    /// Takes a rule out, and notes the id that it had. A rule that isn't there is answered as want of
-    /// memory.
-    fn take_one(&mut self, rule: &Rule, ids: &mut Vec<usize>) -> Result<(), Memory>
-        ensures { OnOk result (TakesOne self.old self.new ids.old.items ids.new.items rule.now) }
+    /// Notes the id of a rule that is there, which isn't noted yet. A rule that isn't there is answered
+    /// as want of memory.
+    fn note(&self, rule: &Rule, ids: &mut Vec<usize>) -> Result<(), Memory>
+        ensures { OnOk result (Notes self.now.rules ids.old.items ids.new.items rule.now) }
     {
-        // That no two are held under one id.
-        let _count = self.store.len();
-        let Some(id) = self.find(rule)? else {
+        let Some(id) = self.find(rule, ids)? else {
             return Err(Memory);
         };
         ids.push(id)?;
-        hide_one(&mut self.index, id);
-        self.store.remove(id);
         Ok(())
     }
 
-    /// Takes rules out, and gives the ids that they had. Rules that aren't there are answered as want of
-    /// memory, which leaves rules that are to be made anew.
-    pub fn take(&mut self, gone: &[Rule]) -> Result<Vec<usize>, Memory>
-        ensures { IfOk result (λ ids. Takes self.old self.new ids.items gone.now) }
+    /// The ids of rules that are there.
+    fn find_all(&self, rules: &[Rule]) -> Result<Vec<usize>, Memory>
+        ensures { IfOk result (λ ids. AreFoundAt self.now.rules ids.items rules.now) }
     {
+        // That no two are held under one id.
+        let _count = self.store.len();
         let mut ids = Vec::new(self.alloc);
-        for rule in gone {
-            self.take_one(rule, &mut ids)?;
+        for rule in rules {
+            self.note(rule, &mut ids)?;
         }
         Ok(ids)
     }
 
-    /// Puts rules in, and gives their ids. Want of memory leaves rules that are to be made anew.
-    pub fn put(&mut self, come: &[Rule]) -> Result<Vec<usize>, Memory>
-        ensures { IfOk result (λ ids. Puts self.old self.new ids.items come.now) }
+    /// Takes rules out, and gives the ids that they had. Rules that aren't there are answered as want of
+    /// memory.
+    pub fn take(&mut self, gone: &[Rule]) -> Result<Vec<usize>, Memory>
+        ensures taken { IfOk result (λ ids. Takes self.old self.new ids.items gone.now) }
+        ensures memory { OnErr result (self.new ≡ self.old) }
     {
-        let mut ids = Vec::new(self.alloc);
-        for rule in come {
-            let id = self.store.add(Marked::of(self.alloc, rule)?)?;
-            ids.push(id)?;
-        }
+        let ids = self.find_all(gone)?;
+        hide(&mut self.index, &ids);
+        self.store.remove_all(&ids);
+        Ok(ids)
+    }
+
+    /// Puts rules in, and gives their ids.
+    pub fn put(&mut self, come: &[Rule]) -> Result<Vec<usize>, Memory>
+        ensures put { IfOk result (λ ids. Puts self.old self.new ids.items come.now) }
+        ensures memory { OnErr result (self.new ≡ self.old) }
+    {
+        let marked = all_marked(self.alloc, come)?;
+        let ids = self.store.add_all(marked)?;
         Ok(ids)
     }
 

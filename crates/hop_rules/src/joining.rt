@@ -10,9 +10,8 @@ ghost use Rattle.policy_meaning.specs.declared.rule.Rule.{Rule};
 ghost use Rattle.rule_ancestry.specs.Holding.{Held};
 ghost use Rattle.list_change.specs.Pairing.{by_one};
 ghost use Rattle.made_rules.specs.Rules.{rules_in};
-ghost use Rattle.hop_rules.specs.Handed.{AreListed};
 ghost use Rattle.hop_rules.specs.Nodes.{CanMake, IsAt, IsOwn, IsSetUp, arrivals, arrived as arrived_of, could, held_at, hop_way};
-ghost use Rattle.hop_rules.specs.Nodes.{leads_over, leads_to as leads_to_of, made_alone, made_left, made_of_pair, own as own_of, pair_with};
+ghost use Rattle.hop_rules.specs.Nodes.{made_alone, made_left, made_of_pair, own as own_of, pair_with};
 ghost use Rattle.hop_rules.specs.Standing.{asked as asked_of, leaving as leaving_of, standing as standing_of};
 ghost use Rattle.hop_rules.specs.Turns.{left_cost};
 ghost use Rattle.hop_rules.specs.Under.{held_under, under};
@@ -247,7 +246,7 @@ fn add_by_left_at<'a, G: Ledger>(
     fresh: &mut Vec<Made>,
     steps: &mut Steps<G>,
 ) -> Result<(), Memory>
-    requires around { (own : ℕ) × IsSetUp own around.size around.given.now around.below.now }
+    requires { (own : ℕ) × IsSetUp own around.size around.given.now around.below.now }
     ensures pushed { OnOk result (IsPermutation fresh.new.items (fresh.old.items ++ made_left around.entry.at around.entry.size around.entry.given.now.exits (arrivals around.entry.below.now around.entry.given.now.exits) (held_under around.entry.given.now.rules id))) }
     ensures steps { OnOk result (steps.new ≤ steps.old + left_cost around.entry.at around.entry.given.now.exits (arrivals around.entry.below.now around.entry.given.now.exits) (held_under around.entry.given.now.rules id)) }
 {
@@ -268,7 +267,7 @@ pub fn add_all_by_left<'a, G: Ledger>(
     fresh: &mut Vec<Made>,
     steps: &mut Steps<G>,
 ) -> Result<(), Memory>
-    requires around { (own : ℕ) × IsSetUp own around.size around.given.now around.below.now }
+    requires { (own : ℕ) × IsSetUp own around.size around.given.now around.below.now }
     ensures pushed { OnOk result (IsPermutation fresh.new.items (fresh.old.items ++ made_left around.entry.at around.entry.size around.entry.given.now.exits (arrivals around.entry.below.now around.entry.given.now.exits) (under around.entry.given.now.rules come.now))) }
     ensures steps { OnOk result (steps.new ≤ steps.old + left_cost around.entry.at around.entry.given.now.exits (arrivals around.entry.below.now around.entry.given.now.exits) (under around.entry.given.now.rules come.now)) }
 {

@@ -4,19 +4,29 @@
 //! what it was made of.
 #![tactic(auto)]
 
+pub mod delta;
 pub mod exits;
 pub mod given;
 pub mod joining;
 pub mod laws;
+mod level;
 mod listing;
 pub mod meeting;
 pub mod node;
 pub mod standing;
+pub mod table;
 pub mod turning;
 
+pub use delta::PortDelta;
 pub use exits::{Exit, LinkEnd};
 pub use given::Given;
 pub use joining::Around;
 pub use node::{Node, Turn};
+pub use table::HopTable;
 pub use turning::change_node;
 
+
+#[cfg(test)]
+mod folding;
+#[cfg(test)]
+mod tests;

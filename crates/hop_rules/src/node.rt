@@ -1,5 +1,5 @@
 //! The rules of the node of a port.
-ghost use Rattle.std.specs.Prelude.{◌≡◌, ◌≤◌, ◌++◌, ◌∷◌, [], IfOk, OnErr, OnOk, IsPermutation, filter, filter_map, length, map, option_map, true};
+ghost use Rattle.std.specs.Prelude.{◌≡◌, ◌≤◌, ◌∷◌, [], IfOk, OnErr, OnOk, IsPermutation, filter, filter_map, length, map, option_map, true};
 ghost use Rattle.std.specs.Option.{option_copied};
 ghost use Rattle.of10_match.specs.Matching.{overlaps};
 ghost use Rattle.rule_ancestry.specs.Holding.{Held, id_of, item_at, item_of};
@@ -199,11 +199,7 @@ impl Node {
 
     /// Rules that are made of some of these go, and some come; what is made anew stays. What goes is
     /// handed out.
-    pub fn change(
-        &mut self,
-        lost: &[Origin],
-        fresh: Vec<Made>,
-    ) -> Result<(Turn, Vec<Made>), Memory>
+    pub fn change(&mut self, lost: &[Origin], fresh: Vec<Made>) -> Result<(Turn, Vec<Made>), Memory>
         ensures change { IfOk result (λ turned. IsChange self.old.held self.new.held lost.now fresh.items turned.0 turned.1.items) }
         ensures read { self.new.read ≡ self.old.read }
         ensures memory { OnErr result (self.new ≡ self.old) }

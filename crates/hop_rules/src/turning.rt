@@ -1,5 +1,5 @@
 //! The rules of a node change, as those change of which it makes them.
-ghost use Rattle.std.specs.Prelude.{◌≡◌, ◌+◌, ◌≤◌, ◌++◌, ℕ, IfOk, OnErr, OnOk, IsPermutation, List, filter_map, flat_map, map, true};
+ghost use Rattle.std.specs.Prelude.{◌≡◌, ◌+◌, ◌≤◌, ◌++◌, ℕ, IfOk, OnErr, OnOk, IsPermutation, List, map, true};
 ghost use Rattle.std.specs.List.{AllByRecursion};
 ghost use Rattle.rule_ancestry.specs.Holding.{Held};
 ghost use Rattle.policy_meaning.specs.declared.rule.Rule.{Rule};
@@ -103,14 +103,21 @@ fn made_fresh<'a, G: Ledger>(
     requires { (own : ℕ) × IsSetUp own around.size around.given.now around.below.now }
     ensures made { (kept : List (Held Rule)) → AreListed around.entry.given.now kept → AreFound around.entry.given.now.rules kept
         → IfOk result (λ fresh. IsPermutation fresh.items (made_left around.entry.at around.entry.size around.entry.given.now.exits (arrivals around.entry.below.now around.entry.given.now.exits) (under around.entry.given.now.rules come.now)
-            ++ made_right around.entry.at around.entry.size around.entry.given.now.exits kept (came_there around.entry.below.now turns.now around.entry.given.now.exits))) }
+        ++ made_right around.entry.at around.entry.size around.entry.given.now.exits kept (came_there around.entry.below.now turns.now around.entry.given.now.exits))) }
     ensures steps { (kept : List (Held Rule)) → AreListed around.entry.given.now kept → AreFound around.entry.given.now.rules kept
         → OnOk result (steps.new ≤ steps.old + (left_cost around.entry.at around.entry.given.now.exits (arrivals around.entry.below.now around.entry.given.now.exits) (under around.entry.given.now.rules come.now)
-            + right_cost around.entry.at around.entry.given.now.exits kept (came_there around.entry.below.now turns.now around.entry.given.now.exits))) }
+        + right_cost around.entry.at around.entry.given.now.exits kept (came_there around.entry.below.now turns.now around.entry.given.now.exits))) }
 {
     let mut fresh = Vec::new(alloc);
     add_all_by_left(alloc, around, come, &mut fresh, steps)?;
-    add_by_exits(alloc, around, around.given.exits(), turns, &mut fresh, steps)?;
+    add_by_exits(
+        alloc,
+        around,
+        around.given.exits(),
+        turns,
+        &mut fresh,
+        steps,
+    )?;
     Ok(fresh)
 }
 
@@ -133,7 +140,7 @@ pub fn change_node<'a, G: Ledger>(
     ensures told { IfOk result (λ turned. IsTold node.old.held node.new.held turned.0 turned.1.items) }
     ensures steps { (xs : List (Held Rule)) → IsOwnTurn xs around.entry.given.now own_turn.now
         → OnOk result (steps.new ≤ steps.old + (left_cost around.entry.at around.entry.given.now.exits (arrivals around.entry.below.now around.entry.given.now.exits) (under around.entry.given.now.rules own_turn.now.come)
-            + right_cost around.entry.at around.entry.given.now.exits (stayed around.entry.given.now own_turn.now.come) (came_there around.entry.below.now turns.now around.entry.given.now.exits))) }
+        + right_cost around.entry.at around.entry.given.now.exits (stayed around.entry.given.now own_turn.now.come) (came_there around.entry.below.now turns.now around.entry.given.now.exits))) }
     ensures read { node.new.read ≡ node.old.read }
     ensures memory { OnErr result (node.new ≡ node.old) }
 {
