@@ -16,7 +16,7 @@ use Rattle.hop_rules.specs.Nodes.{Arrival, NodeOf, Once, arrivals, arrive, arriv
 use Rattle.hop_rules.specs.Standing.{departing, exit_of, leads_back, leaving, over}
 use Rattle.hop_rules.specs.declared.exits.Exit.{Exit}
 use Rattle.hop_rules.specs.declared.standing.Departure.{Departure}
-use Rattle.hop_rules.proofs.Names.{is-same, itself}
+use Rattle.hop_rules.proofs.Names.{is-same}
 
 -- ---- of what holds of each exit
 module _ (P : Exit → Type 0) where
@@ -100,4 +100,3 @@ module _ (size id : ℕ) (a : Rule) (l : Departure) where
     pub one-arrival : (es : List Exit) → Once (map (λ (e : Exit). e.place) es) → leads_there l.exit.place es ≡ true → filter_map pairing (arrivals below es) ≡ whole-there
     one-arrival [] o i = absurd (cc)
     one-arrival (e ∷ es) o i = one-arrival-by e es (l.exit.place == e.place) refl o i (one-arrival es o.1)
-

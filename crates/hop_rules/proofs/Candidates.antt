@@ -3,7 +3,7 @@ use Rattle.std.proofs.Common.{◌≡◌, ℕ, ◌-◌, ◌/◌, ◌^◌, Bool, t
 use Rattle.std.specs.Prelude.{◌==◌, nat_le, if◌then◌else◌, option_map}
 use Rattle.std.specs.Option.{option_and_then}
 use Rattle.of10_match.specs.Fields.{MatchOf}
-use Rattle.of10_match.specs.Matching.{agree, agree_prefix, each, fits, fits_prefix, is_longer, meet, overlaps, top_bits}
+use Rattle.of10_match.specs.Matching.{agree, agree_prefix, each, fits, fits_prefix, meet, overlaps}
 use Rattle.of10_match.specs.Normal.{IsNormal}
 use Rattle.of10_match.specs.declared.header.Prefix.{Prefix}
 use Rattle.of10_match.proofs.Twelve.{and-false, each-fields, each-intro}
@@ -87,13 +87,13 @@ module _ (r : RewriteOf) (m n : MatchOf) (port : ℕ) (g : IsGuarded m) (h : IsG
   asked-overlaps c o =
       let k = pulled r (without_port n) in
       let f = each-fields true (set_fits fits true r.dl_src n.dl_src) (set_fits fits true r.dl_dst n.dl_dst) true true true
-        (set_fits fits (sets_nw n) r.nw_tos n.nw_tos) true (set_fits fits_prefix (sets_nw n) r.nw_src n.nw_src)
-        (set_fits fits_prefix (sets_nw n) r.nw_dst n.nw_dst) (set_fits fits (sets_tp n) r.tp_src n.tp_src) (set_fits fits (sets_tp n) r.tp_dst n.tp_dst) c in
+      (set_fits fits (sets_nw n) r.nw_tos n.nw_tos) true (set_fits fits_prefix (sets_nw n) r.nw_src n.nw_src)
+      (set_fits fits_prefix (sets_nw n) r.nw_dst n.nw_dst) (set_fits fits (sets_tp n) r.tp_src n.tp_src) (set_fits fits (sets_tp n) r.tp_dst n.tp_dst) c in
       let t = each-fields (agree m.in_port k.in_port) (agree m.dl_src k.dl_src) (agree m.dl_dst k.dl_dst) (agree m.dl_vlan k.dl_vlan) (agree m.dl_vlan_pcp k.dl_vlan_pcp) (agree m.dl_type k.dl_type)
-        (agree m.nw_tos k.nw_tos) (agree m.nw_proto k.nw_proto) (agree_prefix m.nw_src k.nw_src) (agree_prefix m.nw_dst k.nw_dst) (agree m.tp_src k.tp_src) (agree m.tp_dst k.tp_dst) o in
+      (agree m.nw_tos k.nw_tos) (agree m.nw_proto k.nw_proto) (agree_prefix m.nw_src k.nw_src) (agree_prefix m.nw_dst k.nw_dst) (agree m.tp_src k.tp_src) (agree m.tp_dst k.tp_dst) o in
       let s = asking in
       each-intro (agree s.in_port n.in_port) (agree s.dl_src n.dl_src) (agree s.dl_dst n.dl_dst) (agree s.dl_vlan n.dl_vlan) (agree s.dl_vlan_pcp n.dl_vlan_pcp) (agree s.dl_type n.dl_type)
-        (agree s.nw_tos n.nw_tos) (agree s.nw_proto n.nw_proto) (agree_prefix s.nw_src n.nw_src) (agree_prefix s.nw_dst n.nw_dst) (agree s.tp_src n.tp_src) (agree s.tp_dst n.tp_dst)
+      (agree s.nw_tos n.nw_tos) (agree s.nw_proto n.nw_proto) (agree_prefix s.nw_src n.nw_src) (agree_prefix s.nw_dst n.nw_dst) (agree s.tp_src n.tp_src) (agree s.tp_dst n.tp_dst)
       (record {
         at_a = at;
         at_b = image-field agree fits (λ v. v) (λ _. refl) agree-right agree-same true true r.dl_src m.dl_src n.dl_src (inl refl) f.at_b t.at_b;
@@ -120,4 +120,4 @@ pub none-hopped : (size : ℕ) (r : RewriteOf) (a b : Rule) (port : ℕ) → IsN
     overlaps (record (image r a.m) { in_port = Some port }) b.m ≡ false → hop_rule size r a b ≡ None
 none-hopped size r a b port n k at e =
     ap (option_map (hopped size r a b)) (nothing-met r a.m b.m port (normal-guarded a.m n) (normal-guarded b.m k) at e
-      (can_pull r (without_port b.m)) (overlaps a.m (pulled r (without_port b.m))) refl refl)
+    (can_pull r (without_port b.m)) (overlaps a.m (pulled r (without_port b.m))) refl refl)

@@ -52,11 +52,13 @@ module _ (before now new : List (Held Made)) (lost : List ℕ) (fresh : List Mad
 
   -- all that is told of it
   pub ready-change : (origins : List Origin) → lost ≡ map id_of (filter (is_held_of origins) before) → (turn : Turn) → turn ≡ record { gone = change.gone; come = change.come } →
-      (left : List Made) → left ≡ map item_of r.going → IsChange before new origins fresh turn left
-  ready-change origins e turn t left l = record {
+      (left : List Made) → left ≡ map item_of r.going → IsStrictlySortedBy nat_cmp (map id_of new) → IsChange before new origins fresh turn left
+  unfolding ready-turned
+  ready-change origins e turn t left l up = record {
     told = record {
       turned = ready-turned turn t;
       rising = subst (IsStrictlySortedBy nat_cmp) (same-ids before) r.rises;
+      risen = subst (IsStrictlySortedBy nat_cmp) (same-ids new) up;
       left_are = ap (map rule_of) l ∙ sym (rules-are r.going);
       apart = settled-apart before now lost fresh change r (map item_of (rules_in r.going)) (map item_of (rules_in r.coming)) (rules-are r.going) (rules-are r.coming);
     };

@@ -1,6 +1,6 @@
 -- The rules of a node are below its size, normal, and of its port.
-use Rattle.std.proofs.Common.{◌≡◌, ℕ, zero, suc, ◌*◌, ◌<◌, ◌≤◌, Bool, true, false, ◌&&◌, ◌==◌, List, [], ◌∷◌, Option, Some, None, refl, subst, sym, ap, ◌∙◌, arith}
-use Rattle.std.specs.Prelude.{filter_map, IfSome}
+use Rattle.std.proofs.Common.{◌≡◌, ℕ, zero, suc, ◌*◌, Bool, true, false, ◌&&◌, ◌==◌, List, Option, Some, None, refl, subst, ap, arith}
+use Rattle.std.specs.Prelude.{filter_map}
 use Rattle.std.specs.List.{AllByRecursion}
 use Rattle.of10_match.specs.Fields.{MatchOf}
 use Rattle.of10_match.specs.Matching.{agree, at_port, both, either, overlaps}
@@ -8,13 +8,13 @@ use Rattle.of10_match.specs.Normal.{IsNormal}
 use Rattle.of10_match.proofs.NormalMeet.{IsNormal-both}
 use Rattle.pull_back.specs.Pulling.{pulled}
 use Rattle.pull_back.proofs.Normality.{normal-pulled}
-use Rattle.policy_meaning.specs.Hops.{Fabric, at_node, hop_lone, hop_rule, hop_size, hopped, hops_on, leads, node, peers_size, without_port}
+use Rattle.policy_meaning.specs.Hops.{Fabric, at_node, hop_rule, hop_size, hopped, hops_on, leads, node, peers_size, without_port}
 use Rattle.policy_meaning.specs.LeafRules.{rule_met}
 use Rattle.policy_meaning.specs.declared.network.Onward.{Onward}
 use Rattle.policy_meaning.specs.declared.rule.Rule.{Rule}
 use Rattle.policy_meaning.proofs.Cells.{narrowed}
 use Rattle.policy_meaning.proofs.Chains.{high}
-use Rattle.policy_meaning.proofs.Lists.{all-filter_map, all-flat_map, all-map}
+use Rattle.policy_meaning.proofs.Lists.{all-filter_map, all-flat_map}
 use Rattle.policy_meaning.proofs.Meeting.{some_met, some_pulled}
 use Rattle.policy_meaning.proofs.Normality.{normal-at_port, normal-everything, normal-without_port}
 use Rattle.policy_meaning.proofs.Peers.{leading, peer-size, positive}
@@ -64,11 +64,11 @@ module _ (f : Fabric) (own : (v : ℕ) → AllByRecursion (IsOwn (f.sizes v)) (f
         let there = node f n on.place.v on.place.port in
         all-filter_map (IsAt (hop_size f n on.place.v) on.place.port) (IsAt (size * over) port) (hop_rule over on.rewrite (at_node v port a)) there
         (λ b y u ib. let s = some_pulled (hopped over on.rewrite (at_node v port a) b) a.m (without_port b.m) on.rewrite y u in
-          subst (IsAt (size * over) port) s.2 (record {
-            below = let lb = ib.below in high a.level size over b.level i.below (omega arith);
-            normal = IsNormal-both a.m (pulled on.rewrite (without_port b.m)) s.1 i.normal (normal-pulled on.rewrite (without_port b.m) (normal-without_port b.m ib.normal));
-            arrives = either-open a.m.in_port port i.arrives;
-          }))
+        subst (IsAt (size * over) port) s.2 (record {
+          below = let lb = ib.below in high a.level size over b.level i.below (omega arith);
+          normal = IsNormal-both a.m (pulled on.rewrite (without_port b.m)) s.1 i.normal (normal-pulled on.rewrite (without_port b.m) (normal-without_port b.m ib.normal));
+          arrives = either-open a.m.in_port port i.arrives;
+        }))
         (before on.place.v on.place.port)
 
   pub node-fits : (n v port : ℕ) → AllByRecursion (IsAt (hop_size f n v) port) (node f n v port)

@@ -1,5 +1,5 @@
 -- What a node holds, as the nodes above see it.
-use Rattle.std.proofs.Common.{◌≡◌, ℕ, ◌==◌, Bool, true, false, List, [], ◌∷◌, Option, Some, None, refl, ap, ◌∙◌, map}
+use Rattle.std.proofs.Common.{◌≡◌, ℕ, ◌==◌, Bool, true, false, List, [], ◌∷◌, Option, Some, refl, ap, map}
 use Rattle.std.specs.Prelude.{option_map, if◌then◌else◌}
 use Rattle.rule_ancestry.specs.Holding.{Held, id_of, item_at}
 use Rattle.made_rules.specs.Rules.{rule_of, rules_in}

@@ -1,7 +1,7 @@
 -- What loops over the rules of a node make of a rule that stands at the node of a port.
-use Rattle.std.proofs.Common.{◌≡◌, ℕ, zero, suc, ◌+◌, ◌*◌, ◌<◌, ◌≤◌, ◌^◌, ◌==◌, ◌&&◌, ◌||◌, Bool, true, false, List, [], ◌∷◌, ◌++◌, Option, Some, None, length, refl, sym, ap, subst, ◌∙◌, map, cond, arith}
+use Rattle.std.proofs.Common.{◌≡◌, ℕ, zero, suc, ◌+◌, ◌*◌, ◌<◌, ◌≤◌, ◌^◌, ◌==◌, ◌&&◌, ◌||◌, Bool, true, false, List, [], ◌∷◌, ◌++◌, Option, Some, None, refl, sym, ap, subst, ◌∙◌, map, cond, arith, length, get_or}
 use Rattle.std.specs.Prelude.{IfSome, IsPermutation, count_by, filter, filter_map, option_map, option_to_list, slice_get}
-use Rattle.std.specs.List.{AllByRecursion}
+use Rattle.std.specs.List.{AllByRecursion, cons_option}
 use Rattle.std.specs.Option.{option_map_or}
 use Rattle.std.proofs.lemmas.List.{append-nil}
 use Rattle.std.proofs.lemmas.List.Sums.{sum_by-append, sum_by-cons}
@@ -19,7 +19,7 @@ use Rattle.rule_ancestry.specs.Holding.{Held, id_of, item_at}
 use Rattle.rule_ancestry.proofs.Lists.{found-all}
 use Rattle.made_rules.specs.Rules.{rules_in}
 use Rattle.made_rules.specs.declared.made.Made.{Made}
-use Rattle.hop_rules.specs.Nodes.{Arrival, AreArriving, IsAt, IsOwn, NodeOf, arrival, arrivals, arrive, arriving, could, could_by, held_at, leads_there, made_of_pair, pair_with}
+use Rattle.hop_rules.specs.Nodes.{Arrival, AreArriving, IsAt, IsOwn, NodeOf, arrival, arrivals, arrive, arriving, could, could_by, held_at, leads_there, made_of_pair, pair_by, pair_with}
 use Rattle.hop_rules.specs.Standing.{asked, leaving, standing}
 use Rattle.hop_rules.specs.Under.{Rises, held_under, under}
 use Rattle.hop_rules.specs.declared.exits.Exit.{Exit}
@@ -29,7 +29,7 @@ use Rattle.hop_rules.proofs.Making.{all-unmet, pushed-pair}
 use Rattle.hop_rules.proofs.Names.{is-same, itself, leaving-there}
 use Rattle.hop_rules.proofs.Numbered.{one-kept}
 use Rattle.hop_rules.proofs.Under.{held-none, held-some}
-use Rattle.hop_rules.proofs.Walking.{candidates-count, walked}
+use Rattle.hop_rules.proofs.Walking.{walked}
 
 -- ---- levels fit
 pub pair-level : (own size : ℕ) (a b : Rule) → IsOwn own a → b.level < size → own * size < 2 ^ 64 → concat_level a.level b.level size < 2 ^ 64
@@ -45,9 +45,9 @@ pair-pushed exits port dep size id a held bid b old new e there now =
     let h : Held Rule = record { id = bid; item = b } in
     now
     ∙ ap (λ z. old ++ z)
-      (ap option_to_list (pushed-pair exits port dep size id dep.exit.place a h e (itself dep.exit.place))
-      ∙ sym (one-kept (pair_with size id a dep h))
-      ∙ ap (filter_map (pair_with size id a dep)) (sym (held-some held bid b there)))
+    (ap option_to_list (pushed-pair exits port dep size id dep.exit.place a h e (itself dep.exit.place))
+    ∙ sym (one-kept (pair_with size id a dep h))
+    ∙ ap (filter_map (pair_with size id a dep)) (sym (held-some held bid b there)))
 
 -- where nothing is held under an id nothing is made
 pub nothing-pushed : {R C : Type 0} (f : Held R → Option C) (held : List (Held R)) (id : ℕ) (old : List C) → item_at held id ≡ None → old ≡ old ++ filter_map f (held_under held id)
@@ -64,11 +64,31 @@ pairs-walked size own id a dep held ids old new n at up p e =
     (IsPermutation-append_right old _ _
     (walked (pair_with size id a dep) (λ (h : Held Rule). overlaps (asked a.m dep) h.item.m) held held ids (found-all held up) p (all-unmet size id a dep n own dep.exit.place held at)))
 
+over-mapped : (f : Arrival → Option Made) (place : ℕ) (rs : List (Held Rule)) → filter_map f (map (arrival place) rs) ≡ filter_map (λ h. f (arrival place h)) rs
+over-mapped f place [] = refl
+over-mapped f place (h ∷ rs) = ap (cons_option (f (arrival place h))) (over-mapped f place rs)
+
+-- those to which a link leads, as rules of the node there
+pub over-pairs : (size id : ℕ) (a : Rule) (dep : Departure) (below : List NodeOf) →
+    filter_map (λ y. pair_by size id a y (Some dep)) (arrive dep.exit.place (held_at below dep.exit.place)) ≡ filter_map (pair_with size id a dep) (rules_in (held_at below dep.exit.place))
+over-pairs size id a dep below = over-mapped (λ y. pair_by size id a y (Some dep)) dep.exit.place (rules_in (held_at below dep.exit.place))
+
 -- ---- the node where a link leads
 pub all-got : (P : NodeOf → Type 0) (below : List NodeOf) (place : ℕ) (n : NodeOf) → AllByRecursion P below → slice_get below place ≡ Some n → P n
 all-got P [] place n a e = absurd (cc)
 all-got P (m ∷ below) zero n a e = let s : m ≡ n = cc in subst P s a.0
 all-got P (m ∷ below) (suc place) n a e = all-got P below place n a.1 e
+
+-- the node at a place
+pub got-some : (below : List NodeOf) (place : ℕ) (n : NodeOf) → place < length below → n ≡ get_or below place n → slice_get below place ≡ Some n
+got-some [] place n lt e = absurd (omega arith)
+got-some (m ∷ below) zero n lt e = ap Some (sym e)
+got-some (m ∷ below) (suc place) n lt e = got-some below place n (omega arith) e
+
+pub got-past : (below : List NodeOf) (place : ℕ) → length below ≤ place → slice_get below place ≡ None
+got-past [] place le = refl
+got-past (m ∷ below) zero le = absurd (omega arith)
+got-past (m ∷ below) (suc place) le = got-past below place (omega arith)
 
 pub got-held : (below : List NodeOf) (place : ℕ) (n : NodeOf) → slice_get below place ≡ Some n → held_at below place ≡ n.held
 got-held below place n e = ap (λ o. option_map_or (λ (n : NodeOf). n.held) o []) e
@@ -101,19 +121,18 @@ module _ (a : Rule) (dep : Departure) where
   here-count : (rs : List (Held Rule)) → count_by (λ y. could_by a y (Some dep)) (map (arrival dep.exit.place) rs) ≡ count_by (λ (b : Held Rule). overlaps (asked a.m dep) b.item.m) rs
   here-count [] = refl
   here-count (b ∷ rs) =
-      let l = sum_by-cons (λ (y : Arrival). cond (could_by a y (Some dep)) 1 0) (arrival dep.exit.place b) (map (arrival dep.exit.place) rs) in
-      let r = sum_by-cons (λ (b : Held Rule). cond (overlaps (asked a.m dep) b.item.m) 1 0) b rs in
-      let s = ap (λ t. cond (t && overlaps (asked a.m dep) b.item.m) 1 0) (itself dep.exit.place) in
-      let i = here-count rs in
-      omega arith
+      sum_by-cons (λ (y : Arrival). cond {A = ℕ} (could_by a y (Some dep)) 1 0) (arrival dep.exit.place b) (map (arrival dep.exit.place) rs)
+      ∙ ap (λ t. cond {A = ℕ} (t && overlaps (asked a.m dep) b.item.m) 1 0 + count_by (λ y. could_by a y (Some dep)) (map (arrival dep.exit.place) rs)) (itself dep.exit.place)
+      ∙ ap (λ n. cond {A = ℕ} (overlaps (asked a.m dep) b.item.m) 1 0 + n) (here-count rs)
+      ∙ sym (sum_by-cons (λ (b : Held Rule). cond {A = ℕ} (overlaps (asked a.m dep) b.item.m) 1 0) b rs)
 
   pub could-count : (at : Place) (exits : List Exit) (below : List NodeOf) (h : Held Rule) → standing at h.item ≡ Some a → leaving exits at.port a.tail ≡ Some dep →
       count_by (λ (b : Held Rule). overlaps (asked a.m dep) b.item.m) (rules_in (held_at below dep.exit.place)) ≤ count_by (could at exits h) (arrivals below exits)
   could-count at exits below h e l =
       let there : leads_there dep.exit.place exits ≡ true = subst (λ o. IfSome o (λ (d : Departure). leads_there d.exit.place exits ≡ true)) l (leaving-there exits at.port a.tail) in
       let s : count_by (could at exits h) (arrivals below exits) ≡ count_by (λ y. could_by a y (Some dep)) (arrivals below exits) =
-        ap (λ o. count_by (λ y. option_map_or (λ (x : Rule). could_by x y (leaving exits at.port x.tail)) o false) (arrivals below exits)) e
-        ∙ ap (λ o. count_by (λ y. could_by a y o) (arrivals below exits)) l in
+      ap (λ o. count_by (λ y. option_map_or (λ (x : Rule). could_by x y (leaving exits at.port x.tail)) o false) (arrivals below exits)) e
+      ∙ ap (λ o. count_by (λ y. could_by a y o) (arrivals below exits)) l in
       let k = here-count (rules_in (held_at below dep.exit.place)) in
       let t = there-count below (λ y. could_by a y (Some dep)) dep.exit.place exits there in
       omega arith

@@ -23,3 +23,5 @@ pub mod Reached
 pub mod Came
 pub mod Settled
 pub mod Changing
+pub mod Noted
+pub mod Stage

@@ -1,10 +1,9 @@
 -- Lists that are made of lists, up to their order.
-use Rattle.std.proofs.Common.{◌≡◌, Bool, true, false, List, [], ◌∷◌, ◌++◌, Option, Some, None, refl, subst, sym, ap, ◌∙◌, map, cond, append_assoc}
+use Rattle.std.proofs.Common.{◌≡◌, Bool, true, false, List, [], ◌∷◌, ◌++◌, Option, Some, None, refl, sym, ap, ◌∙◌, map, cond, append_assoc}
 use Rattle.std.specs.Prelude.{filter, filter_map, flat_map, IsPermutation}
 use Rattle.std.specs.List.{cons_option}
 use Rattle.std.proofs.lemmas.List.Sorted.{IsPermutation-refl, IsPermutation-sym, IsPermutation-trans, IsPermutation-append, IsPermutation-append_comm, IsPermutation-append_right}
 use Rattle.list_change.specs.Pairing.{Way, by_left, by_right, made, pairs}
-use Rattle.list_change.proofs.Flat.{none-of}
 use Rattle.list_change.proofs.PairLemmas.{left-split, pairs-right_append, pairs-right_permuted, right-split}
 use Rattle.list_change.proofs.Permute.{by-equation, permuted-filter_map}
 

@@ -1,12 +1,10 @@
 -- What a rule makes at a node, as it is joined.
-use Rattle.std.proofs.Common.{◌≡◌, ℕ, ◌*◌, ◌<◌, ◌^◌, ◌==◌, ◌&&◌, Bool, true, false, List, [], ◌∷◌, ◌++◌, Option, Some, None, refl, sym, ap, subst, ◌∙◌, map, cond, append-nil}
-use Rattle.std.specs.Prelude.{IsPermutation, IfSome, filter, filter_map, flat_map, option_map, option_to_list, if◌then◌else◌}
+use Rattle.std.proofs.Common.{◌≡◌, ℕ, ◌==◌, Bool, true, false, List, [], ◌∷◌, ◌++◌, Option, Some, None, refl, sym, ap, subst, ◌∙◌, map, append-nil}
+use Rattle.std.specs.Prelude.{IfSome, filter, filter_map, option_map, if◌then◌else◌}
 use Rattle.std.specs.List.{AllByRecursion, cons_option}
-use Rattle.std.specs.Option.{option_and_then, option_map_or}
-use Rattle.std.proofs.lemmas.List.Sorted.{IsPermutation-refl, IsPermutation-sym, IsPermutation-trans, IsPermutation-append_right}
+use Rattle.std.specs.Option.{option_and_then}
 use Rattle.list_change.specs.Pairing.{by_one}
-use Rattle.list_change.proofs.Permute.{by-equation}
-use Rattle.of10_match.specs.Matching.{agree, at_port, both, overlaps}
+use Rattle.of10_match.specs.Matching.{at_port, both, overlaps}
 use Rattle.of10_match.specs.Normal.{IsNormal}
 use Rattle.of10_match.proofs.NormalMeet.{IsNormal-both}
 use Rattle.of10_actions.specs.Fields.{RewriteOf}
@@ -21,8 +19,7 @@ use Rattle.policy_meaning.specs.declared.rule.Rule.{Rule}
 use Rattle.policy_meaning.proofs.Cells.{narrowed}
 use Rattle.policy_meaning.proofs.Meeting.{some_met}
 use Rattle.policy_meaning.proofs.Normality.{normal-at_port}
-use Rattle.rule_ancestry.specs.Holding.{Held, id_of, item_at}
-use Rattle.made_rules.specs.Rules.{rules_in}
+use Rattle.rule_ancestry.specs.Holding.{Held}
 use Rattle.made_rules.specs.declared.made.Made.{Made}
 use Rattle.hop_rules.specs.Nodes.{Arrival, IsAt, IsOwn, NodeOf, Once, arrivals, arrive, held_at, hop_way, leads_there, lone_by, made_alone, made_of_pair, pair_by}
 use Rattle.hop_rules.specs.Standing.{asked, departing, exit_of, leaving, over, standing}
@@ -30,7 +27,7 @@ use Rattle.hop_rules.specs.declared.exits.Exit.{Exit}
 use Rattle.hop_rules.specs.declared.standing.Departure.{Departure}
 use Rattle.hop_rules.proofs.Arriving.{one-arrival}
 use Rattle.hop_rules.proofs.Candidates.{none-hopped}
-use Rattle.hop_rules.proofs.Names.{itself, leaving-there}
+use Rattle.hop_rules.proofs.Names.{leaving-there}
 
 -- ---- a rule that leads over a link
 rewrite-of : (r : RewriteOf) (dep : Departure) (t : Bool) (o : Option Exit) → (if t then None else option_map (departing r) o) ≡ Some dep → r ≡ dep.rewrite

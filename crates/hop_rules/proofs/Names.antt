@@ -1,6 +1,6 @@
 -- What goes by the names of what it is made of.
 use Rattle.std.proofs.Common.{◌≡◌, ℕ, Bool, true, false, ◌==◌, ◌||◌, ◌&&◌, not, List, [], ◌∷◌, ◌++◌, Option, Some, None, refl, subst, sym, ap, ◌∙◌, map, cond, inl, inr}
-use Rattle.std.specs.Prelude.{filter, flat_map, option_map, if◌then◌else◌, IfSome}
+use Rattle.std.specs.Prelude.{filter, option_map, if◌then◌else◌, IfSome}
 use Rattle.of10_actions.specs.Fields.{RewriteOf}
 use Rattle.of10_actions.specs.declared.effects.Tail.{Tail}
 use Rattle.of10_actions.specs.declared.effects.Tail.TheVariants.{Nothing, Pass, Link}
@@ -205,14 +205,14 @@ module _ (at : Place) (size : ℕ) (exits : List Exit) where
       let w = hop_way at size exits in
       neither (map own gone) (lost_there turns exits) (made w rules ys)
       ∙ ap (filter (without-there turns exits))
-        (made-without_left w (without-own gone) (is_outside gone)
-          (λ h c e. alone-by size h c (λ m. without-own gone m ≡ is_outside gone h) (λ r. ap not (or-none _ ∙ own-lost h.id gone)) exits at.port (standing at h.item) e)
-          (λ h y c e. pair-of size h c exits y (λ m. without-own gone m ≡ is_outside gone h)
-            (λ i r. ap not (ap (λ z. is_one_of (map own gone) (own h.id) || z) (ap (λ z. z || false) (arrived-own y.place y.held.id gone)) ∙ or-none _ ∙ own-lost h.id gone)) at.port (standing at h.item) e)
-          (λ y c e. absurd (cc)) rules ys)
+      (made-without_left w (without-own gone) (is_outside gone)
+      (λ h c e. alone-by size h c (λ m. without-own gone m ≡ is_outside gone h) (λ r. ap not (or-none _ ∙ own-lost h.id gone)) exits at.port (standing at h.item) e)
+      (λ h y c e. pair-of size h c exits y (λ m. without-own gone m ≡ is_outside gone h)
+      (λ i r. ap not (ap (λ z. is_one_of (map own gone) (own h.id) || z) (ap (λ z. z || false) (arrived-own y.place y.held.id gone)) ∙ or-none _ ∙ own-lost h.id gone)) at.port (standing at h.item) e)
+      (λ y c e. absurd (cc)) rules ys)
       ∙ made-without_right w (without-there turns exits) (stays-there turns)
-          (λ h c e. alone-by size h c (λ m. without-there turns exits m ≡ true) (λ r. ap not (or-none _ ∙ own-elsewhere turns h.id exits)) exits at.port (standing at h.item) e)
-          (λ h y c e. pair-of size h c exits y (λ m. without-there turns exits m ≡ stays-there turns y)
-            (λ i r. ap not (ap (λ z. z || (is_one_of (lost_there turns exits) (arrived y.place y.held.id) || false)) (own-elsewhere turns h.id exits)
-              ∙ or-none _ ∙ lost-there turns y.place y.held.id exits ∙ ap (λ z. z && list_any (λ x. y.held.id == x) (gone_at turns y.place)) i)) at.port (standing at h.item) e)
-          (λ y c e. absurd (cc)) (filter (is_outside gone) rules) ys
+      (λ h c e. alone-by size h c (λ m. without-there turns exits m ≡ true) (λ r. ap not (or-none _ ∙ own-elsewhere turns h.id exits)) exits at.port (standing at h.item) e)
+      (λ h y c e. pair-of size h c exits y (λ m. without-there turns exits m ≡ stays-there turns y)
+      (λ i r. ap not (ap (λ z. z || (is_one_of (lost_there turns exits) (arrived y.place y.held.id) || false)) (own-elsewhere turns h.id exits)
+      ∙ or-none _ ∙ lost-there turns y.place y.held.id exits ∙ ap (λ z. z && list_any (λ x. y.held.id == x) (gone_at turns y.place)) i)) at.port (standing at h.item) e)
+      (λ y c e. absurd (cc)) (filter (is_outside gone) rules) ys

@@ -1,11 +1,10 @@
 -- What rules of a virtual switch make with those that come to the nodes to which its links lead.
-use Rattle.std.proofs.Common.{◌≡◌, ℕ, zero, suc, ◌+◌, ◌*◌, ◌<◌, ◌≤◌, ◌^◌, ◌==◌, ◌&&◌, ◌||◌, Bool, true, false, List, [], ◌∷◌, ◌++◌, Option, Some, None, refl, sym, ap, subst, ◌∙◌, map, cond, arith}
-use Rattle.std.specs.Prelude.{IfSome, IsPermutation, count_by, filter, filter_map, option_map, option_to_list, if◌then◌else◌}
+use Rattle.std.proofs.Common.{◌≡◌, ℕ, ◌+◌, ◌<◌, ◌≤◌, ◌==◌, ◌&&◌, ◌||◌, Bool, true, false, List, [], ◌∷◌, ◌++◌, Option, Some, None, refl, sym, ap, subst, ◌∙◌, map, cond, arith}
+use Rattle.std.specs.Prelude.{IfSome, IsPermutation, count_by, filter, filter_map, option_map, if◌then◌else◌}
 use Rattle.std.specs.List.{AllByRecursion}
 use Rattle.std.specs.Option.{option_and_then, option_map_or}
-use Rattle.std.proofs.lemmas.List.{append-nil}
 use Rattle.std.proofs.lemmas.List.Sums.{sum_by-cons}
-use Rattle.std.proofs.lemmas.List.Sorted.{IsPermutation-append_right, IsPermutation-sym, IsPermutation-trans, sum_by-IsPermutation}
+use Rattle.std.proofs.lemmas.List.Sorted.{IsPermutation-append_right, IsPermutation-trans, sum_by-IsPermutation}
 use Rattle.list_change.proofs.Permute.{by-equation}
 use Rattle.of10_match.specs.Fields.{MatchOf}
 use Rattle.of10_match.specs.Matching.{at_port, both, either, longer, overlaps}
@@ -25,12 +24,12 @@ use Rattle.policy_meaning.proofs.Meeting.{some_met}
 use Rattle.match_index.specs.Items.{ids_of}
 use Rattle.match_index.specs.Questions.{is_meeting}
 use Rattle.match_index.specs.declared.item.Item.{Item}
-use Rattle.rule_ancestry.specs.Holding.{Held, id_of, item_at}
+use Rattle.rule_ancestry.specs.Holding.{Held, id_of}
 use Rattle.made_rules.specs.Rules.{rules_in}
 use Rattle.made_rules.specs.declared.made.Made.{Made}
 use Rattle.hop_rules.specs.Handed.{asks_by, listed}
-use Rattle.hop_rules.specs.Nodes.{Arrival, AreArriving, CanMeet, IsAt, IsOwn, IsSetUp, NodeOf, arrival, could, could_by, held_at, hop_way, leads_over, leads_there, leads_to, made_of_pair, pair_by}
-use Rattle.hop_rules.specs.Standing.{asked, departing, exit_of, leads_back, leaving, over, standing}
+use Rattle.hop_rules.specs.Nodes.{Arrival, AreArriving, CanMeet, IsAt, IsOwn, NodeOf, arrival, could, could_by, held_at, hop_way, leads_over, leads_there, leads_to, made_of_pair, pair_by}
+use Rattle.hop_rules.specs.Standing.{asked, leads_back, leaving, over, standing}
 use Rattle.hop_rules.specs.Under.{AreFound, under}
 use Rattle.hop_rules.specs.declared.exits.Exit.{Exit}
 use Rattle.hop_rules.specs.declared.standing.Departure.{Departure}
@@ -224,7 +223,7 @@ module _ (at : Place) (size : ℕ) (exits : List Exit) (place : ℕ) (b : Held R
       let m = none (leads_over at exits place h) (f refl) in
       omega arith
     where
-      none : (t : Bool) → (t ≡ true → false ≡ true) → cond t 1 0 ≡ 0
+      none : (t : Bool) → (t ≡ true → false ≡ true) → cond {A = ℕ} t 1 0 ≡ 0
       none true g = absurd (let z : false ≡ true = g refl in cc)
       none false g = refl
 

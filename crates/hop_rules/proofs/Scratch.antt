@@ -1,12 +1,11 @@
 -- What a node makes is its rules from scratch.
-use Rattle.std.proofs.Common.{◌≡◌, ℕ, suc, Bool, true, false, ◌==◌, ◌||◌, List, [], ◌∷◌, ◌++◌, Option, Some, None, refl, subst, sym, ap, ◌∙◌, map}
+use Rattle.std.proofs.Common.{◌≡◌, ℕ, suc, Bool, true, false, ◌==◌, List, [], ◌∷◌, ◌++◌, Option, Some, None, refl, sym, ap, ◌∙◌, map}
 use Rattle.std.specs.Prelude.{filter_map, flat_map, option_map, if◌then◌else◌, IfSome, IsPermutation}
 use Rattle.std.specs.List.{AllByRecursion, cons_option}
-use Rattle.std.specs.Option.{option_and_then, option_map_or}
+use Rattle.std.specs.Option.{option_and_then}
 use Rattle.std.proofs.lemmas.List.{append-nil, map-append}
-use Rattle.std.proofs.lemmas.List.Elements.{filter_map-append}
-use Rattle.std.proofs.lemmas.List.Sorted.{IsPermutation-refl, IsPermutation-sym, IsPermutation-trans, IsPermutation-append, IsPermutation-map}
-use Rattle.list_change.specs.Pairing.{by_left, by_one, made, pairs}
+use Rattle.std.proofs.lemmas.List.Sorted.{IsPermutation-trans, IsPermutation-map}
+use Rattle.list_change.specs.Pairing.{by_left, by_one, made}
 use Rattle.list_change.proofs.Flat.{each-made}
 use Rattle.list_change.proofs.Permute.{by-equation, permuted-filter_map, permuted-flat_map}
 use Rattle.of10_match.specs.Matching.{at_port}
@@ -14,7 +13,7 @@ use Rattle.of10_actions.specs.Fields.{RewriteOf}
 use Rattle.of10_actions.specs.declared.effects.Tail.{Tail}
 use Rattle.of10_actions.specs.declared.effects.Tail.TheVariants.{Nothing, Pass, Link}
 use Rattle.rule_ancestry.specs.Holding.{Held, item_of}
-use Rattle.policy_meaning.specs.Hops.{Fabric, at_node, hop_lone, hop_rule, hop_size, hops_on, leads, node, peer_of, peers_size}
+use Rattle.policy_meaning.specs.Hops.{Fabric, at_node, hop_rule, hop_size, hops_on, leads, node, peer_of, peers_size}
 use Rattle.policy_meaning.specs.LeafRules.{rule_met}
 use Rattle.policy_meaning.specs.declared.network.Link.{Link as LinkOf}
 use Rattle.policy_meaning.specs.declared.network.Onward.{Onward}
@@ -22,12 +21,12 @@ use Rattle.policy_meaning.specs.declared.network.Place.{Place}
 use Rattle.policy_meaning.specs.declared.rule.Rule.{Rule}
 use Rattle.made_rules.specs.Rules.{rule_of, rules_in}
 use Rattle.made_rules.specs.declared.made.Made.{Made}
-use Rattle.hop_rules.specs.Nodes.{Arrival, IsMadeOf, IsOf, NodeOf, Once, arrivals, arriving, held_at, hop_way, leads_there, lone_by, made_of_pair, pair_by}
+use Rattle.hop_rules.specs.Nodes.{Arrival, IsMadeOf, IsOf, NodeOf, Once, arrivals, held_at, hop_way, leads_there, lone_by, pair_by}
 use Rattle.hop_rules.proofs.Arriving.{here, leaving-all, one-arrival}
 use Rattle.hop_rules.proofs.Names.{itself, leaving-there}
 use Rattle.hop_rules.proofs.Lists.{flat-permuted}
 use Rattle.hop_rules.specs.Links.{exit_link}
-use Rattle.hop_rules.specs.Standing.{departing, exit_of, leads_back, leaving, over, standing}
+use Rattle.hop_rules.specs.Standing.{departing, exit_of, leaving, standing}
 use Rattle.hop_rules.specs.declared.exits.Exit.{Exit}
 use Rattle.hop_rules.specs.declared.standing.Departure.{Departure}
 
@@ -139,7 +138,7 @@ module _ (at : Place) (size : ℕ) (exits : List Exit) (below : List NodeOf) (th
       let F = λ (a : Rule). hops_on (leads a.tail (map exit_link exits) at.port) there size (at_node at.v at.port a) in
       let G = λ (a : Rule). rule_met a (at_port at.port) in
       IsPermutation-trans _ (map rule_of (by_left w rules ys)) _
-        (by-equation _ _ (ap (λ z. map rule_of (by_left w rules ys ++ z)) (nothing-stands ys) ∙ ap (map rule_of) (append-nil (by_left w rules ys))))
+      (by-equation _ _ (ap (λ z. map rule_of (by_left w rules ys ++ z)) (nothing-stands ys) ∙ ap (map rule_of) (append-nil (by_left w rules ys))))
       (IsPermutation-trans _ (map rule_of (flat_map (by_one w ys) rules)) _ (IsPermutation-map rule_of _ _ (each-made w ys rules))
       (IsPermutation-trans _ (flat_map (λ (h : Held Rule). map rule_of (by_one w ys h)) rules) _ (by-equation _ _ (map-flat rule_of (by_one w ys) rules))
       (IsPermutation-trans _ (flat_map (λ (h : Held Rule). opt_flat F (G h.item)) rules) _ (flat-permuted (λ (h : Held Rule). map rule_of (by_one w ys h)) (λ (h : Held Rule). opt_flat F (G h.item)) (λ h. stood-made h.id (G h.item)) rules)

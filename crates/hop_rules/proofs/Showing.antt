@@ -1,10 +1,10 @@
 -- Rules that are shown one after the other, where all others are.
-use Rattle.std.proofs.Common.{◌≡◌, ℕ, ◌+◌, ◌<◌, ◌≤◌, false, List, [], ◌∷◌, ◌++◌, Option, Some, length, take, get_or, map, sym, ap, subst, ◌∙◌, arith, append-nil}
+use Rattle.std.proofs.Common.{◌≡◌, ℕ, ◌+◌, ◌<◌, ◌≤◌, false, List, ◌++◌, Option, Some, length, take, get_or, map, sym, ap, subst, ◌∙◌, arith, append-nil}
 use Rattle.std.specs.Prelude.{IsPermutation, filter_map, option_to_list}
 use Rattle.std.specs.List.{list_any}
 use Rattle.std.proofs.lemmas.List.{take_all, length-map}
 use Rattle.std.proofs.lemmas.List.Sorted.{IsPermutation-sym, IsPermutation-trans, IsPermutation-append_comm}
-use Rattle.list_change.proofs.Permute.{by-equation, permuted-filter_map}
+use Rattle.list_change.proofs.Permute.{permuted-filter_map}
 use Rattle.match_index.specs.Items.{has_id}
 use Rattle.match_index.specs.declared.item.Item.{Item}
 use Rattle.policy_meaning.specs.declared.rule.Rule.{Rule}
@@ -37,7 +37,7 @@ module _ (shown : Held Rule → Option Item) (numbered : IsNumbered shown) (rule
       let n = nth coming i (within i lt) in
       let there = item-there rules _ n.item up (next-first rules coming kept i n.item p n.whole) in
       next-shown shown numbered coming kept i n.item n.more items new s
-        (g ∙ ap (λ z. items ++ option_to_list z) (f n.item (id-at coming ids i d (within i lt) e) there))
+      (g ∙ ap (λ z. items ++ option_to_list z) (f n.item (id-at coming ids i d (within i lt) e) there))
 
   pub all-shown : (i : ℕ) (items : List Item) → length ids ≤ i → AsFar i items → IsPermutation items (filter_map shown rules)
   all-shown i items le s =

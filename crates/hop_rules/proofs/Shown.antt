@@ -1,13 +1,13 @@
 -- What an index holds, once rules are hidden or shown.
-use Rattle.std.proofs.Common.{◌≡◌, ℕ, ◌+◌, ◌<◌, ◌==◌, ◌||◌, Bool, true, false, not, cond, List, [], ◌∷◌, ◌++◌, Option, Some, None, length, take, drop, get_or, map, refl, sym, ap, subst, ◌∙◌, append_assoc, arith, inl, inr}
-use Rattle.std.specs.Prelude.{IsPermutation, filter, filter_map, find, nat_lt, option_map, option_to_list}
+use Rattle.std.proofs.Common.{◌≡◌, ℕ, ◌+◌, ◌==◌, ◌||◌, Bool, true, false, not, cond, List, [], ◌∷◌, ◌++◌, Option, Some, None, take, drop, map, refl, sym, ap, subst, ◌∙◌, append_assoc, inl, inr}
+use Rattle.std.specs.Prelude.{IsPermutation, filter, filter_map, find, nat_lt, option_to_list}
 use Rattle.std.specs.List.{AllByRecursion, IsDistinct, cons_option, list_any}
 use Rattle.std.proofs.lemmas.List.{map-append}
 use Rattle.std.proofs.lemmas.List.Elements.{filter_map-append}
-use Rattle.std.proofs.lemmas.List.Sorted.{IsPermutation-refl, IsPermutation-sym, IsPermutation-trans, IsPermutation-map, IsPermutation-middle, IsPermutation-cons, IsPermutation-append_left, IsPermutation-append_comm}
+use Rattle.std.proofs.lemmas.List.Sorted.{IsPermutation-sym, IsPermutation-trans, IsPermutation-map, IsPermutation-middle, IsPermutation-cons, IsPermutation-append_left, IsPermutation-append_comm}
 use Rattle.std.proofs.lemmas.Map.Keys.{IsDistinct-IsPermutation, IsDistinct-head}
 use Rattle.list_change.proofs.Kept.{filter-right_one, permuted-filter}
-use Rattle.list_change.proofs.Permute.{by-equation, permuted-filter_map}
+use Rattle.list_change.proofs.Permute.{by-equation}
 use Rattle.match_index.proofs.Counts.{any_count, count-permuted}
 use Rattle.match_index.specs.Items.{has_id}
 use Rattle.match_index.specs.declared.item.Item.{Item}
@@ -16,7 +16,7 @@ use Rattle.rule_ancestry.specs.Holding.{Held, id_of, is_other}
 use Rattle.made_rules.proofs.Ids.{Rising, one-each}
 use Rattle.rule_ancestry.proofs.StoreLemmas.{eq-same, eq-other}
 use Rattle.std.proofs.lemmas.Bool.{cases_eq}
-use Rattle.hop_rules.specs.Items.{IsNumbered, item_for}
+use Rattle.hop_rules.specs.Items.{IsNumbered}
 use Rattle.hop_rules.proofs.Names.{is-same}
 use Rattle.hop_rules.proofs.Numbered.{one-kept}
 
@@ -106,7 +106,7 @@ module _ (shown : Held Rule → Option Item) (numbered : IsNumbered shown) where
       let apart = IsDistinct-head ◌==◌ h.id (map id_of rest) (one-each rules (h ∷ rest) up all) in
       any-permuted (has_id h.id) items _ s
       ∙ none-shown shown numbered h.id (kept ++ take i coming)
-        (all-second (λ j. (h.id == j) ≡ false) (map id_of (drop (i + 1) coming)) (map id_of (kept ++ take i coming)) (subst (AllByRecursion (λ j. (h.id == j) ≡ false)) (map-append id_of (drop (i + 1) coming) (kept ++ take i coming)) apart))
+      (all-second (λ j. (h.id == j) ≡ false) (map id_of (drop (i + 1) coming)) (map id_of (kept ++ take i coming)) (subst (AllByRecursion (λ j. (h.id == j) ≡ false)) (map-append id_of (drop (i + 1) coming) (kept ++ take i coming)) apart))
 
   -- and then it is
   pub next-shown : (coming kept : List (Held Rule)) (i : ℕ) (h : Held Rule) → take (i + 1) coming ≡ take i coming ++ h ∷ [] →

@@ -1,14 +1,14 @@
 -- What a node makes, once those changed of which it makes its rules.
-use Rattle.std.proofs.Common.{◌≡◌, ℕ, Bool, true, false, not, List, [], ◌∷◌, ◌++◌, Option, refl, subst, sym, ap, ◌∙◌, map}
-use Rattle.std.specs.Prelude.{filter, flat_map, IsPermutation}
+use Rattle.std.proofs.Common.{◌≡◌, ℕ, not, List, [], ◌∷◌, ◌++◌, refl, subst, sym, ap, ◌∙◌, map}
+use Rattle.std.specs.Prelude.{filter, IsPermutation}
 use Rattle.std.specs.List.{AllByRecursion}
 use Rattle.std.proofs.lemmas.List.{append-nil, map-append}
 use Rattle.std.proofs.lemmas.List.Elements.{filter-append}
-use Rattle.std.proofs.lemmas.List.Sorted.{IsPermutation-refl, IsPermutation-sym, IsPermutation-trans, IsPermutation-append, IsPermutation-append_comm, IsPermutation-append_left, IsPermutation-map}
+use Rattle.std.proofs.lemmas.List.Sorted.{IsPermutation-refl, IsPermutation-sym, IsPermutation-trans, IsPermutation-append, IsPermutation-append_comm, IsPermutation-map}
 use Rattle.list_change.specs.Pairing.{by_left, by_right, made, pairs}
 use Rattle.list_change.proofs.Kept.{permuted-filter}
 use Rattle.list_change.proofs.Permute.{by-equation, interchange, permuted-filter_map}
-use Rattle.rule_ancestry.specs.Holding.{Held, id_of, is_outside, item_of}
+use Rattle.rule_ancestry.specs.Holding.{Held, is_outside, item_of}
 use Rattle.policy_meaning.specs.declared.network.Place.{Place}
 use Rattle.policy_meaning.specs.declared.rule.Rule.{Rule}
 use Rattle.made_rules.specs.Rules.{is_made_of, rules_in}
@@ -47,7 +47,7 @@ module _ (before below : List NodeOf) (turns : List Turn) where
       IsPermutation-trans _ (map (arrival e.place) (filter (is_outside (gone_at turns e.place)) hs)) _
       (by-equation _ _ (filter-map (stays-there turns) (arrival e.place) hs))
       (IsPermutation-map (arrival e.place) _ _
-        (subst (λ ids. IsPermutation (filter (is_outside ids) hs) t.turned.kept) t.turned.gone_are (without-all hs t.turned.going t.turned.kept t.rising t.turned.was)))
+      (subst (λ ids. IsPermutation (filter (is_outside ids) hs) t.turned.kept) t.turned.gone_are (without-all hs t.turned.going t.turned.kept t.rising t.turned.was)))
 
   pub kept-arrivals : (exits : List Exit) (ts : AllByRecursion (λ (e : Exit). IsTurnedAt before below turns e.place) exits) →
       IsPermutation (filter (stays-there turns) (arrivals before exits)) (kept_there exits ts)
@@ -84,13 +84,13 @@ module _ (before below : List NodeOf) (turns : List Turn) where
       let p = λ (m : Made). not (is_made_of (map own gone ++ lost_there turns exits) m) in
       let left : IsPermutation (filter (is_outside gone) xs) t.kept = subst (λ ids. IsPermutation (filter (is_outside ids) xs) t.kept) t.gone_are (without-all xs t.going t.kept rising t.was) in
       let stays : IsPermutation (filter p (map item_of held)) (made w t.kept (kept_there exits ts)) =
-        IsPermutation-trans _ (filter p (made w xs ys)) _ (permuted-filter p _ _ whole)
-        (IsPermutation-trans _ (made w (filter (is_outside gone) xs) (filter (stays-there turns) ys)) _ (by-equation _ _ (made-without at size exits gone turns xs ys))
-        (made-permuted w _ _ _ _ left (kept-arrivals exits ts))) in
+      IsPermutation-trans _ (filter p (made w xs ys)) _ (permuted-filter p _ _ whole)
+      (IsPermutation-trans _ (made w (filter (is_outside gone) xs) (filter (stays-there turns) ys)) _ (by-equation _ _ (made-without at size exits gone turns xs ys))
+      (made-permuted w _ _ _ _ left (kept-arrivals exits ts))) in
       IsPermutation-trans _ _ _ items
       (IsPermutation-trans _ (made w t.kept (kept_there exits ts) ++ (by_left w t.coming (arrivals below exits) ++ by_right w t.kept (come_there exits ts))) _
-        (IsPermutation-append _ _ _ _ stays f)
-        (IsPermutation-sym _ _ (made-both w zs t.coming t.kept (arrivals below exits) (come_there exits ts) (kept_there exits ts) t.is (new-arrivals exits ts))))
+      (IsPermutation-append _ _ _ _ stays f)
+      (IsPermutation-sym _ _ (made-both w zs t.coming t.kept (arrivals below exits) (come_there exits ts) (kept_there exits ts) t.is (new-arrivals exits ts))))
 
   -- what came there is what is held under the ids that came
   came-is : (exits : List Exit) (ts : AreTurned before below turns exits) → came_there below turns exits ≡ come_there exits ts
@@ -104,7 +104,7 @@ module _ (before below : List NodeOf) (turns : List Turn) where
   pub node-turns : (at : Place) (size : ℕ) (exits : List Exit) (ts : AreTurned before below turns exits) (xs : List (Held Rule)) (given : GivenOf) (turn : Turn) (o : IsOwnTurn xs given turn) →
       (held held' : List (Held Made)) (fresh : List Made) → IsMadeOf at size exits xs before held →
       ((kept : List (Held Rule)) → AreListed given kept → AreFound given.rules kept →
-        IsPermutation fresh (made_left at size exits (arrivals below exits) (under given.rules turn.come) ++ made_right at size exits kept (came_there below turns exits))) →
+      IsPermutation fresh (made_left at size exits (arrivals below exits) (under given.rules turn.come) ++ made_right at size exits kept (came_there below turns exits))) →
       IsPermutation (map item_of held') (filter (λ m. not (is_made_of (map own turn.gone ++ lost_there turns exits) m)) (map item_of held) ++ fresh) →
       IsMadeOf at size exits given.rules below held'
   node-turns at size exits ts xs given turn o held held' fresh whole made items =
@@ -114,13 +114,13 @@ module _ (before below : List NodeOf) (turns : List Turn) where
       let came = come_there exits ts in
       let found = part-found given.rules t.kept t.coming o.risen (IsPermutation-trans _ _ _ t.is (IsPermutation-append_comm t.coming t.kept)) in
       let f : IsPermutation fresh (made_left at size exits ys t.coming ++ made_right at size exits t.kept came) =
-        subst (λ z. IsPermutation fresh (made_left at size exits ys t.coming ++ made_right at size exits t.kept z)) (came-is exits ts)
-        (subst (λ z. IsPermutation fresh (made_left at size exits ys z ++ made_right at size exits t.kept (came_there below turns exits))) (came-under xs given.rules turn.gone turn.come t o.risen) (made t.kept o.listed found)) in
+      subst (λ z. IsPermutation fresh (made_left at size exits ys t.coming ++ made_right at size exits t.kept z)) (came-is exits ts)
+      (subst (λ z. IsPermutation fresh (made_left at size exits ys z ++ made_right at size exits t.kept (came_there below turns exits))) (came-under xs given.rules turn.gone turn.come t o.risen) (made t.kept o.listed found)) in
       let left : IsPermutation (made_left at size exits ys t.coming) (by_left w t.coming ys) = IsPermutation-sym _ _ (each-made w ys t.coming) in
       let right : IsPermutation (made_right at size exits t.kept came) (by_right w t.kept came) =
-        IsPermutation-trans _ _ _ (pairs-turned w.pair t.kept came) (by-equation _ _ (sym (ap (λ z. pairs w.pair t.kept came ++ z) (none-of w.other (λ y. refl) came) ∙ append-nil (pairs w.pair t.kept came)))) in
+      IsPermutation-trans _ _ _ (pairs-turned w.pair t.kept came) (by-equation _ _ (sym (ap (λ z. pairs w.pair t.kept came ++ z) (none-of w.other (λ y. refl) came) ∙ append-nil (pairs w.pair t.kept came)))) in
       turns-over at size exits ts xs given.rules turn.gone turn.come t o.rising held held' fresh whole
-        (IsPermutation-trans _ _ _ f (IsPermutation-append _ _ _ _ left right)) items
+      (IsPermutation-trans _ _ _ f (IsPermutation-append _ _ _ _ left right)) items
 
 -- what stayed of the rules of a virtual switch is listed
 pub stayed-listed : (xs : List (Held Rule)) (given : GivenOf) (turn : Turn) (o : IsOwnTurn xs given turn) → AreListed given (stayed given turn.come)

@@ -1,12 +1,11 @@
 -- What is held under some ids, and loops over ids.
 use Rattle.std.proofs.Common.{◌≡◌, ℕ, ◌+◌, ◌<◌, ◌≤◌, ◌==◌, Bool, true, false, cond, List, [], ◌∷◌, ◌++◌, Option, Some, None, length, get_or, take, map, refl, sym, ap, subst, ◌∙◌, append_assoc, arith}
-use Rattle.std.specs.Prelude.{IsPermutation, filter_map, flat_map, sum_by}
+use Rattle.std.specs.Prelude.{IsPermutation, flat_map}
 use Rattle.std.specs.List.{AllByRecursion}
 use Rattle.std.specs.List.Sorted.{IsStrictlySortedBy}
 use Rattle.std.specs.Ordering.{nat_cmp}
 use Rattle.std.proofs.lemmas.Grind.{flat_map-append}
 use Rattle.std.proofs.lemmas.List.{append-nil, take_all, take_more}
-use Rattle.std.proofs.lemmas.List.Elements.{filter_map-append}
 use Rattle.std.proofs.lemmas.List.Sorted.{IsPermutation-append_left, IsPermutation-trans}
 use Rattle.list_change.proofs.Permute.{by-equation, permuted-flat_map}
 use Rattle.policy_meaning.proofs.Rising.{all-permuted}
@@ -25,7 +24,6 @@ module _ {R : Type 0} where
 
   pub held-none : (held : List (Held R)) (id : ℕ) → item_at held id ≡ None → held_under held id ≡ []
   held-none held id e = ap (one_held id) e
-
 
   pick-cond : (P : Held R → Type 0) (h : Held R) (id : ℕ) (r : R) (o : Option R) (t : Bool) → (h.id == id) ≡ t → P h → (o ≡ Some r → P (record { id = id; item = r })) → cond t (Some h.item) o ≡ Some r → P (record { id = id; item = r })
   pick-cond P h id r o true e p f s =

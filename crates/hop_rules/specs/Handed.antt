@@ -59,24 +59,6 @@ pub record AreFoundAt (held : List (Held Rule)) (ids : List ℕ) (rules : List R
   pub ids_are : map id_of going ≡ ids
   pub rules_are : map item_of going ≡ rules
 
--- rules leave, which had these ids
-pub record Takes (old new : GivenOf) (ids : List ℕ) (rules : List Rule) : Type 0 where
-  pub going : List (Held Rule)
-  pub was : IsPermutation old.rules (going ++ new.rules)
-  pub ids_are : map id_of going ≡ ids
-  pub rules_are : map item_of going ≡ rules
-  pub listed : AreListed old old.rules → AreListed new new.rules
-  pub exits : new.exits ≡ old.exits
-
--- rules come, under these ids, and aren't listed
-pub record Puts (old new : GivenOf) (ids : List ℕ) (rules : List Rule) : Type 0 where
-  pub coming : List (Held Rule)
-  pub is : IsPermutation new.rules (coming ++ old.rules)
-  pub ids_are : map id_of coming ≡ ids
-  pub rules_are : map item_of coming ≡ rules
-  pub items : new.items ≡ old.items
-  pub exits : new.exits ≡ old.exits
-
 -- rules of these ids are there, and all others are listed
 pub record AreUnlisted (g : GivenOf) (ids : List ℕ) : Type 0 where
   pub coming : List (Held Rule)

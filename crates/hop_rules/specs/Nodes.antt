@@ -1,5 +1,5 @@
 -- What the node of a port makes of the rules of its virtual switch and of those of the nodes to which links lead.
-use Rattle.std.specs.Prelude.{◌≡◌, ℕ, Bool, true, false, ◌*◌, ◌<◌, ◌^◌, ◌==◌, ◌&&◌, Contains, Option, Some, None, List, [], ◌∷◌, ◌++◌, if◌then◌else◌, IsPermutation, filter, filter_map, length, map, not, flat_map, option_map, slice_get}
+use Rattle.std.specs.Prelude.{◌≡◌, ℕ, Bool, true, false, ◌*◌, ◌<◌, ◌^◌, ◌==◌, ◌&&◌, Option, Some, None, List, [], ◌∷◌, if◌then◌else◌, IsPermutation, filter, filter_map, length, map, not, flat_map, option_map, slice_get}
 use Rattle.std.specs.List.{AllByRecursion, list_any}
 use Rattle.std.specs.Option.{option_and_then, option_map_or}
 use Rattle.list_change.specs.Pairing.{Way, by_one, made}
@@ -7,15 +7,15 @@ use Rattle.match_index.specs.declared.item.Item.{Item}
 use Rattle.of10_actions.specs.declared.effects.Tail.{Tail}
 use Rattle.of10_match.specs.Matching.{agree, overlaps}
 use Rattle.of10_match.specs.Normal.{IsNormal}
-use Rattle.rule_ancestry.specs.Holding.{Held, id_of, item_of}
+use Rattle.rule_ancestry.specs.Holding.{Held, item_of}
 use Rattle.policy_meaning.specs.Hops.{Fabric, hop_lone, hop_rule, node}
 use Rattle.policy_meaning.specs.declared.network.Place.{Place}
 use Rattle.policy_meaning.specs.declared.rule.Rule.{Rule}
-use Rattle.made_rules.specs.Rules.{is_made_of, rule_of, rules_in}
+use Rattle.made_rules.specs.Rules.{rules_in}
 use Rattle.made_rules.specs.declared.made.Made.{Made}
 use Rattle.made_rules.specs.declared.made.Origin.{Origin}
 use Rattle.made_rules.specs.declared.made.Origin.TheVariants.{Leaf, Rule as RuleOrigin}
-use Rattle.hop_rules.specs.Handed.{AreListed, GivenOf}
+use Rattle.hop_rules.specs.Handed.{GivenOf}
 use Rattle.hop_rules.specs.Items.{item_for}
 use Rattle.hop_rules.specs.Standing.{asked, leaving, standing}
 use Rattle.hop_rules.specs.declared.exits.Exit.{Exit}

@@ -1,5 +1,5 @@
 -- How the rules of a node change, as those do of which it makes them, and the steps that this takes.
-use Rattle.std.specs.Prelude.{◌≡◌, ℕ, ◌+◌, List, [], ◌∷◌, ◌++◌, IsPermutation, count_by, filter, filter_map, flat_map, map, not, slice_get, sum_by}
+use Rattle.std.specs.Prelude.{◌≡◌, ℕ, ◌+◌, List, [], ◌++◌, IsPermutation, count_by, filter, filter_map, flat_map, map, not, slice_get, sum_by}
 use Rattle.std.specs.List.{AllByRecursion}
 use Rattle.std.specs.Option.{option_map_or}
 use Rattle.list_change.specs.Changes.{Apart}
@@ -49,6 +49,7 @@ pub record IsFoundBefore (items : List Item) (held : List (Held Made)) (turn : T
 pub record IsTold (before after : List (Held Made)) (turn : Turn) (left : List Made) : Type 0 where
   pub turned : Turned (rules_in before) (rules_in after) turn.gone turn.come
   pub rising : Rises (rules_in before)
+  pub risen : Rises (rules_in after)
   pub left_are : map rule_of left ≡ map item_of turned.going
   pub apart : Apart (map item_of turned.going) (map item_of turned.coming)
 
@@ -63,6 +64,13 @@ pub record IsOwnTurn (before : List (Held Rule)) (given : GivenOf) (turn : Turn)
   pub rising : Rises before
   pub risen : Rises given.rules
   pub listed : AreListed given turned.kept
+
+-- of the rules of a virtual switch these go and these come, and the turn tells so
+pub record Hands (old new : GivenOf) (gone come : List Rule) (turn : Turn) : Type 0 where
+  pub own : IsOwnTurn old.rules new turn
+  pub gone_are : map item_of own.turned.going ≡ gone
+  pub come_are : map item_of own.turned.coming ≡ come
+  pub exits : new.exits ≡ old.exits
 
 -- what went from the node of a place, and what came to it
 abbrev pub gone_at : List Turn → ℕ → List ℕ

@@ -7,11 +7,13 @@ ghost use Rattle.std.specs.Option.{option_copied};
 ghost use Rattle.rule_ancestry.specs.Holding.{item_at};
 ghost use Rattle.policy_meaning.specs.declared.rule.Rule.{Rule};
 ghost use Rattle.hop_rules.specs.Standing.{over as over_of};
-ghost use Rattle.hop_rules.specs.Handed.{AreFoundAt, AreListed, AreUnlisted, Notes, Puts, Takes, asks_by, leaves_mark, listed, mark_of, mixed as mixed_of};
+ghost use Rattle.hop_rules.specs.Handed.{AreFoundAt, AreListed, AreUnlisted, Notes, asks_by, leaves_mark, listed, mark_of, mixed as mixed_of};
+ghost use Rattle.hop_rules.specs.Turns.{Hands};
 ghost use Rattle.hop_rules.specs.Under.{Rises};
 
 use crate::exits::Exit;
 use crate::listing::{hide, show};
+use crate::node::Turn;
 use crate::standing::{asked, over};
 use cv_io::{Duplicate, Leaf, List, Memory};
 use match_index::Index;
@@ -256,26 +258,26 @@ impl Given {
         Ok(ids)
     }
 
-    /// Takes rules out, and gives the ids that they had. Rules that aren't there are answered as want of
-    /// memory.
-    pub fn take(&mut self, gone: &[Rule]) -> Result<Vec<usize>, Memory>
-        ensures taken { IfOk result (λ ids. Takes self.old self.new ids.items gone.now) }
+    /// Rules go and rules come, and the turn tells under which ids. Those that come aren't listed yet.
+    /// Where a rule that is to go isn't there, that is answered as want of memory.
+    pub fn turn(&mut self, gone: &[Rule], come: &[Rule]) -> Result<Turn, Memory>
+        requires { AreListed self.old self.old.rules }
+        ensures turned { IfOk result (λ turn. Hands self.old self.new gone.now come.now turn) }
         ensures memory { OnErr result (self.new ≡ self.old) }
     {
         let ids = self.find_all(gone)?;
+        let marked = all_marked(self.alloc, come)?;
+        // That no two are held under one id, before, with both and after.
+        let _first = self.store.len();
+        let new = self.store.add_all(marked)?;
+        let _both = self.store.len();
         hide(&mut self.index, &ids);
         self.store.remove_all(&ids);
-        Ok(ids)
-    }
-
-    /// Puts rules in, and gives their ids.
-    pub fn put(&mut self, come: &[Rule]) -> Result<Vec<usize>, Memory>
-        ensures put { IfOk result (λ ids. Puts self.old self.new ids.items come.now) }
-        ensures memory { OnErr result (self.new ≡ self.old) }
-    {
-        let marked = all_marked(self.alloc, come)?;
-        let ids = self.store.add_all(marked)?;
-        Ok(ids)
+        let _last = self.store.len();
+        Ok(Turn {
+            gone: List::from_vec(ids),
+            come: List::from_vec(new),
+        })
     }
 
     /// Lists the rules of these ids, where all others are.

@@ -1,5 +1,5 @@
 //! Laws of the nodes of ports. The functions do nothing; their clauses say what is proved.
-ghost use Rattle.std.specs.Prelude.{◌≡◌, ◌<◌, ℕ, suc, IsPermutation, List, map};
+ghost use Rattle.std.specs.Prelude.{◌≡◌, ◌<◌, ◌^◌, ℕ, suc, true, IsPermutation, List, length, map};
 ghost use Rattle.std.specs.List.{AllByRecursion};
 ghost use Rattle.policy_meaning.specs.Hops.{Fabric, hop_size, node, peers_size};
 ghost use Rattle.policy_meaning.specs.declared.network.Place.{Place};
@@ -9,7 +9,8 @@ ghost use Rattle.made_rules.specs.Rules.{rules_in};
 ghost use Rattle.made_rules.specs.declared.made.Made.{Made};
 ghost use Rattle.virtual_topology.specs.declared.plan.TopologyPlan.{TopologyPlan};
 ghost use Rattle.hop_rules.specs.Links.{ends, exit_link, exits, links};
-ghost use Rattle.hop_rules.specs.Nodes.{IsAt, IsMadeOf, IsOf, IsOwn, NodeOf, Once};
+ghost use Rattle.hop_rules.specs.Handed.{GivenOf};
+ghost use Rattle.hop_rules.specs.Nodes.{IsAt, IsMadeOf, IsOf, IsOwn, IsSetUp, NodeOf, Once};
 ghost use Rattle.hop_rules.specs.declared.exits.Exit.{Exit};
 ghost use Rattle.hop_rules.specs.declared.exits.LinkEnd.{LinkEnd};
 
@@ -23,6 +24,18 @@ pub fn nodes_are_from_scratch()
         → IsPermutation (map item_of (rules_in held)) (node f (suc n) at.v at.port) }
     ensures fit { (f : Fabric) → ((v : ℕ) → AllByRecursion (IsOwn (f.sizes v)) (f.rules v))
         → (n v port : ℕ) → AllByRecursion (IsAt (hop_size f n v) port) (node f n v port) }
+{}
+
+/// Nodes that have the rules of their ports from scratch set up those of one hop more, where the rules of
+/// each virtual switch are normal and below its size, and what both make fits.
+pub fn nodes_set_up_those_above()
+    ensures { (f : Fabric) → ((v : ℕ) → AllByRecursion (IsOwn (f.sizes v)) (f.rules v))
+        → (n : ℕ) → (below : List NodeOf) → (v : ℕ) → (given : GivenOf)
+        → map exit_link given.exits ≡ f.links v → Once (map (λ (e : Exit). e.place) given.exits)
+        → AllByRecursion (λ (e : Exit). e.place < length below) given.exits → AllByRecursion (λ (m : NodeOf). m.read ≡ true) below
+        → IsPermutation (map item_of given.rules) (f.rules v) → AllByRecursion (IsOf f n below) given.exits
+        → hop_size f (suc n) v < 2 ^ 64
+        → IsSetUp (f.sizes v) (peers_size (hop_size f n) (f.links v)) given below }
 {}
 
 /// The exits of a virtual switch are its links in a topology, each at a place of its own.

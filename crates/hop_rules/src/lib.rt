@@ -24,9 +24,3 @@ pub use joining::Around;
 pub use node::{Node, Turn};
 pub use table::HopTable;
 pub use turning::change_node;
-
-
-#[cfg(test)]
-mod folding;
-#[cfg(test)]
-mod tests;

@@ -210,6 +210,8 @@ impl Node {
         match turn_of(self.alloc, &change) {
             Ok(turn) => {
                 let left = change.settle(&mut self.store);
+                // That no two are held under one id.
+                let _count = self.store.len();
                 renew(&mut self.index, &self.store, &turn, self.is_read);
                 Ok((turn, left))
             }

@@ -1,4 +1,4 @@
-use Rattle.std.proofs.Common.{◌≡◌, ◌∙◌, ap, arith}
+use Rattle.std.proofs.Common.{◌∙◌, ap, arith}
 use Rattle.std.specs.Prelude.{option_map}
 use Rattle.rule_ancestry.specs.Holding.{item_at}
 use Rattle.hop_rules.specs.Handed.{asks_by, listed}
@@ -29,12 +29,12 @@ loop-id-preserved c =
     record {
       room = let r = c.loop-id.invariant.room in let s = c.show.ensures.room in omega arith;
       shown = λ coming kept p e s.
-        one-more (listed exits) (listed-numbered exits) c.args.store.now coming kept c.args.ids.now c.len-count.ensures.rising p e c.loop-id.id-index _ c.loop-id-test.true c.loop-id.index.items c.show.new.index.items _
-        (c.loop-id.invariant.shown coming kept p e s)
-        (λ h k there.
+          one-more (listed exits) (listed-numbered exits) c.args.store.now coming kept c.args.ids.now c.len-count.ensures.rising p e c.loop-id.id-index _ c.loop-id-test.true c.loop-id.index.items c.show.new.index.items _
+          (c.loop-id.invariant.shown coming kept p e s)
+          (λ h k there.
           ap (option_map (item_for _)) (c.asked_at.ensures h.item (ap (λ n. item_at c.args.store.now n) k ∙ there))
           ∙ ap (λ n. option_map (item_for n) (asks_by h.item (over exits h.item.tail))) k)
-        c.show.ensures.items;
+          c.show.ensures.items;
     }
 
 pub returns : goal.returns

@@ -1,11 +1,11 @@
-use Rattle.std.proofs.Common.{◌≡◌, ◌∙◌, ◌++◌, ◌+◌, ◌≤◌, [], ◌∷◌, List, ap, arith, refl, subst, sym}
-use Rattle.std.specs.Prelude.{IsPermutation, count_by, flat_map}
+use Rattle.std.proofs.Common.{◌∙◌, ◌++◌, ◌+◌, List, ap, arith, refl, subst, sym}
+use Rattle.std.specs.Prelude.{IsPermutation, flat_map}
 use Rattle.std.proofs.lemmas.List.{append-nil}
 use Rattle.std.proofs.lemmas.Result.{on_ok_weaker}
 use Rattle.list_change.specs.Pairing.{by_one}
 use Rattle.policy_meaning.specs.declared.rule.Rule.{Rule}
 use Rattle.rule_ancestry.specs.Holding.{Held}
-use Rattle.hop_rules.specs.Nodes.{IsOwn, arrivals, could, hop_way, made_left}
+use Rattle.hop_rules.specs.Nodes.{IsOwn, arrivals, hop_way, made_left}
 use Rattle.hop_rules.specs.Turns.{left_cost}
 use Rattle.hop_rules.proofs.Joined.{nothing-made}
 use Rattle.hop_rules.proofs.Under.{held-some, picked}
@@ -23,7 +23,7 @@ returns-in-Some-clause-pushed g c =
     let made = by_one (hop_way a.at a.size a.given.now.exits) (arrivals a.below.now a.given.now.exits) in
     on_ok_weaker c.add_by_left.result
     (λ p. subst (λ z. IsPermutation c.add_by_left.new.fresh.items (c.args.fresh.now.items ++ z))
-      (sym (append-nil (made h)) ∙ ap (flat_map made) (sym (held-some a.given.now.rules c.args.id c.in-Some.rule.now (sym c.in-Some.ensures.rule)))) p)
+    (sym (append-nil (made h)) ∙ ap (flat_map made) (sym (held-some a.given.now.rules c.args.id c.in-Some.rule.now (sym c.in-Some.ensures.rule)))) p)
     c.add_by_left.ensures.pushed
 
 pub returns-in-Some-clause-steps : goal.returns-in-Some-clause-steps

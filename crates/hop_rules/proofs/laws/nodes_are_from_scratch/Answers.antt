@@ -1,4 +1,4 @@
-use Rattle.std.proofs.Common.{List, suc, map, subst, sym}
+use Rattle.std.proofs.Common.{List, suc, subst, sym}
 use Rattle.std.specs.Prelude.{IsPermutation}
 use Rattle.policy_meaning.specs.Hops.{node}
 use Rattle.policy_meaning.specs.declared.rule.Rule.{Rule}

@@ -1,4 +1,4 @@
-use Rattle.std.proofs.Common.{◌≡◌, ◌∙◌, ◌++◌, ◌+◌, ◌≤◌, ap, arith, subst, sym}
+use Rattle.std.proofs.Common.{arith, subst, sym}
 use Rattle.std.specs.Prelude.{IsPermutation}
 use Rattle.std.proofs.lemmas.Result.{on_ok_weaker}
 use Rattle.match_index.specs.Items.{ids_of}
@@ -16,7 +16,7 @@ returns-clause-pushed g c kept listed found =
     let ids = subst (λ z. IsPermutation z (ids_of (is_meeting b.item.m) given.items)) (sym c.deref.ensures.value) c.in_ok-ids.ensures in
     on_ok_weaker c.add_each_met.result
     (λ e. met-walked a.at a.size given.exits c.args.place b c.requires.there c.requires.around.0 given.rules kept c.deref.result.now given.items c.args.fresh.now.items c.add_each_met.new.fresh.items
-      c.requires.around.1.rules found ids listed e)
+    c.requires.around.1.rules found ids listed e)
     c.add_each_met.ensures.pushed
 
 pub returns-clause-steps : goal.returns-clause-steps

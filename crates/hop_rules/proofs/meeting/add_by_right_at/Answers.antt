@@ -1,4 +1,4 @@
-use Rattle.std.proofs.Common.{◌≡◌, ◌∙◌, ◌++◌, ◌+◌, ◌≤◌, List, ap, arith, map, refl, subst, sym}
+use Rattle.std.proofs.Common.{◌∙◌, ◌++◌, ◌+◌, List, ap, arith, map, refl, subst, sym}
 use Rattle.std.specs.Prelude.{IsPermutation, filter_map}
 use Rattle.std.proofs.lemmas.List.{append-nil}
 use Rattle.std.proofs.lemmas.Result.{on_ok_weaker}
@@ -22,7 +22,7 @@ returns-in-Some-clause-pushed g c kept listed found =
     let one = filter_map (λ (k : Held Rule). (hop_way a.at a.size a.given.now.exits).pair k (arrival c.args.place h)) kept in
     on_ok_weaker c.add_by_right.result
     (λ p. subst (λ z. IsPermutation c.add_by_right.new.fresh.items (c.args.fresh.now.items ++ z))
-      (sym (append-nil one) ∙ ap (λ (hs : List (Held Rule)). made_right a.at a.size a.given.now.exits kept (map (arrival c.args.place) hs)) (sym (held-some (rules_in c.args.node.now.held) c.args.id c.in-Some.rule.now (sym c.in-Some.ensures.rule)))) p)
+    (sym (append-nil one) ∙ ap (λ (hs : List (Held Rule)). made_right a.at a.size a.given.now.exits kept (map (arrival c.args.place) hs)) (sym (held-some (rules_in c.args.node.now.held) c.args.id c.in-Some.rule.now (sym c.in-Some.ensures.rule)))) p)
     (c.add_by_right.ensures.pushed kept listed found)
 
 pub returns-in-Some-clause-steps : goal.returns-in-Some-clause-steps

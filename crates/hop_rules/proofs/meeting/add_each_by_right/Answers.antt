@@ -1,4 +1,4 @@
-use Rattle.std.proofs.Common.{◌≡◌, ◌∙◌, ◌++◌, ◌+◌, ◌≤◌, List, ap, arith, map, subst, sym}
+use Rattle.std.proofs.Common.{◌∙◌, ◌++◌, ◌+◌, ◌≤◌, List, ap, arith, map, subst, sym}
 use Rattle.std.specs.Prelude.{IsPermutation, count_by, filter_map, flat_map}
 use Rattle.std.proofs.lemmas.Grind.{flat_map-append}
 use Rattle.std.proofs.lemmas.List.{append-nil, map-append}
@@ -20,17 +20,17 @@ loop-id-preserved g c =
     let a = c.args.around in
     record {
       made = λ kept l f.
-        perm-more (λ (hs : List (Held Rule)). made_right a.at a.size a.given.now.exits kept (map (arrival c.args.place) hs))
-        (λ xs ys. ap (made_right a.at a.size a.given.now.exits kept) (map-append (arrival c.args.place) xs ys)
+          perm-more (λ (hs : List (Held Rule)). made_right a.at a.size a.given.now.exits kept (map (arrival c.args.place) hs))
+          (λ xs ys. ap (made_right a.at a.size a.given.now.exits kept) (map-append (arrival c.args.place) xs ys)
           ∙ flat_map-append (λ (y : Arrival). filter_map (λ h. (hop_way a.at a.size a.given.now.exits).pair h y) kept) (map (arrival c.args.place) xs) (map (arrival c.args.place) ys))
-        (rules_in c.args.node.now.held) c.args.come.now c.loop-id.id-index 0 c.loop-id-test.true c.args.fresh.now.items c.loop-id.fresh.items c.add_by_right_at.new.fresh.items
-        (c.loop-id.invariant.made kept l f) (c.in_ok-add_by_right_at.ensures.pushed kept l f);
+          (rules_in c.args.node.now.held) c.args.come.now c.loop-id.id-index 0 c.loop-id-test.true c.args.fresh.now.items c.loop-id.fresh.items c.add_by_right_at.new.fresh.items
+          (c.loop-id.invariant.made kept l f) (c.in_ok-add_by_right_at.ensures.pushed kept l f);
       steps = λ kept l f.
-        steps-more (λ (hs : List (Held Rule)). right_cost a.at a.given.now.exits kept (map (arrival c.args.place) hs))
-        (λ xs ys. ap (right_cost a.at a.given.now.exits kept) (map-append (arrival c.args.place) xs ys)
+          steps-more (λ (hs : List (Held Rule)). right_cost a.at a.given.now.exits kept (map (arrival c.args.place) hs))
+          (λ xs ys. ap (right_cost a.at a.given.now.exits kept) (map-append (arrival c.args.place) xs ys)
           ∙ sum_by-append (λ (y : Arrival). count_by (λ h. could a.at a.given.now.exits h y) kept) (map (arrival c.args.place) xs) (map (arrival c.args.place) ys))
-        (rules_in c.args.node.now.held) c.args.come.now c.loop-id.id-index 0 c.loop-id-test.true c.args.steps.now c.loop-id.steps c.add_by_right_at.new.steps
-        (c.loop-id.invariant.steps kept l f) (c.in_ok-add_by_right_at.ensures.steps kept l f);
+          (rules_in c.args.node.now.held) c.args.come.now c.loop-id.id-index 0 c.loop-id-test.true c.args.steps.now c.loop-id.steps c.add_by_right_at.new.steps
+          (c.loop-id.invariant.steps kept l f) (c.in_ok-add_by_right_at.ensures.steps kept l f);
     }
 
 pub returns-clause-pushed : goal.returns-clause-pushed

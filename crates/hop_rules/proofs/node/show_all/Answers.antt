@@ -1,4 +1,4 @@
-use Rattle.std.proofs.Common.{◌≡◌, arith, subst}
+use Rattle.std.proofs.Common.{arith, subst}
 use Rattle.std.specs.List.Sorted.{IsStrictlySortedBy}
 use Rattle.std.specs.Ordering.{nat_cmp}
 use Rattle.made_rules.proofs.Ids.{Rising}
@@ -30,8 +30,8 @@ loop-id-preserved c =
     record {
       room = let r = c.loop-id.invariant.room in let s = c.show.ensures.room in omega arith;
       shown = λ coming kept p e s.
-        one-more found found-numbered (rules_in c.args.store.now) coming kept c.args.ids.now up p e c.loop-id.id-index _ c.loop-id-test.true c.loop-id.index.items c.show.new.index.items _
-        (c.loop-id.invariant.shown coming kept p e s) (λ h k there. match-at c.args.store.now h _ _ k c.match_at.ensures there) c.show.ensures.items;
+          one-more found found-numbered (rules_in c.args.store.now) coming kept c.args.ids.now up p e c.loop-id.id-index _ c.loop-id-test.true c.loop-id.index.items c.show.new.index.items _
+          (c.loop-id.invariant.shown coming kept p e s) (λ h k there. match-at c.args.store.now h _ _ k c.match_at.ensures there) c.show.ensures.items;
     }
 
 pub returns : goal.returns

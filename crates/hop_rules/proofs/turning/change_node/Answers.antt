@@ -1,8 +1,8 @@
-use Rattle.std.proofs.Common.{◌≡◌, ◌∙◌, ◌++◌, ◌+◌, ◌≤◌, List, ap, arith, map, not, subst, sym}
+use Rattle.std.proofs.Common.{◌≡◌, ◌∙◌, ◌++◌, ◌+◌, ◌≤◌, List, ap, map, not, subst}
 use Rattle.std.specs.Prelude.{IsPermutation, filter}
 use Rattle.std.proofs.lemmas.Result.{IfOk-weaker}
 use Rattle.policy_meaning.specs.declared.rule.Rule.{Rule}
-use Rattle.rule_ancestry.specs.Holding.{Held, item_of}
+use Rattle.rule_ancestry.specs.Holding.{item_of}
 use Rattle.made_rules.specs.Rules.{is_made_of}
 use Rattle.made_rules.specs.declared.made.Made.{Made}
 use Rattle.made_rules.specs.declared.made.Origin.{Origin}
@@ -19,13 +19,13 @@ returns-clause-made g c xs before o ts whole =
     let es = a.given.now.exits in
     let turn = c.args.own_turn.now in
     let lost : c.deref.result.now ≡ map own turn.gone ++ lost_there c.args.turns.now es =
-      c.deref.ensures.value ∙ c.in_ok-lost.ensures ∙ (λ i. map own (c.as_slice.ensures i) ++ lost_there c.args.turns.now (c.exits-exits.ensures i)) in
+    c.deref.ensures.value ∙ c.in_ok-lost.ensures ∙ (λ i. map own (c.as_slice.ensures i) ++ lost_there c.args.turns.now (c.exits-exits.ensures i)) in
     IfOk-weaker c.change.result _ (λ _. IsMadeOf a.at a.size es a.given.now.rules a.below.now c.change.new.self.held)
     (λ turned k.
-      node-turns before a.below.now c.args.turns.now a.at a.size es ts xs a.given.now turn o c.args.node.now.held c.change.new.self.held c.in_ok-fresh.fresh.items whole
-      (λ kept l f. subst (λ ids. IsPermutation c.in_ok-fresh.fresh.items (made_left a.at a.size es (arrivals a.below.now es) (under a.given.now.rules ids) ++ made_right a.at a.size es kept (came_there a.below.now c.args.turns.now es)))
-        c.as_slice-2.ensures (c.in_ok-fresh.ensures.made kept l f))
-      (subst (λ (names : List Origin). IsPermutation (map item_of c.change.new.self.held) (filter (λ m. not (is_made_of names m)) (map item_of c.args.node.now.held) ++ c.in_ok-fresh.fresh.items)) lost k.items))
+    node-turns before a.below.now c.args.turns.now a.at a.size es ts xs a.given.now turn o c.args.node.now.held c.change.new.self.held c.in_ok-fresh.fresh.items whole
+    (λ kept l f. subst (λ ids. IsPermutation c.in_ok-fresh.fresh.items (made_left a.at a.size es (arrivals a.below.now es) (under a.given.now.rules ids) ++ made_right a.at a.size es kept (came_there a.below.now c.args.turns.now es)))
+    c.as_slice-2.ensures (c.in_ok-fresh.ensures.made kept l f))
+    (subst (λ (names : List Origin). IsPermutation (map item_of c.change.new.self.held) (filter (λ m. not (is_made_of names m)) (map item_of c.args.node.now.held) ++ c.in_ok-fresh.fresh.items)) lost k.items))
     c.change.ensures.change
 
 pub returns-clause-told : goal.returns-clause-told
@@ -39,5 +39,5 @@ returns-clause-steps g c xs o =
     let turn = c.args.own_turn.now in
     let kept = stayed given turn.come in
     ok-always _ c.change.result
-    (subst (λ ids. c.made_fresh-fresh.new.steps ≤ c.args.steps.now + (left_cost a.at es (arrivals a.below.now es) (under given.rules ids) + right_cost a.at es kept (came_there a.below.now c.args.turns.now es)))
-      c.as_slice-2.ensures (c.in_ok-fresh.ensures.steps kept (stayed-listed xs given turn o) (stayed-found given turn.come o.risen)))
+    (subst (λ ids. c.made_fresh.new.steps ≤ c.args.steps.now + (left_cost a.at es (arrivals a.below.now es) (under given.rules ids) + right_cost a.at es kept (came_there a.below.now c.args.turns.now es)))
+    c.as_slice-2.ensures (c.in_ok-fresh.ensures.steps kept (stayed-listed xs given turn o) (stayed-found given turn.come o.risen)))

@@ -1,10 +1,9 @@
-use Rattle.std.proofs.Common.{◌≡◌, ◌∙◌, ◌++◌, List, ap, arith, length, refl, subst, sym}
+use Rattle.std.proofs.Common.{◌∙◌, ◌++◌, List, ap, arith, length, subst, sym}
 use Rattle.std.specs.List.Sorted.{IsStrictlySortedBy}
 use Rattle.std.specs.Ordering.{nat_cmp}
 use Rattle.std.specs.Prelude.{IsPermutation, filter_map}
 use Rattle.rule_ancestry.specs.Holding.{Held}
 use Rattle.made_rules.specs.Rules.{rules_in}
-use Rattle.made_rules.specs.declared.made.Made.{Made}
 use Rattle.match_index.specs.declared.item.Item.{Item}
 use Rattle.hop_rules.specs.Nodes.{NodeOf, found}
 use Rattle.hop_rules.specs.Turns.{IsChange}
@@ -20,8 +19,8 @@ invariant_of-self c read = subst (λ (items : List Item). IsPermutation items (f
 pub ready-requires : goal.ready-requires
 ready-requires c = found-held c.self.inside.store c.args.lost.now c.deref.result.now (c.deref.ensures.value ∙ c.in_ok-gone.ensures)
 
-pub settle-requires : goal.settle-requires
-settle-requires c = let r = c.in_ok-change.ensures.ready in ((r.kept ++ r.coming) ++ r.going, r.is)
+pub settle-left-requires : goal.settle-left-requires
+settle-left-requires c = let r = c.in_ok-change.ensures.ready in ((r.kept ++ r.coming) ++ r.going, r.is)
 
 pub undo-requires : goal.undo-requires
 undo-requires c = let r = c.in_ok-change.ensures.ready in ((r.kept ++ r.coming) ++ r.going, r.is)
@@ -51,4 +50,4 @@ returns-in-Ok-clause-change c =
     let p = c.settle-left.ensures.settled c.self.inside.store c.deref.result.now c.args.fresh.items r in
     let l = c.settle-left.ensures.left c.self.inside.store c.deref.result.now c.args.fresh.items r in
     subst (λ (n : NodeOf). IsChange n.held c.settle-left.new.store c.args.lost.now c.args.fresh.items c.in-Ok.turn c.settle-left.result.items) c.self.view_is
-    (ready-change c.self.inside.store c.ready.new.store c.settle-left.new.store c.deref.result.now c.args.fresh.items c.in_ok-change.change r p c.args.lost.now (c.deref.ensures.value ∙ c.in_ok-gone.ensures) c.in-Ok.turn c.in-Ok.ensures c.settle-left.result.items l)
+    (ready-change c.self.inside.store c.ready.new.store c.settle-left.new.store c.deref.result.now c.args.fresh.items c.in_ok-change.change r p c.args.lost.now (c.deref.ensures.value ∙ c.in_ok-gone.ensures) c.in-Ok.turn c.in-Ok.ensures c.settle-left.result.items l c.len-count.ensures.rising)
