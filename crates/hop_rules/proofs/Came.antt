@@ -1,6 +1,6 @@
 -- Loops over the exits of a virtual switch.
 use Rattle.std.proofs.Common.{◌≡◌, ℕ, ◌+◌, ◌<◌, ◌≤◌, ◌==◌, ◌||◌, true, List, [], ◌∷◌, ◌++◌, Result, Ok, Err, length, get_or, take, map, sym, ap, ◌∙◌, append_assoc, arith}
-use Rattle.std.specs.Prelude.{IsPermutation, OnOk, count_by, filter_map, flat_map, sum_by}
+use Rattle.std.specs.Prelude.{IsPermutation, OnOk, count_by, filter_map}
 use Rattle.std.proofs.lemmas.Grind.{flat_map-append}
 use Rattle.std.proofs.lemmas.List.{append-nil, take_more}
 use Rattle.std.proofs.lemmas.List.Sums.{sum_by-append}

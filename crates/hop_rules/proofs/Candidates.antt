@@ -3,13 +3,13 @@ use Rattle.std.proofs.Common.{◌≡◌, ℕ, ◌-◌, ◌/◌, ◌^◌, Bool, t
 use Rattle.std.specs.Prelude.{◌==◌, nat_le, if◌then◌else◌, option_map}
 use Rattle.std.specs.Option.{option_and_then}
 use Rattle.of10_match.specs.Fields.{MatchOf}
-use Rattle.of10_match.specs.Matching.{agree, agree_prefix, each, fits, fits_prefix, meet, overlaps}
+use Rattle.of10_match.specs.Matching.{agree, agree_prefix, fits, fits_prefix, meet, overlaps}
 use Rattle.of10_match.specs.Normal.{IsNormal}
 use Rattle.of10_match.specs.declared.header.Prefix.{Prefix}
 use Rattle.of10_match.proofs.Twelve.{and-false, each-fields, each-intro}
 use Rattle.of10_actions.specs.Fields.{RewriteOf}
 use Rattle.of10_actions.specs.Rewriting.{is_ip, is_tcp_udp}
-use Rattle.pull_back.specs.Pulling.{can_pull, image, names, pull, pulled, set_fits, set_in, sets_nw, sets_tp, unset, whole}
+use Rattle.pull_back.specs.Pulling.{can_pull, image, names, pulled, set_fits, set_in, sets_nw, sets_tp, unset, whole}
 use Rattle.pull_back.proofs.Guarded.{Guards, IsGuarded}
 use Rattle.pull_back.proofs.Normality.{normal-guarded}
 use Rattle.policy_meaning.specs.Hops.{hop_rule, hopped, without_port}

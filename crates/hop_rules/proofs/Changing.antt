@@ -1,5 +1,5 @@
 -- What a change that is ready did to a node, once it is settled.
-use Rattle.std.proofs.Common.{◌≡◌, ℕ, ◌+◌, ◌≤◌, not, List, [], ◌∷◌, ◌++◌, length, map, refl, sym, ap, subst, ◌∙◌, arith}
+use Rattle.std.proofs.Common.{◌≡◌, ℕ, ◌≤◌, not, List, [], ◌∷◌, ◌++◌, length, map, refl, sym, ap, subst, ◌∙◌, arith}
 use Rattle.std.specs.Prelude.{IsPermutation, filter, filter_map}
 use Rattle.std.specs.List.Sorted.{IsStrictlySortedBy}
 use Rattle.std.specs.Ordering.{nat_cmp}
@@ -7,7 +7,6 @@ use Rattle.std.proofs.lemmas.List.{map-append, length-append, length-map}
 use Rattle.std.proofs.lemmas.List.Sorted.{IsPermutation-append_comm, IsPermutation-map, IsPermutation-trans, length_permutation}
 use Rattle.list_change.proofs.Permute.{by-equation, permuted-filter_map}
 use Rattle.match_index.specs.declared.item.Item.{Item}
-use Rattle.policy_meaning.specs.declared.rule.Rule.{Rule}
 use Rattle.rule_ancestry.specs.Holding.{Held, id_of, is_outside, item_of}
 use Rattle.made_rules.specs.Changing.{ChangeOf, IsReady, is_of, settled, was_of}
 use Rattle.made_rules.specs.Rules.{is_held_of, is_made_of, rule_held, rule_of, rules_in}

@@ -1,10 +1,9 @@
 -- The rules of a node are below its size, normal, and of its port.
-use Rattle.std.proofs.Common.{◌≡◌, ℕ, zero, suc, ◌*◌, Bool, true, false, ◌&&◌, ◌==◌, List, Option, Some, None, refl, subst, ap, arith}
+use Rattle.std.proofs.Common.{◌≡◌, ℕ, zero, suc, ◌*◌, Bool, true, false, ◌&&◌, ◌==◌, Option, Some, None, refl, subst, arith}
 use Rattle.std.specs.Prelude.{filter_map}
 use Rattle.std.specs.List.{AllByRecursion}
 use Rattle.of10_match.specs.Fields.{MatchOf}
-use Rattle.of10_match.specs.Matching.{agree, at_port, both, either, overlaps}
-use Rattle.of10_match.specs.Normal.{IsNormal}
+use Rattle.of10_match.specs.Matching.{agree, at_port, either, overlaps}
 use Rattle.of10_match.proofs.NormalMeet.{IsNormal-both}
 use Rattle.pull_back.specs.Pulling.{pulled}
 use Rattle.pull_back.proofs.Normality.{normal-pulled}

@@ -11,7 +11,6 @@ use Rattle.virtual_topology.specs.declared.plan.VirtualItem.{VirtualItem}
 use Rattle.virtual_topology.specs.declared.plan.VirtualPort.{VirtualPort}
 use Rattle.virtual_topology.specs.Rows.{Spot}
 use Rattle.virtual_topology.specs.Wires.{peer_of}
-use Rattle.policy_meaning.specs.declared.network.Link.{Link}
 use Rattle.hop_rules.specs.Nodes.{Once}
 use Rattle.hop_rules.specs.Links.{end, ends, exit_at, exit_link, exits, link_of, links, place, port_ends}
 use Rattle.hop_rules.specs.declared.exits.Exit.{Exit}

@@ -1,10 +1,10 @@
 -- What a rule makes at a node, as it is joined.
 use Rattle.std.proofs.Common.{◌≡◌, ℕ, ◌==◌, Bool, true, false, List, [], ◌∷◌, ◌++◌, Option, Some, None, refl, sym, ap, subst, ◌∙◌, map, append-nil}
-use Rattle.std.specs.Prelude.{IfSome, filter, filter_map, option_map, if◌then◌else◌}
+use Rattle.std.specs.Prelude.{IfSome, filter_map, option_map, if◌then◌else◌}
 use Rattle.std.specs.List.{AllByRecursion, cons_option}
 use Rattle.std.specs.Option.{option_and_then}
 use Rattle.list_change.specs.Pairing.{by_one}
-use Rattle.of10_match.specs.Matching.{at_port, both, overlaps}
+use Rattle.of10_match.specs.Matching.{at_port, overlaps}
 use Rattle.of10_match.specs.Normal.{IsNormal}
 use Rattle.of10_match.proofs.NormalMeet.{IsNormal-both}
 use Rattle.of10_actions.specs.Fields.{RewriteOf}
@@ -22,7 +22,7 @@ use Rattle.policy_meaning.proofs.Normality.{normal-at_port}
 use Rattle.rule_ancestry.specs.Holding.{Held}
 use Rattle.made_rules.specs.declared.made.Made.{Made}
 use Rattle.hop_rules.specs.Nodes.{Arrival, IsAt, IsOwn, NodeOf, Once, arrivals, arrive, held_at, hop_way, leads_there, lone_by, made_alone, made_of_pair, pair_by}
-use Rattle.hop_rules.specs.Standing.{asked, departing, exit_of, leaving, over, standing}
+use Rattle.hop_rules.specs.Standing.{asked, departing, exit_of, leaving, standing}
 use Rattle.hop_rules.specs.declared.exits.Exit.{Exit}
 use Rattle.hop_rules.specs.declared.standing.Departure.{Departure}
 use Rattle.hop_rules.proofs.Arriving.{one-arrival}

@@ -26,7 +26,7 @@ use Rattle.hop_rules.proofs.Arriving.{here, leaving-all, one-arrival}
 use Rattle.hop_rules.proofs.Names.{itself, leaving-there}
 use Rattle.hop_rules.proofs.Lists.{flat-permuted}
 use Rattle.hop_rules.specs.Links.{exit_link}
-use Rattle.hop_rules.specs.Standing.{departing, exit_of, leaving, standing}
+use Rattle.hop_rules.specs.Standing.{departing, exit_of, leaving}
 use Rattle.hop_rules.specs.declared.exits.Exit.{Exit}
 use Rattle.hop_rules.specs.declared.standing.Departure.{Departure}
 

@@ -1,5 +1,6 @@
 -- The rules of a virtual switch that were handed over, as they are kept.
-use Rattle.std.specs.Prelude.{◌≡◌, ℕ, ◌+◌, ◌*◌, ◌%◌, ◌^◌, ◌==◌, false, Option, Some, None, List, [], ◌∷◌, ◌++◌, filter_map, map, option_map, filter, IsPermutation}
+use Rattle.std.specs.Prelude.{◌≡◌, ℕ, ◌+◌, ◌*◌, ◌%◌, ◌^◌, ◌==◌, false, Option, Some, None, List, [], ◌∷◌, ◌++◌}
+use Rattle.std.specs.Prelude.{filter_map, map, option_map, filter, IsPermutation}
 use Rattle.std.specs.List.{list_any}
 use Rattle.cv_io.specs.declared.leaf.Leaf.{Leaf}
 use Rattle.match_index.specs.declared.item.Item.{Item}

@@ -1,5 +1,6 @@
 -- Where the links of a topology lead from its virtual switches.
-use Rattle.std.specs.Prelude.{ℕ, ◌==◌, Option, Some, None, List, if◌then◌else◌, filter_map, flat_map, map, option_map, slice_get, []}
+use Rattle.std.specs.Prelude.{ℕ, ◌==◌, Option, Some, None, List, if◌then◌else◌, filter_map, flat_map, map}
+use Rattle.std.specs.Prelude.{option_map, slice_get, []}
 use Rattle.std.specs.List.{enumerate_from}
 use Rattle.std.specs.Option.{option_map_or}
 use Rattle.policy_meaning.specs.declared.network.Link.{Link}

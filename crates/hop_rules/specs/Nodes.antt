@@ -1,5 +1,7 @@
 -- What the node of a port makes of the rules of its virtual switch and of those of the nodes to which links lead.
-use Rattle.std.specs.Prelude.{◌≡◌, ℕ, Bool, true, false, ◌*◌, ◌<◌, ◌^◌, ◌==◌, ◌&&◌, Option, Some, None, List, [], ◌∷◌, if◌then◌else◌, IsPermutation, filter, filter_map, length, map, not, flat_map, option_map, slice_get}
+use Rattle.std.specs.Prelude.{◌≡◌, ℕ, Bool, true, false, ◌*◌, ◌<◌, ◌^◌, ◌==◌, ◌&&◌, Option, Some, None, List, []}
+use Rattle.std.specs.Prelude.{◌∷◌, if◌then◌else◌, IsPermutation, filter_map, length, map, flat_map, option_map}
+use Rattle.std.specs.Prelude.{slice_get}
 use Rattle.std.specs.List.{AllByRecursion, list_any}
 use Rattle.std.specs.Option.{option_and_then, option_map_or}
 use Rattle.list_change.specs.Pairing.{Way, by_one, made}
@@ -52,7 +54,8 @@ lone_by size id a (Some l) = None
 -- what it makes with a rule of the node where it comes to
 abbrev pub pair_by : ℕ → ℕ → Rule → Arrival → Option Departure → Option Made
 pair_by size id a y None = None
-pair_by size id a y (Some l) = if l.exit.place == y.place then option_map (made_of_pair id y) (hop_rule size l.rewrite a y.held.item) else None
+pair_by size id a y (Some l) =
+    if l.exit.place == y.place then option_map (made_of_pair id y) (hop_rule size l.rewrite a y.held.item) else None
 
 -- what a rule that leaves so makes with one of the node to which its own link leads
 abbrev pub pair_with : ℕ → ℕ → Rule → Departure → Held Rule → Option Made
@@ -85,11 +88,13 @@ could at exits h y = option_map_or (λ a. could_by a y (leaving exits at.port a.
 
 -- whether what has this tail goes on, from a port, over the link of a place
 abbrev pub leads_to : List Exit → ℕ → Tail → ℕ → Bool
-leads_to exits port tail place = option_map_or (λ (l : Departure). l.exit.place == place) (leaving exits port tail) false
+leads_to exits port tail place =
+    option_map_or (λ (l : Departure). l.exit.place == place) (leaving exits port tail) false
 
 -- whether a rule of the virtual switch stands at a port and goes on from there over the link of a place
 abbrev pub leads_over : Place → List Exit → ℕ → Held Rule → Bool
-leads_over at exits place h = option_map_or (λ (a : Rule). leads_to exits at.port a.tail place) (standing at h.item) false
+leads_over at exits place h =
+    option_map_or (λ (a : Rule). leads_to exits at.port a.tail place) (standing at h.item) false
 
 -- some exit leads to this place
 abbrev pub leads_there : ℕ → List Exit → Bool
@@ -133,7 +138,8 @@ pub record IsAt (size port : ℕ) (b : Rule) : Type 0 where
 
 -- the rules to which an exit leads are of the port there, and below this size
 abbrev pub AreArriving : List NodeOf → ℕ → Exit → Type 0
-AreArriving below size e = AllByRecursion (λ (b : Held Rule). IsAt size e.peer.port b.item) (rules_in (held_at below e.place))
+AreArriving below size e =
+    AllByRecursion (λ (b : Held Rule). IsAt size e.peer.port b.item) (rules_in (held_at below e.place))
 
 -- Each exit leads to another node, which is read; the rules of the virtual switch are below `own`, those to which the
 -- exits lead below `size`, and what both make fits.
@@ -152,14 +158,16 @@ pub record CanMake (size : ℕ) (given : GivenOf) (below : List NodeOf) (a : Rul
   pub set_up : IsSetUp own size given below
   pub is_own : IsOwn own a
 
--- a rule of the node to which the link of a place leads: of the port to which the exits of that place lead, and below this size
+-- a rule of the node to which the link of a place leads: of the port to which the exits of that place lead, and below
+-- this size
 pub record CanMeet (size : ℕ) (exits : List Exit) (place : ℕ) (b : Rule) : Type 0 where
   pub below : b.level < size
   pub arrives : AllByRecursion (λ (e : Exit). (e.place == place) ≡ true → IsAt size e.peer.port b) exits
 
 -- What the rules of a node stand for.
 abbrev pub IsMadeOf : Place → ℕ → List Exit → List (Held Rule) → List NodeOf → List (Held Made) → Type 0
-IsMadeOf at size exits rules below held = IsPermutation (map item_of held) (made (hop_way at size exits) rules (arrivals below exits))
+IsMadeOf at size exits rules below held =
+    IsPermutation (map item_of held) (made (hop_way at size exits) rules (arrivals below exits))
 
 -- a rule as an index finds it
 abbrev pub found : Held Rule → Option Item

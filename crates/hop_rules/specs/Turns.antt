@@ -1,5 +1,6 @@
 -- How the rules of a node change, as those do of which it makes them, and the steps that this takes.
-use Rattle.std.specs.Prelude.{◌≡◌, ℕ, ◌+◌, List, [], ◌++◌, IsPermutation, count_by, filter, filter_map, flat_map, map, not, slice_get, sum_by}
+use Rattle.std.specs.Prelude.{◌≡◌, ℕ, ◌+◌, List, [], ◌++◌, IsPermutation, count_by, filter, filter_map, flat_map}
+use Rattle.std.specs.Prelude.{map, not, slice_get, sum_by}
 use Rattle.std.specs.List.{AllByRecursion}
 use Rattle.std.specs.Option.{option_map_or}
 use Rattle.list_change.specs.Changes.{Apart}
@@ -54,7 +55,8 @@ pub record IsTold (before after : List (Held Made)) (turn : Turn) (left : List M
   pub apart : Apart (map item_of turned.going) (map item_of turned.coming)
 
 -- Of a node's rules those that are made of some names go, and these come; what is made anew stays.
-pub record IsChange (before after : List (Held Made)) (lost : List Origin) (fresh : List Made) (turn : Turn) (left : List Made) : Type 0 where
+pub record IsChange (before after : List (Held Made)) (lost : List Origin) (fresh : List Made) (turn : Turn)
+    (left : List Made) : Type 0 where
   pub told : IsTold before after turn left
   pub items : IsPermutation (map item_of after) (filter (λ m. not (is_made_of lost m)) (map item_of before) ++ fresh)
 
@@ -85,7 +87,8 @@ lost_there turns exits = flat_map (λ (e : Exit). map (arrived e.place) (gone_at
 
 -- what a turn tells of the node at a place is what changed there
 pub record IsTurnedAt (before below : List NodeOf) (turns : List Turn) (place : ℕ) : Type 0 where
-  pub turned : Turned (rules_in (held_at before place)) (rules_in (held_at below place)) (gone_at turns place) (come_at turns place)
+  pub turned : Turned (rules_in (held_at before place)) (rules_in (held_at below place)) (gone_at turns place)
+      (come_at turns place)
   pub rising : Rises (rules_in (held_at before place))
   pub risen : Rises (rules_in (held_at below place))
 

@@ -1,7 +1,8 @@
 //! Where links lead from virtual switches.
 ghost use Rattle.std.specs.Prelude.{◌≡◌, ◌<◌, ◌^◌, IfOk, flat_map, length};
 ghost use Rattle.std.specs.List.{enumerate_from};
-ghost use Rattle.hop_rules.specs.Links.{end as end_of, ends as ends_of, exit_at as exit_at_of, exits as exits_of, port_ends as port_ends_of};
+ghost use Rattle.hop_rules.specs.Links.{end as end_of, ends as ends_of, exit_at as exit_at_of, exits as exits_of};
+ghost use Rattle.hop_rules.specs.Links.{port_ends as port_ends_of};
 
 use cv_io::{List, Memory};
 use policy_meaning::Place;

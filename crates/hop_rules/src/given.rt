@@ -1,5 +1,6 @@
 //! The rules of a virtual switch that were handed over, each under an id.
-ghost use Rattle.std.specs.Prelude.{◌≡◌, ◌==◌, ◌≤◌, ◌∷◌, [], IfOk, IfSome, OnErr, OnOk, IsPermutation, List, Some, false, filter_map, length, map, true};
+ghost use Rattle.std.specs.Prelude.{◌≡◌, ◌==◌, ◌≤◌, ◌∷◌, [], IfOk, IfSome, OnErr, OnOk, IsPermutation, List, Some};
+ghost use Rattle.std.specs.Prelude.{false, filter_map, length, map, true};
 ghost use Rattle.std.specs.List.{list_any};
 ghost use Rattle.match_index.specs.Items.{ids_of};
 ghost use Rattle.match_index.specs.Questions.{is_meeting};
@@ -7,7 +8,8 @@ ghost use Rattle.std.specs.Option.{option_copied};
 ghost use Rattle.rule_ancestry.specs.Holding.{item_at};
 ghost use Rattle.policy_meaning.specs.declared.rule.Rule.{Rule};
 ghost use Rattle.hop_rules.specs.Standing.{over as over_of};
-ghost use Rattle.hop_rules.specs.Handed.{AreFoundAt, AreListed, AreUnlisted, Notes, asks_by, leaves_mark, listed, mark_of, mixed as mixed_of};
+ghost use Rattle.hop_rules.specs.Handed.{AreFoundAt, AreListed, AreUnlisted, Notes, asks_by, leaves_mark, listed};
+ghost use Rattle.hop_rules.specs.Handed.{mark_of, mixed as mixed_of};
 ghost use Rattle.hop_rules.specs.Turns.{Hands};
 ghost use Rattle.hop_rules.specs.Under.{Rises};
 
@@ -139,7 +141,8 @@ fn asked_at(store: &Store<Marked>, exits: &[Exit], id: usize) -> Option<Match>
 /// Lists the rules of these ids, where all others are. This takes no memory.
 fn list_all(index: &mut Index, store: &Store<Marked>, exits: &[Exit], ids: &[usize])
     requires room { length ids.now ≤ index.old.room }
-    requires unlisted { AreUnlisted (record { exits = exits.now; rules = store.now; items = index.old.items }) ids.now }
+    requires unlisted { AreUnlisted (record { exits = exits.now; rules = store.now; items = index.old.items })
+        ids.now }
     ensures { IsPermutation index.new.items (filter_map (listed exits.now) store.now) }
 {
     // That no two are held under one id.
@@ -303,7 +306,7 @@ impl Given {
 }
 
 /// Ids as an index has them.
-pub fn numbers(alloc: Global, ids: &[u64]) -> Result<Vec<usize>, Memory>
+pub(crate) fn numbers(alloc: Global, ids: &[u64]) -> Result<Vec<usize>, Memory>
     ensures { IfOk result (λ numbers. numbers.items ≡ ids.now) }
 {
     let mut numbers = Vec::with_capacity(alloc, ids.len())?;

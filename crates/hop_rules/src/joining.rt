@@ -1,5 +1,6 @@
 //! What rules make at the node of a port.
-ghost use Rattle.std.specs.Prelude.{◌≡◌, ◌+◌, ◌*◌, ◌≤◌, ◌<◌, ◌^◌, ◌++◌, ◌∷◌, [], OnOk, Some, IsPermutation, List, ℕ, count_by, filter_map, length, option_map, option_to_list, true};
+ghost use Rattle.std.specs.Prelude.{◌≡◌, ◌+◌, ◌*◌, ◌≤◌, ◌<◌, ◌^◌, ◌++◌, ◌∷◌, [], OnOk, Some, IsPermutation, List, ℕ};
+ghost use Rattle.std.specs.Prelude.{count_by, filter_map, length, option_map, option_to_list, true};
 ghost use Rattle.std.specs.List.{AllByRecursion};
 ghost use Rattle.alg_priority.specs.Levels.{concat_level};
 ghost use Rattle.of10_match.specs.Matching.{overlaps};
@@ -10,7 +11,8 @@ ghost use Rattle.policy_meaning.specs.declared.rule.Rule.{Rule};
 ghost use Rattle.rule_ancestry.specs.Holding.{Held};
 ghost use Rattle.list_change.specs.Pairing.{by_one};
 ghost use Rattle.made_rules.specs.Rules.{rules_in};
-ghost use Rattle.hop_rules.specs.Nodes.{CanMake, IsAt, IsOwn, IsSetUp, arrivals, arrived as arrived_of, could, held_at, hop_way};
+ghost use Rattle.hop_rules.specs.Nodes.{CanMake, IsAt, IsOwn, IsSetUp, arrivals, arrived as arrived_of, could};
+ghost use Rattle.hop_rules.specs.Nodes.{held_at, hop_way};
 ghost use Rattle.hop_rules.specs.Nodes.{made_alone, made_left, made_of_pair, own as own_of, pair_with};
 ghost use Rattle.hop_rules.specs.Standing.{asked as asked_of, leaving as leaving_of, standing as standing_of};
 ghost use Rattle.hop_rules.specs.Turns.{left_cost};
@@ -28,7 +30,7 @@ use std::alloc::Global;
 use std::sync::ledger::Ledger;
 
 /// The name, among what a rule is made of, of a rule of the virtual switch: a leaf of its nodes.
-pub fn own(id: usize) -> Origin
+pub(crate) fn own(id: usize) -> Origin
     ensures { result ≡ own_of id }
 {
     Origin::Leaf(Leaf {
@@ -38,7 +40,7 @@ pub fn own(id: usize) -> Origin
 }
 
 /// The name of a rule to which the link of a place leads.
-pub fn arrived(place: u32, id: usize) -> Origin
+pub(crate) fn arrived(place: u32, id: usize) -> Origin
     ensures { result ≡ arrived_of place id }
 {
     Origin::Rule { operand: place, id }
@@ -46,9 +48,9 @@ pub fn arrived(place: u32, id: usize) -> Origin
 
 /// A rule and its id.
 #[derive(Clone, Copy)]
-pub struct Numbered<'a> {
-    pub id: usize,
-    pub rule: &'a Rule,
+pub(crate) struct Numbered<'a> {
+    pub(crate) id: usize,
+    pub(crate) rule: &'a Rule,
 }
 
 /// What a node makes rules of: the rules of the virtual switch, and those of the nodes to which links
@@ -70,7 +72,8 @@ fn add_alone<'a, G: Ledger>(
     steps: &mut Steps<G>,
 ) -> Result<(), Memory>
     requires level { concat_level here.rule.now.level 0 size < 2 ^ 64 }
-    ensures pushed { OnOk result (fresh.new.items ≡ fresh.old.items ++ made_alone here.entry.id (hop_lone size here.entry.rule.now) ∷ []) }
+    ensures pushed { OnOk result (fresh.new.items ≡ fresh.old.items
+        ++ made_alone here.entry.id (hop_lone size here.entry.rule.now) ∷ []) }
     ensures step { steps.new ≡ steps.old + 1 }
 {
     let rule = lift(Op::Hop, Side::Left, here.rule, size, steps)?;
@@ -81,7 +84,7 @@ fn add_alone<'a, G: Ledger>(
 
 /// Appends the rule, if there is one, that a rule which stands at the node makes with one to which the
 /// link of a place leads. This is one step.
-pub fn add_pair<'a, G: Ledger>(
+pub(crate) fn add_pair<'a, G: Ledger>(
     alloc: Global,
     size: u64,
     here: Numbered<'a>,
@@ -92,7 +95,10 @@ pub fn add_pair<'a, G: Ledger>(
 ) -> Result<(), Memory>
     requires joins { Joins Hop here.rule.now.tail }
     requires level { concat_level here.rule.now.level there.rule.now.level size < 2 ^ 64 }
-    ensures pushed { OnOk result (fresh.new.items ≡ fresh.old.items ++ option_to_list (option_map (made_of_pair here.entry.id (record { place = place; held = record { id = there.entry.id; item = there.entry.rule.now } })) (joined Hop size here.entry.rule.now there.entry.rule.now))) }
+    ensures pushed { OnOk result (fresh.new.items ≡ fresh.old.items
+        ++ option_to_list (option_map (made_of_pair here.entry.id
+        (record { place = place; held = record { id = there.entry.id; item = there.entry.rule.now } }))
+        (joined Hop size here.entry.rule.now there.entry.rule.now))) }
     ensures step { steps.new ≡ steps.old + 1 }
 {
     if let Some(rule) = join(Op::Hop, here.rule, there.rule, size, steps)? {
@@ -113,10 +119,14 @@ fn add_pair_at<'a, G: Ledger>(
     fresh: &mut Vec<Made>,
     steps: &mut Steps<G>,
 ) -> Result<(), Memory>
-    requires leaving { (exits : List Exit) × (port : ℕ) × (leaving_of exits port here.rule.now.tail ≡ Some departure.now) }
-    requires arriving { AllByRecursion (λ (b : Held Rule). IsAt size departure.now.exit.peer.port b.item) (rules_in there.now.held) }
+    requires leaving { (exits : List Exit) × (port : ℕ)
+        × (leaving_of exits port here.rule.now.tail ≡ Some departure.now) }
+    requires arriving { AllByRecursion (λ (b : Held Rule). IsAt size departure.now.exit.peer.port b.item)
+        (rules_in there.now.held) }
     requires own { (own : ℕ) × IsOwn own here.rule.now × (own * size < 2 ^ 64) }
-    ensures pushed { OnOk result (fresh.new.items ≡ fresh.old.items ++ filter_map (pair_with size here.entry.id here.entry.rule.now departure.now) (held_under (rules_in there.now.held) id)) }
+    ensures pushed { OnOk result (fresh.new.items ≡ fresh.old.items
+        ++ filter_map (pair_with size here.entry.id here.entry.rule.now departure.now)
+        (held_under (rules_in there.now.held) id)) }
     ensures steps { steps.new ≤ steps.old + 1 }
 {
     match there.rule(id) {
@@ -139,10 +149,14 @@ fn add_each_pair<'a, G: Ledger>(
     fresh: &mut Vec<Made>,
     steps: &mut Steps<G>,
 ) -> Result<(), Memory>
-    requires leaving { (exits : List Exit) × (port : ℕ) × (leaving_of exits port here.rule.now.tail ≡ Some departure.now) }
-    requires arriving { AllByRecursion (λ (b : Held Rule). IsAt size departure.now.exit.peer.port b.item) (rules_in there.now.held) }
+    requires leaving { (exits : List Exit) × (port : ℕ)
+        × (leaving_of exits port here.rule.now.tail ≡ Some departure.now) }
+    requires arriving { AllByRecursion (λ (b : Held Rule). IsAt size departure.now.exit.peer.port b.item)
+        (rules_in there.now.held) }
     requires own { (own : ℕ) × IsOwn own here.rule.now × (own * size < 2 ^ 64) }
-    ensures pushed { OnOk result (fresh.new.items ≡ fresh.old.items ++ filter_map (pair_with size here.entry.id here.entry.rule.now departure.now) (under (rules_in there.now.held) ids.now)) }
+    ensures pushed { OnOk result (fresh.new.items ≡ fresh.old.items
+        ++ filter_map (pair_with size here.entry.id here.entry.rule.now departure.now)
+        (under (rules_in there.now.held) ids.now)) }
     ensures steps { OnOk result (steps.new ≤ steps.old + length ids.now) }
 {
     for id in ids {
@@ -162,12 +176,17 @@ fn add_pairs<'a, G: Ledger>(
     fresh: &mut Vec<Made>,
     steps: &mut Steps<G>,
 ) -> Result<(), Memory>
-    requires leaving { (exits : List Exit) × (port : ℕ) × (leaving_of exits port here.rule.now.tail ≡ Some departure.now) }
+    requires leaving { (exits : List Exit) × (port : ℕ)
+        × (leaving_of exits port here.rule.now.tail ≡ Some departure.now) }
     requires read { there.now.read ≡ true }
-    requires arriving { AllByRecursion (λ (b : Held Rule). IsAt size departure.now.exit.peer.port b.item) (rules_in there.now.held) }
+    requires arriving { AllByRecursion (λ (b : Held Rule). IsAt size departure.now.exit.peer.port b.item)
+        (rules_in there.now.held) }
     requires own { (own : ℕ) × IsOwn own here.rule.now × (own * size < 2 ^ 64) }
-    ensures pushed { OnOk result (IsPermutation fresh.new.items (fresh.old.items ++ filter_map (pair_with size here.entry.id here.entry.rule.now departure.now) (rules_in there.now.held))) }
-    ensures steps { OnOk result (steps.new ≤ steps.old + count_by (λ (b : Held Rule). overlaps (asked_of here.entry.rule.now.m departure.now) b.item.m) (rules_in there.now.held)) }
+    ensures pushed { OnOk result (IsPermutation fresh.new.items (fresh.old.items
+        ++ filter_map (pair_with size here.entry.id here.entry.rule.now departure.now) (rules_in there.now.held))) }
+    ensures steps { OnOk result (steps.new ≤ steps.old
+        + count_by (λ (b : Held Rule). overlaps (asked_of here.entry.rule.now.m departure.now) b.item.m)
+        (rules_in there.now.held)) }
 {
     let ids = there.meeting(&asked(&here.rule.m, departure))?;
     add_each_pair(alloc, size, here, departure, there, &ids, fresh, steps)
@@ -184,8 +203,12 @@ fn add_over<'a, G: Ledger>(
 ) -> Result<(), Memory>
     requires around { CanMake around.size around.given.now around.below.now here.rule.now }
     requires leaving { leaving_of around.given.now.exits around.at.port here.rule.now.tail ≡ Some departure.now }
-    ensures pushed { OnOk result (IsPermutation fresh.new.items (fresh.old.items ++ filter_map (pair_with around.entry.size here.entry.id here.entry.rule.now departure.now) (rules_in (held_at around.entry.below.now departure.now.exit.place)))) }
-    ensures steps { OnOk result (steps.new ≤ steps.old + count_by (λ (b : Held Rule). overlaps (asked_of here.entry.rule.now.m departure.now) b.item.m) (rules_in (held_at around.entry.below.now departure.now.exit.place))) }
+    ensures pushed { OnOk result (IsPermutation fresh.new.items (fresh.old.items
+        ++ filter_map (pair_with around.entry.size here.entry.id here.entry.rule.now departure.now)
+        (rules_in (held_at around.entry.below.now departure.now.exit.place)))) }
+    ensures steps { OnOk result (steps.new ≤ steps.old
+        + count_by (λ (b : Held Rule). overlaps (asked_of here.entry.rule.now.m departure.now) b.item.m)
+        (rules_in (held_at around.entry.below.now departure.now.exit.place))) }
 {
     match around.below.get(departure.exit.place as usize) {
         Some(there) => add_pairs(alloc, around.size, here, departure, there, fresh, steps),
@@ -203,9 +226,13 @@ fn add_stood<'a, G: Ledger>(
 ) -> Result<(), Memory>
     requires { CanMake around.size around.given.now around.below.now here.rule.now }
     ensures pushed { (a : Rule) → standing_of around.entry.at a ≡ Some here.entry.rule.now
-        → OnOk result (IsPermutation fresh.new.items (fresh.old.items ++ by_one (hop_way around.entry.at around.entry.size around.entry.given.now.exits) (arrivals around.entry.below.now around.entry.given.now.exits) (record { id = here.entry.id; item = a }))) }
+        → OnOk result (IsPermutation fresh.new.items (fresh.old.items
+        ++ by_one (hop_way around.entry.at around.entry.size around.entry.given.now.exits)
+        (arrivals around.entry.below.now around.entry.given.now.exits) (record { id = here.entry.id; item = a }))) }
     ensures steps { (a : Rule) → standing_of around.entry.at a ≡ Some here.entry.rule.now
-        → OnOk result (steps.new ≤ steps.old + (1 + count_by (could around.entry.at around.entry.given.now.exits (record { id = here.entry.id; item = a })) (arrivals around.entry.below.now around.entry.given.now.exits))) }
+        → OnOk result (steps.new ≤ steps.old + (1
+        + count_by (could around.entry.at around.entry.given.now.exits (record { id = here.entry.id; item = a }))
+        (arrivals around.entry.below.now around.entry.given.now.exits))) }
 {
     match leaving(around.given.exits(), around.at.port, &here.rule.tail) {
         None => add_alone(alloc, around.size, here, fresh, steps),
@@ -222,8 +249,14 @@ fn add_by_left<'a, G: Ledger>(
     steps: &mut Steps<G>,
 ) -> Result<(), Memory>
     requires { CanMake around.size around.given.now around.below.now here.rule.now }
-    ensures pushed { OnOk result (IsPermutation fresh.new.items (fresh.old.items ++ by_one (hop_way around.entry.at around.entry.size around.entry.given.now.exits) (arrivals around.entry.below.now around.entry.given.now.exits) (record { id = here.entry.id; item = here.entry.rule.now }))) }
-    ensures steps { OnOk result (steps.new ≤ steps.old + (1 + count_by (could around.entry.at around.entry.given.now.exits (record { id = here.entry.id; item = here.entry.rule.now })) (arrivals around.entry.below.now around.entry.given.now.exits))) }
+    ensures pushed { OnOk result (IsPermutation fresh.new.items (fresh.old.items
+        ++ by_one (hop_way around.entry.at around.entry.size around.entry.given.now.exits)
+        (arrivals around.entry.below.now around.entry.given.now.exits)
+        (record { id = here.entry.id; item = here.entry.rule.now }))) }
+    ensures steps { OnOk result (steps.new ≤ steps.old
+        + (1 + count_by (could around.entry.at around.entry.given.now.exits
+        (record { id = here.entry.id; item = here.entry.rule.now }))
+        (arrivals around.entry.below.now around.entry.given.now.exits))) }
 {
     let stood = standing(alloc, around.at, here.rule)?;
     match stood {
@@ -247,8 +280,13 @@ fn add_by_left_at<'a, G: Ledger>(
     steps: &mut Steps<G>,
 ) -> Result<(), Memory>
     requires { (own : ℕ) × IsSetUp own around.size around.given.now around.below.now }
-    ensures pushed { OnOk result (IsPermutation fresh.new.items (fresh.old.items ++ made_left around.entry.at around.entry.size around.entry.given.now.exits (arrivals around.entry.below.now around.entry.given.now.exits) (held_under around.entry.given.now.rules id))) }
-    ensures steps { OnOk result (steps.new ≤ steps.old + left_cost around.entry.at around.entry.given.now.exits (arrivals around.entry.below.now around.entry.given.now.exits) (held_under around.entry.given.now.rules id)) }
+    ensures pushed { OnOk result (IsPermutation fresh.new.items (fresh.old.items
+        ++ made_left around.entry.at around.entry.size around.entry.given.now.exits
+        (arrivals around.entry.below.now around.entry.given.now.exits)
+        (held_under around.entry.given.now.rules id))) }
+    ensures steps { OnOk result (steps.new ≤ steps.old
+        + left_cost around.entry.at around.entry.given.now.exits
+        (arrivals around.entry.below.now around.entry.given.now.exits) (held_under around.entry.given.now.rules id)) }
 {
     match around.given.rule(id) {
         Some(rule) => {
@@ -260,7 +298,7 @@ fn add_by_left_at<'a, G: Ledger>(
 }
 
 /// Appends what the rules of the virtual switch of these ids make.
-pub fn add_all_by_left<'a, G: Ledger>(
+pub(crate) fn add_all_by_left<'a, G: Ledger>(
     alloc: Global,
     around: Around<'a>,
     come: &[usize],
@@ -268,8 +306,14 @@ pub fn add_all_by_left<'a, G: Ledger>(
     steps: &mut Steps<G>,
 ) -> Result<(), Memory>
     requires { (own : ℕ) × IsSetUp own around.size around.given.now around.below.now }
-    ensures pushed { OnOk result (IsPermutation fresh.new.items (fresh.old.items ++ made_left around.entry.at around.entry.size around.entry.given.now.exits (arrivals around.entry.below.now around.entry.given.now.exits) (under around.entry.given.now.rules come.now))) }
-    ensures steps { OnOk result (steps.new ≤ steps.old + left_cost around.entry.at around.entry.given.now.exits (arrivals around.entry.below.now around.entry.given.now.exits) (under around.entry.given.now.rules come.now)) }
+    ensures pushed { OnOk result (IsPermutation fresh.new.items (fresh.old.items
+        ++ made_left around.entry.at around.entry.size around.entry.given.now.exits
+        (arrivals around.entry.below.now around.entry.given.now.exits)
+        (under around.entry.given.now.rules come.now))) }
+    ensures steps { OnOk result (steps.new ≤ steps.old
+        + left_cost around.entry.at around.entry.given.now.exits
+        (arrivals around.entry.below.now around.entry.given.now.exits)
+        (under around.entry.given.now.rules come.now)) }
 {
     for id in come {
         add_by_left_at(alloc, around, *id, fresh, steps)?;

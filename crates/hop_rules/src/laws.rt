@@ -17,7 +17,8 @@ ghost use Rattle.hop_rules.specs.declared.exits.LinkEnd.{LinkEnd};
 /// The rules that a node is to make are those of its port from scratch for one hop more, where those of
 /// the nodes to which its exits lead are; and they are normal, of the port and below its size.
 pub fn nodes_are_from_scratch()
-    ensures scratch { (f : Fabric) → (n : ℕ) → (at : Place) → (exits : List Exit) → (rules : List (Held Rule)) → (below : List NodeOf) → (held : List (Held Made))
+    ensures scratch { (f : Fabric) → (n : ℕ) → (at : Place) → (exits : List Exit) → (rules : List (Held Rule))
+        → (below : List NodeOf) → (held : List (Held Made))
         → map exit_link exits ≡ f.links at.v → Once (map (λ (e : Exit). e.place) exits)
         → IsPermutation (map item_of rules) (f.rules at.v) → AllByRecursion (IsOf f n below) exits
         → IsMadeOf at (peers_size (hop_size f n) (f.links at.v)) exits rules below held
@@ -32,7 +33,8 @@ pub fn nodes_set_up_those_above()
     ensures { (f : Fabric) → ((v : ℕ) → AllByRecursion (IsOwn (f.sizes v)) (f.rules v))
         → (n : ℕ) → (below : List NodeOf) → (v : ℕ) → (given : GivenOf)
         → map exit_link given.exits ≡ f.links v → Once (map (λ (e : Exit). e.place) given.exits)
-        → AllByRecursion (λ (e : Exit). e.place < length below) given.exits → AllByRecursion (λ (m : NodeOf). m.read ≡ true) below
+        → AllByRecursion (λ (e : Exit). e.place < length below) given.exits
+        → AllByRecursion (λ (m : NodeOf). m.read ≡ true) below
         → IsPermutation (map item_of given.rules) (f.rules v) → AllByRecursion (IsOf f n below) given.exits
         → hop_size f (suc n) v < 2 ^ 64
         → IsSetUp (f.sizes v) (peers_size (hop_size f n) (f.links v)) given below }

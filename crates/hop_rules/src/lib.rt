@@ -7,14 +7,13 @@
 pub mod delta;
 pub mod exits;
 pub mod given;
-pub mod joining;
+mod joining;
 pub mod laws;
 mod level;
 mod listing;
-pub mod meeting;
+mod meeting;
 pub mod node;
-pub mod standing;
-pub mod table;
+mod standing;
 pub mod turning;
 
 pub use delta::PortDelta;

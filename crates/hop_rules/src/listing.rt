@@ -1,5 +1,6 @@
 //! Rules in an index, each by a match of it.
-ghost use Rattle.std.specs.Prelude.{◌≡◌, ◌+◌, ◌<◌, ◌≤◌, ◌++◌, Option, List, IsPermutation, false, filter, filter_map, option_map, option_to_list};
+ghost use Rattle.std.specs.Prelude.{◌≡◌, ◌+◌, ◌<◌, ◌≤◌, ◌++◌, Option, List, IsPermutation, false, filter};
+ghost use Rattle.std.specs.Prelude.{filter_map, option_map, option_to_list};
 ghost use Rattle.std.specs.List.{list_any};
 ghost use Rattle.match_index.specs.Items.{has_id};
 ghost use Rattle.match_index.specs.declared.item.Item.{Item};
@@ -12,7 +13,8 @@ use of10_match::Match;
 
 /// The rule of an id is found no longer.
 pub(crate) fn hide_one(index: &mut Index, id: usize)
-    ensures items { (shown : Held Rule → Option Item) → IsNumbered shown → (rules : List (Held Rule)) → IsPermutation index.old.items (filter_map shown rules)
+    ensures items { (shown : Held Rule → Option Item) → IsNumbered shown → (rules : List (Held Rule))
+        → IsPermutation index.old.items (filter_map shown rules)
         → IsPermutation index.new.items (filter_map shown (filter (is_other id) rules)) }
     ensures room { index.new.room ≡ index.old.room }
 {
@@ -23,7 +25,8 @@ pub(crate) fn hide_one(index: &mut Index, id: usize)
 
 /// The rules of these ids are found no longer.
 pub(crate) fn hide(index: &mut Index, ids: &[usize])
-    ensures items { (shown : Held Rule → Option Item) → IsNumbered shown → (rules : List (Held Rule)) → IsPermutation index.old.items (filter_map shown rules)
+    ensures items { (shown : Held Rule → Option Item) → IsNumbered shown → (rules : List (Held Rule))
+        → IsPermutation index.old.items (filter_map shown rules)
         → IsPermutation index.new.items (filter_map shown (filter (is_outside ids.now) rules)) }
     ensures room { index.new.room ≡ index.old.room }
 {

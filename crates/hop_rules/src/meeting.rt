@@ -1,5 +1,6 @@
 //! What rules make that come to the nodes to which links lead.
-ghost use Rattle.std.specs.Prelude.{◌≡◌, ◌+◌, ◌*◌, ◌≤◌, ◌<◌, ◌^◌, ◌++◌, ◌∷◌, [], OnOk, IsPermutation, List, ℕ, count_by, filter_map, map, option_to_list, true};
+ghost use Rattle.std.specs.Prelude.{◌≡◌, ◌+◌, ◌*◌, ◌≤◌, ◌<◌, ◌^◌, ◌++◌, ◌∷◌, [], OnOk, IsPermutation, List, ℕ};
+ghost use Rattle.std.specs.Prelude.{count_by, filter_map, map, option_to_list, true};
 ghost use Rattle.std.specs.List.{AllByRecursion};
 ghost use Rattle.policy_meaning.specs.declared.rule.Rule.{Rule};
 ghost use Rattle.rule_ancestry.specs.Holding.{Held};
@@ -42,8 +43,13 @@ fn add_met<'a, G: Ledger>(
 ) -> Result<(), Memory>
     requires own { (own : ℕ) × (here.rule.now.level < own) × (own * around.size < 2 ^ 64) }
     requires below { there.rule.now.level < around.size }
-    ensures pushed { OnOk result (fresh.new.items ≡ fresh.old.items ++ option_to_list ((hop_way around.entry.at around.entry.size around.entry.given.now.exits).pair (record { id = here.entry.id; item = here.entry.rule.now }) (arrival place (record { id = there.entry.id; item = there.entry.rule.now })))) }
-    ensures steps { OnOk result (steps.new ≤ steps.old + count_by (leads_over around.entry.at around.entry.given.now.exits place) (record { id = here.entry.id; item = here.entry.rule.now } ∷ [])) }
+    ensures pushed { OnOk result (fresh.new.items ≡ fresh.old.items
+        ++ option_to_list ((hop_way around.entry.at around.entry.size around.entry.given.now.exits).pair
+        (record { id = here.entry.id; item = here.entry.rule.now })
+        (arrival place (record { id = there.entry.id; item = there.entry.rule.now })))) }
+    ensures steps { OnOk result (steps.new ≤ steps.old
+        + count_by (leads_over around.entry.at around.entry.given.now.exits place)
+        (record { id = here.entry.id; item = here.entry.rule.now } ∷ [])) }
 {
     if !leads_to(around.given, around.at.port, here.rule, place) {
         return Ok(());
@@ -74,8 +80,13 @@ fn add_met_at<'a, G: Ledger>(
 ) -> Result<(), Memory>
     requires around { (own : ℕ) × IsSetUp own around.size around.given.now around.below.now }
     requires below { there.rule.now.level < around.size }
-    ensures pushed { OnOk result (fresh.new.items ≡ fresh.old.items ++ filter_map (λ h. (hop_way around.entry.at around.entry.size around.entry.given.now.exits).pair h (arrival place (record { id = there.entry.id; item = there.entry.rule.now }))) (held_under around.entry.given.now.rules id)) }
-    ensures steps { OnOk result (steps.new ≤ steps.old + count_by (leads_over around.entry.at around.entry.given.now.exits place) (held_under around.entry.given.now.rules id)) }
+    ensures pushed { OnOk result (fresh.new.items ≡ fresh.old.items
+        ++ filter_map (λ h. (hop_way around.entry.at around.entry.size around.entry.given.now.exits).pair h
+        (arrival place (record { id = there.entry.id; item = there.entry.rule.now })))
+        (held_under around.entry.given.now.rules id)) }
+    ensures steps { OnOk result (steps.new ≤ steps.old
+        + count_by (leads_over around.entry.at around.entry.given.now.exits place)
+        (held_under around.entry.given.now.rules id)) }
 {
     match around.given.rule(id) {
         Some(rule) => {
@@ -99,8 +110,13 @@ fn add_each_met<'a, G: Ledger>(
 ) -> Result<(), Memory>
     requires around { (own : ℕ) × IsSetUp own around.size around.given.now around.below.now }
     requires below { there.rule.now.level < around.size }
-    ensures pushed { OnOk result (fresh.new.items ≡ fresh.old.items ++ filter_map (λ h. (hop_way around.entry.at around.entry.size around.entry.given.now.exits).pair h (arrival place (record { id = there.entry.id; item = there.entry.rule.now }))) (under around.entry.given.now.rules ids.now)) }
-    ensures steps { OnOk result (steps.new ≤ steps.old + count_by (leads_over around.entry.at around.entry.given.now.exits place) (under around.entry.given.now.rules ids.now)) }
+    ensures pushed { OnOk result (fresh.new.items ≡ fresh.old.items
+        ++ filter_map (λ h. (hop_way around.entry.at around.entry.size around.entry.given.now.exits).pair h
+        (arrival place (record { id = there.entry.id; item = there.entry.rule.now })))
+        (under around.entry.given.now.rules ids.now)) }
+    ensures steps { OnOk result (steps.new ≤ steps.old
+        + count_by (leads_over around.entry.at around.entry.given.now.exits place)
+        (under around.entry.given.now.rules ids.now)) }
 {
     for id in ids {
         add_met_at(alloc, around, *id, place, there, fresh, steps)?;
@@ -120,10 +136,15 @@ fn add_by_right<'a, G: Ledger>(
 ) -> Result<(), Memory>
     requires around { (own : ℕ) × IsSetUp own around.size around.given.now around.below.now }
     requires there { CanMeet around.size around.given.now.exits place there.rule.now }
-    ensures pushed { (kept : List (Held Rule)) → AreListed around.entry.given.now kept → AreFound around.entry.given.now.rules kept
-        → OnOk result (IsPermutation fresh.new.items (fresh.old.items ++ filter_map (λ h. (hop_way around.entry.at around.entry.size around.entry.given.now.exits).pair h (arrival place (record { id = there.entry.id; item = there.entry.rule.now }))) kept)) }
-    ensures steps { (kept : List (Held Rule)) → AreListed around.entry.given.now kept → AreFound around.entry.given.now.rules kept
-        → OnOk result (steps.new ≤ steps.old + count_by (λ h. could around.entry.at around.entry.given.now.exits h (arrival place (record { id = there.entry.id; item = there.entry.rule.now }))) kept) }
+    ensures pushed { (kept : List (Held Rule)) → AreListed around.entry.given.now kept
+        → AreFound around.entry.given.now.rules kept
+        → OnOk result (IsPermutation fresh.new.items (fresh.old.items
+        ++ filter_map (λ h. (hop_way around.entry.at around.entry.size around.entry.given.now.exits).pair h
+        (arrival place (record { id = there.entry.id; item = there.entry.rule.now }))) kept)) }
+    ensures steps { (kept : List (Held Rule)) → AreListed around.entry.given.now kept
+        → AreFound around.entry.given.now.rules kept
+        → OnOk result (steps.new ≤ steps.old + count_by (λ h. could around.entry.at around.entry.given.now.exits h
+        (arrival place (record { id = there.entry.id; item = there.entry.rule.now }))) kept) }
 {
     let ids = around.given.meeting(&there.rule.m)?;
     add_each_met(alloc, around, &ids, place, there, fresh, steps)
@@ -140,11 +161,17 @@ fn add_by_right_at<'a, G: Ledger>(
     steps: &mut Steps<G>,
 ) -> Result<(), Memory>
     requires around { (own : ℕ) × IsSetUp own around.size around.given.now around.below.now }
-    requires there { AllByRecursion (λ (b : Held Rule). CanMeet around.size around.given.now.exits place b.item) (rules_in node.now.held) }
-    ensures pushed { (kept : List (Held Rule)) → AreListed around.entry.given.now kept → AreFound around.entry.given.now.rules kept
-        → OnOk result (IsPermutation fresh.new.items (fresh.old.items ++ made_right around.entry.at around.entry.size around.entry.given.now.exits kept (map (arrival place) (held_under (rules_in node.now.held) id)))) }
-    ensures steps { (kept : List (Held Rule)) → AreListed around.entry.given.now kept → AreFound around.entry.given.now.rules kept
-        → OnOk result (steps.new ≤ steps.old + right_cost around.entry.at around.entry.given.now.exits kept (map (arrival place) (held_under (rules_in node.now.held) id))) }
+    requires there { AllByRecursion (λ (b : Held Rule). CanMeet around.size around.given.now.exits place b.item)
+        (rules_in node.now.held) }
+    ensures pushed { (kept : List (Held Rule)) → AreListed around.entry.given.now kept
+        → AreFound around.entry.given.now.rules kept
+        → OnOk result (IsPermutation fresh.new.items (fresh.old.items
+        ++ made_right around.entry.at around.entry.size around.entry.given.now.exits kept
+        (map (arrival place) (held_under (rules_in node.now.held) id)))) }
+    ensures steps { (kept : List (Held Rule)) → AreListed around.entry.given.now kept
+        → AreFound around.entry.given.now.rules kept
+        → OnOk result (steps.new ≤ steps.old + right_cost around.entry.at around.entry.given.now.exits kept
+        (map (arrival place) (held_under (rules_in node.now.held) id))) }
 {
     match node.rule(id) {
         Some(rule) => {
@@ -166,11 +193,17 @@ fn add_each_by_right<'a, G: Ledger>(
     steps: &mut Steps<G>,
 ) -> Result<(), Memory>
     requires around { (own : ℕ) × IsSetUp own around.size around.given.now around.below.now }
-    requires there { AllByRecursion (λ (b : Held Rule). CanMeet around.size around.given.now.exits place b.item) (rules_in node.now.held) }
-    ensures pushed { (kept : List (Held Rule)) → AreListed around.entry.given.now kept → AreFound around.entry.given.now.rules kept
-        → OnOk result (IsPermutation fresh.new.items (fresh.old.items ++ made_right around.entry.at around.entry.size around.entry.given.now.exits kept (map (arrival place) (under (rules_in node.now.held) come.now)))) }
-    ensures steps { (kept : List (Held Rule)) → AreListed around.entry.given.now kept → AreFound around.entry.given.now.rules kept
-        → OnOk result (steps.new ≤ steps.old + right_cost around.entry.at around.entry.given.now.exits kept (map (arrival place) (under (rules_in node.now.held) come.now))) }
+    requires there { AllByRecursion (λ (b : Held Rule). CanMeet around.size around.given.now.exits place b.item)
+        (rules_in node.now.held) }
+    ensures pushed { (kept : List (Held Rule)) → AreListed around.entry.given.now kept
+        → AreFound around.entry.given.now.rules kept
+        → OnOk result (IsPermutation fresh.new.items (fresh.old.items
+        ++ made_right around.entry.at around.entry.size around.entry.given.now.exits kept
+        (map (arrival place) (under (rules_in node.now.held) come.now)))) }
+    ensures steps { (kept : List (Held Rule)) → AreListed around.entry.given.now kept
+        → AreFound around.entry.given.now.rules kept
+        → OnOk result (steps.new ≤ steps.old + right_cost around.entry.at around.entry.given.now.exits kept
+        (map (arrival place) (under (rules_in node.now.held) come.now))) }
 {
     for id in come {
         add_by_right_at(alloc, around, place, node, *id, fresh, steps)?;
@@ -179,7 +212,7 @@ fn add_each_by_right<'a, G: Ledger>(
 }
 
 /// Appends what the rules of these ids make that came where the link of a place leads.
-pub fn add_all_by_right<'a, G: Ledger>(
+pub(crate) fn add_all_by_right<'a, G: Ledger>(
     alloc: Global,
     around: Around<'a>,
     place: u32,
@@ -189,10 +222,15 @@ pub fn add_all_by_right<'a, G: Ledger>(
 ) -> Result<(), Memory>
     requires around { (own : ℕ) × IsSetUp own around.size around.given.now around.below.now }
     requires exit { leads_there place around.given.now.exits ≡ true }
-    ensures pushed { (kept : List (Held Rule)) → AreListed around.entry.given.now kept → AreFound around.entry.given.now.rules kept
-        → OnOk result (IsPermutation fresh.new.items (fresh.old.items ++ made_right around.entry.at around.entry.size around.entry.given.now.exits kept (map (arrival place) (under (rules_in (held_at around.entry.below.now place)) come.now)))) }
-    ensures steps { (kept : List (Held Rule)) → AreListed around.entry.given.now kept → AreFound around.entry.given.now.rules kept
-        → OnOk result (steps.new ≤ steps.old + right_cost around.entry.at around.entry.given.now.exits kept (map (arrival place) (under (rules_in (held_at around.entry.below.now place)) come.now))) }
+    ensures pushed { (kept : List (Held Rule)) → AreListed around.entry.given.now kept
+        → AreFound around.entry.given.now.rules kept
+        → OnOk result (IsPermutation fresh.new.items (fresh.old.items
+        ++ made_right around.entry.at around.entry.size around.entry.given.now.exits kept
+        (map (arrival place) (under (rules_in (held_at around.entry.below.now place)) come.now)))) }
+    ensures steps { (kept : List (Held Rule)) → AreListed around.entry.given.now kept
+        → AreFound around.entry.given.now.rules kept
+        → OnOk result (steps.new ≤ steps.old + right_cost around.entry.at around.entry.given.now.exits kept
+        (map (arrival place) (under (rules_in (held_at around.entry.below.now place)) come.now))) }
 {
     match around.below.get(place as usize) {
         Some(node) => add_each_by_right(alloc, around, place, node, come, fresh, steps),

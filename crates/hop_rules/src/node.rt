@@ -1,5 +1,6 @@
 //! The rules of the node of a port.
-ghost use Rattle.std.specs.Prelude.{◌≡◌, ◌≤◌, ◌∷◌, [], IfOk, OnErr, OnOk, IsPermutation, filter, filter_map, length, map, option_map, true};
+ghost use Rattle.std.specs.Prelude.{◌≡◌, ◌≤◌, ◌∷◌, [], IfOk, OnErr, OnOk, IsPermutation, filter, filter_map, length};
+ghost use Rattle.std.specs.Prelude.{map, option_map, true};
 ghost use Rattle.std.specs.Option.{option_copied};
 ghost use Rattle.of10_match.specs.Matching.{overlaps};
 ghost use Rattle.rule_ancestry.specs.Holding.{Held, id_of, item_at, item_of};
@@ -188,7 +189,8 @@ impl Node {
     /// The ids of the rules whose match overlaps, of a node that is read.
     pub fn meeting(&self, m: &Match) -> Result<Vec<usize>, Memory>
         requires { self.now.read ≡ true }
-        ensures ids { IfOk result (λ ids. IsPermutation ids.items (map id_of (filter (λ (h : Held Rule). overlaps m.now h.item.m) (rules_in self.now.held)))) }
+        ensures ids { IfOk result (λ ids. IsPermutation ids.items
+            (map id_of (filter (λ (h : Held Rule). overlaps m.now h.item.m) (rules_in self.now.held)))) }
         ensures rising { OnOk result (Rises (rules_in self.now.held)) }
     {
         let _count = self.store.len();
@@ -200,7 +202,8 @@ impl Node {
     /// Rules that are made of some of these go, and some come; what is made anew stays. What goes is
     /// handed out.
     pub fn change(&mut self, lost: &[Origin], fresh: Vec<Made>) -> Result<(Turn, Vec<Made>), Memory>
-        ensures change { IfOk result (λ turned. IsChange self.old.held self.new.held lost.now fresh.items turned.0 turned.1.items) }
+        ensures change { IfOk result (λ turned. IsChange self.old.held self.new.held lost.now fresh.items turned.0
+            turned.1.items) }
         ensures read { self.new.read ≡ self.old.read }
         ensures memory { OnErr result (self.new ≡ self.old) }
     {

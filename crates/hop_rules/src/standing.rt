@@ -1,6 +1,7 @@
 //! Rules of a virtual switch as they stand at one of its ports, and where they lead from there.
 ghost use Rattle.std.specs.Prelude.{◌≡◌, IfOk, Some};
-ghost use Rattle.hop_rules.specs.Standing.{asked as asked_of, exit_of as exit_among, leaving as leaving_of, over as over_of, standing as standing_of};
+ghost use Rattle.hop_rules.specs.Standing.{asked as asked_of, exit_of as exit_among, leaving as leaving_of};
+ghost use Rattle.hop_rules.specs.Standing.{over as over_of, standing as standing_of};
 
 use crate::exits::Exit;
 use cv_io::Memory;

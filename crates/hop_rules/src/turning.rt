@@ -6,7 +6,8 @@ ghost use Rattle.policy_meaning.specs.declared.rule.Rule.{Rule};
 ghost use Rattle.hop_rules.specs.Handed.{AreListed};
 ghost use Rattle.hop_rules.specs.Nodes.{IsMadeOf, IsSetUp, NodeOf, arrivals, arrived as arrived_of, leads_there};
 ghost use Rattle.hop_rules.specs.Nodes.{made_left, made_right, own as own_of};
-ghost use Rattle.hop_rules.specs.Turns.{AreTurned, IsOwnTurn, IsTold, came_there, come_at, gone_at, left_cost, lost_there, right_cost, stayed};
+ghost use Rattle.hop_rules.specs.Turns.{AreTurned, IsOwnTurn, IsTold, came_there, come_at, gone_at, left_cost};
+ghost use Rattle.hop_rules.specs.Turns.{lost_there, right_cost, stayed};
 ghost use Rattle.hop_rules.specs.Under.{AreFound, under};
 ghost use Rattle.hop_rules.specs.declared.exits.Exit.{Exit};
 
@@ -79,10 +80,15 @@ fn add_by_exits<'a, G: Ledger>(
 ) -> Result<(), Memory>
     requires around { (own : ℕ) × IsSetUp own around.size around.given.now around.below.now }
     requires exits { AllByRecursion (λ (e : Exit). leads_there e.place around.given.now.exits ≡ true) exits.now }
-    ensures pushed { (kept : List (Held Rule)) → AreListed around.entry.given.now kept → AreFound around.entry.given.now.rules kept
-        → OnOk result (IsPermutation fresh.new.items (fresh.old.items ++ made_right around.entry.at around.entry.size around.entry.given.now.exits kept (came_there around.entry.below.now turns.now exits.now))) }
-    ensures steps { (kept : List (Held Rule)) → AreListed around.entry.given.now kept → AreFound around.entry.given.now.rules kept
-        → OnOk result (steps.new ≤ steps.old + right_cost around.entry.at around.entry.given.now.exits kept (came_there around.entry.below.now turns.now exits.now)) }
+    ensures pushed { (kept : List (Held Rule)) → AreListed around.entry.given.now kept
+        → AreFound around.entry.given.now.rules kept
+        → OnOk result (IsPermutation fresh.new.items (fresh.old.items
+        ++ made_right around.entry.at around.entry.size around.entry.given.now.exits kept
+        (came_there around.entry.below.now turns.now exits.now))) }
+    ensures steps { (kept : List (Held Rule)) → AreListed around.entry.given.now kept
+        → AreFound around.entry.given.now.rules kept
+        → OnOk result (steps.new ≤ steps.old + right_cost around.entry.at around.entry.given.now.exits kept
+        (came_there around.entry.below.now turns.now exits.now)) }
 {
     for exit in exits {
         let come = come_there(turns, exit.place);
@@ -101,12 +107,19 @@ fn made_fresh<'a, G: Ledger>(
     steps: &mut Steps<G>,
 ) -> Result<Vec<Made>, Memory>
     requires { (own : ℕ) × IsSetUp own around.size around.given.now around.below.now }
-    ensures made { (kept : List (Held Rule)) → AreListed around.entry.given.now kept → AreFound around.entry.given.now.rules kept
-        → IfOk result (λ fresh. IsPermutation fresh.items (made_left around.entry.at around.entry.size around.entry.given.now.exits (arrivals around.entry.below.now around.entry.given.now.exits) (under around.entry.given.now.rules come.now)
-        ++ made_right around.entry.at around.entry.size around.entry.given.now.exits kept (came_there around.entry.below.now turns.now around.entry.given.now.exits))) }
-    ensures steps { (kept : List (Held Rule)) → AreListed around.entry.given.now kept → AreFound around.entry.given.now.rules kept
-        → OnOk result (steps.new ≤ steps.old + (left_cost around.entry.at around.entry.given.now.exits (arrivals around.entry.below.now around.entry.given.now.exits) (under around.entry.given.now.rules come.now)
-        + right_cost around.entry.at around.entry.given.now.exits kept (came_there around.entry.below.now turns.now around.entry.given.now.exits))) }
+    ensures made { (kept : List (Held Rule)) → AreListed around.entry.given.now kept
+        → AreFound around.entry.given.now.rules kept
+        → IfOk result (λ fresh. IsPermutation fresh.items
+        (made_left around.entry.at around.entry.size around.entry.given.now.exits
+        (arrivals around.entry.below.now around.entry.given.now.exits) (under around.entry.given.now.rules come.now)
+        ++ made_right around.entry.at around.entry.size around.entry.given.now.exits kept
+        (came_there around.entry.below.now turns.now around.entry.given.now.exits))) }
+    ensures steps { (kept : List (Held Rule)) → AreListed around.entry.given.now kept
+        → AreFound around.entry.given.now.rules kept
+        → OnOk result (steps.new ≤ steps.old + (left_cost around.entry.at around.entry.given.now.exits
+        (arrivals around.entry.below.now around.entry.given.now.exits) (under around.entry.given.now.rules come.now)
+        + right_cost around.entry.at around.entry.given.now.exits kept
+        (came_there around.entry.below.now turns.now around.entry.given.now.exits))) }
 {
     let mut fresh = Vec::new(alloc);
     add_all_by_left(alloc, around, come, &mut fresh, steps)?;
@@ -136,11 +149,15 @@ pub fn change_node<'a, G: Ledger>(
     ensures made { (xs : List (Held Rule)) → (before : List NodeOf) → IsOwnTurn xs around.entry.given.now own_turn.now
         → AreTurned before around.entry.below.now turns.now around.entry.given.now.exits
         → IsMadeOf around.entry.at around.entry.size around.entry.given.now.exits xs before node.old.held
-        → OnOk result (IsMadeOf around.entry.at around.entry.size around.entry.given.now.exits around.entry.given.now.rules around.entry.below.now node.new.held) }
+        → OnOk result (IsMadeOf around.entry.at around.entry.size around.entry.given.now.exits
+        around.entry.given.now.rules around.entry.below.now node.new.held) }
     ensures told { IfOk result (λ turned. IsTold node.old.held node.new.held turned.0 turned.1.items) }
     ensures steps { (xs : List (Held Rule)) → IsOwnTurn xs around.entry.given.now own_turn.now
-        → OnOk result (steps.new ≤ steps.old + (left_cost around.entry.at around.entry.given.now.exits (arrivals around.entry.below.now around.entry.given.now.exits) (under around.entry.given.now.rules own_turn.now.come)
-        + right_cost around.entry.at around.entry.given.now.exits (stayed around.entry.given.now own_turn.now.come) (came_there around.entry.below.now turns.now around.entry.given.now.exits))) }
+        → OnOk result (steps.new ≤ steps.old + (left_cost around.entry.at around.entry.given.now.exits
+        (arrivals around.entry.below.now around.entry.given.now.exits)
+        (under around.entry.given.now.rules own_turn.now.come)
+        + right_cost around.entry.at around.entry.given.now.exits (stayed around.entry.given.now own_turn.now.come)
+        (came_there around.entry.below.now turns.now around.entry.given.now.exits))) }
     ensures read { node.new.read ≡ node.old.read }
     ensures memory { OnErr result (node.new ≡ node.old) }
 {

@@ -1,4 +1,4 @@
-use Rattle.std.proofs.Common.{◌++◌, ◌+◌, ◌≤◌, ap, arith, subst, sym}
+use Rattle.std.proofs.Common.{◌++◌, ◌+◌, ◌≤◌, arith, subst, sym}
 use Rattle.std.specs.Prelude.{IsPermutation, count_by}
 use Rattle.std.proofs.lemmas.Grind.{flat_map-append}
 use Rattle.std.proofs.lemmas.List.{append-nil}

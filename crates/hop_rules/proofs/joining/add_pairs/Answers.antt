@@ -1,4 +1,4 @@
-use Rattle.std.proofs.Common.{◌+◌, ◌≤◌, ap, map, subst, sym}
+use Rattle.std.proofs.Common.{◌+◌, ◌≤◌, map, subst, sym}
 use Rattle.std.specs.Prelude.{IsPermutation, filter}
 use Rattle.std.proofs.lemmas.Result.{on_ok_weaker}
 use Rattle.of10_match.specs.Matching.{overlaps}

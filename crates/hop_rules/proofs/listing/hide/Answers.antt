@@ -1,4 +1,4 @@
-use Rattle.std.proofs.Common.{◌∙◌, refl, sym, subst, ap, take, arith}
+use Rattle.std.proofs.Common.{◌∙◌, refl, sym, subst, take, arith}
 use Rattle.std.specs.Prelude.{IsPermutation, filter, filter_map}
 use Rattle.std.proofs.lemmas.List.{take_all}
 use Rattle.rule_ancestry.specs.Holding.{is_outside}

@@ -1,5 +1,5 @@
 use Rattle.std.proofs.Common.{◌∙◌, ◌++◌, ◌+◌, ◌≤◌, List, ap, arith, map, subst, sym}
-use Rattle.std.specs.Prelude.{IsPermutation, count_by, filter_map, flat_map}
+use Rattle.std.specs.Prelude.{IsPermutation, count_by, filter_map}
 use Rattle.std.proofs.lemmas.Grind.{flat_map-append}
 use Rattle.std.proofs.lemmas.List.{append-nil, map-append}
 use Rattle.std.proofs.lemmas.List.Sums.{sum_by-append}

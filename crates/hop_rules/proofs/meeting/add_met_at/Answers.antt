@@ -1,4 +1,4 @@
-use Rattle.std.proofs.Common.{◌∙◌, ◌++◌, ◌+◌, ap, arith, sym}
+use Rattle.std.proofs.Common.{◌∙◌, ◌++◌, ap, arith, sym}
 use Rattle.std.specs.Prelude.{count_by, filter_map}
 use Rattle.std.proofs.lemmas.Result.{on_ok_weaker}
 use Rattle.policy_meaning.specs.declared.rule.Rule.{Rule}

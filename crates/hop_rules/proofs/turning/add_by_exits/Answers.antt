@@ -1,4 +1,4 @@
-use Rattle.std.proofs.Common.{◌++◌, ◌+◌, ◌≤◌, ap, arith, subst, sym, ◌≡◌, get_or, refl, true, List}
+use Rattle.std.proofs.Common.{◌++◌, ◌+◌, ◌≤◌, arith, subst, sym, ◌≡◌, get_or, refl, true}
 use Rattle.std.proofs.lemmas.List.Elements.{All-from_recursion}
 use Rattle.std.specs.Prelude.{IsPermutation}
 use Rattle.std.proofs.lemmas.List.{append-nil, take_all}

@@ -1,10 +1,8 @@
-use Rattle.std.proofs.Common.{◌≡◌, ◌∙◌, ◌++◌, ◌+◌, ◌≤◌, List, ap, map, not, subst}
+use Rattle.std.proofs.Common.{◌≡◌, ◌∙◌, ◌++◌, ◌+◌, ◌≤◌, List, map, not, subst}
 use Rattle.std.specs.Prelude.{IsPermutation, filter}
 use Rattle.std.proofs.lemmas.Result.{IfOk-weaker}
-use Rattle.policy_meaning.specs.declared.rule.Rule.{Rule}
 use Rattle.rule_ancestry.specs.Holding.{item_of}
 use Rattle.made_rules.specs.Rules.{is_made_of}
-use Rattle.made_rules.specs.declared.made.Made.{Made}
 use Rattle.made_rules.specs.declared.made.Origin.{Origin}
 use Rattle.hop_rules.specs.Nodes.{IsMadeOf, arrivals, made_left, made_right, own}
 use Rattle.hop_rules.specs.Turns.{came_there, left_cost, lost_there, right_cost, stayed}

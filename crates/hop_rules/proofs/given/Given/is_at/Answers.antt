@@ -1,6 +1,5 @@
 use Rattle.std.proofs.Common.{◌≡◌, ◌∙◌, Some, ap, sym, true, false}
 use Rattle.made_rules.proofs.SameRules.{rule_decides}
-use Rattle.policy_meaning.specs.declared.rule.Rule.{Rule}
 use Rattle.hop_rules.proofs.given.Given.is_at.Goals as goal
 
 pub returns-in-Some-clause-yes : goal.returns-in-Some-clause-yes

@@ -1,4 +1,4 @@
-use Rattle.std.proofs.Common.{◌≡◌, ◌∙◌, ap, arith, subst, sym}
+use Rattle.std.proofs.Common.{◌≡◌, ◌∙◌, arith, subst, sym}
 use Rattle.std.specs.Prelude.{IsPermutation, filter_map}
 use Rattle.hop_rules.specs.Handed.{AreUnlisted, GivenOf, listed}
 use Rattle.hop_rules.proofs.given.Given.list.Goals as goal

@@ -2,7 +2,6 @@ use Rattle.std.proofs.Common.{◌∙◌, ◌++◌, List, ap, arith, length, subs
 use Rattle.std.specs.List.Sorted.{IsStrictlySortedBy}
 use Rattle.std.specs.Ordering.{nat_cmp}
 use Rattle.std.specs.Prelude.{IsPermutation, filter_map}
-use Rattle.rule_ancestry.specs.Holding.{Held}
 use Rattle.made_rules.specs.Rules.{rules_in}
 use Rattle.match_index.specs.declared.item.Item.{Item}
 use Rattle.hop_rules.specs.Nodes.{NodeOf, found}
