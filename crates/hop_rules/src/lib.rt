@@ -14,6 +14,7 @@ mod listing;
 mod meeting;
 pub mod node;
 mod standing;
+pub mod table;
 pub mod turning;
 
 pub use delta::PortDelta;
@@ -23,3 +24,8 @@ pub use joining::Around;
 pub use node::{Node, Turn};
 pub use table::HopTable;
 pub use turning::change_node;
+
+#[cfg(test)]
+mod folding;
+#[cfg(test)]
+mod tests;

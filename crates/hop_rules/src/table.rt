@@ -315,10 +315,7 @@ impl HopTable {
         steps: &mut Steps<G>,
     ) -> Result<List<PortDelta>, Memory> {
         let alloc = self.alloc;
-        let turn = Turn {
-            gone: List::from_vec(self.given[v as usize].take(delta.gone.as_slice())?),
-            come: List::from_vec(self.given[v as usize].put(delta.come.as_slice())?),
-        };
+        let turn = self.given[v as usize].turn(delta.gone.as_slice(), delta.come.as_slice())?;
         let event = Event { v, turn };
         let mut turns = still(alloc, self.levels[0].nodes.len())?;
         for n in 1..self.levels.len() {
