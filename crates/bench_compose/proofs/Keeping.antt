@@ -1,0 +1,83 @@
+-- What a compiled expression has stays through changes of its members.
+use Rattle.std.proofs.Common.{◌≡◌, ◌≢◌, ℕ, ◌==◌, ◌<◌, Bool, true, false, ◌||◌, if◌then◌else◌, inl, inr, List, length, refl, sym, ap, subst, ◌∙◌}
+use Rattle.std.specs.Prelude.{IsPermutation, slice_get}
+use Rattle.std.specs.List.{AllByRecursion}
+use Rattle.list_change.proofs.Permute.{by-equation}
+use Rattle.op_compose.specs.declared.op.Op.{Op}
+use Rattle.op_compose.specs.declared.op.Op.TheVariants.{Par, Seq, Over, Hop}
+use Rattle.policy_expr.specs.Policy.{Policy}
+use Rattle.policy_meaning.specs.Networks.{table_rules, table_size}
+use Rattle.policy_meaning.specs.declared.leaf.LeafTable.{LeafTable}
+use Rattle.policy_meaning.specs.declared.rule.Rule.{Rule}
+use Rattle.policy_meaning.proofs.Lists.{all-map}
+use Rattle.of10_match.specs.Normal.{IsNormal}
+use Rattle.rule_ancestry.proofs.StoreLemmas.{eq-same, eq-other}
+use Rattle.incr_compile.specs.Compiling.{IsMemberDelta, IsOf, IsOfTables, MemberChanges, composed_by, member_size, policy_in, rules_after}
+use Rattle.incr_compile.specs.Trees.{TreeOf, branch, has_member, leaf}
+use Rattle.incr_compile.specs.declared.compiled.LeafDelta.{LeafDelta}
+use Rattle.bench_compose.specs.Joints.{names}
+use Rattle.bench_compose.specs.Keeping.{AllCanCome, CanCome, IsKept}
+use Rattle.bench_compose.specs.Tabling.{AreTables}
+use Rattle.bench_compose.proofs.Tabled.{sized}
+
+names-by : (op : Op) (i : ℕ) (a b : Policy) → names i (composed_by op a b) ≡ (names i a || names i b)
+names-by Par i a b = refl
+names-by Seq i a b = refl
+names-by Over i a b = refl
+names-by Hop i a b = refl
+
+-- the members of a tree are those that its policy names
+named : (i : ℕ) (t : TreeOf) → has_member i t ≡ names i (policy_in t)
+named i (leaf j s made) = refl
+named i (branch n l r) =
+    ap (λ b. b || has_member i r) (named i l) ∙ ap (λ b. names i (policy_in l) || b) (named i r) ∙ sym (names-by n.op i (policy_in l) (policy_in r))
+
+test-same : (i j : ℕ) → (i == j) ≡ true → i ≡ j
+test-same i j e = grind arith
+
+-- a member of the tree has its size
+member-sized : (sizes : ℕ → ℕ) (rules : ℕ → List Rule) (i : ℕ) (t : TreeOf) → IsOf sizes rules t → has_member i t ≡ true → member_size i t ≡ sizes i
+member-sized sizes rules i (leaf j s made) o h = o.0 ∙ ap sizes (sym (test-same i j h))
+member-sized sizes rules i (branch n l r) o h = by (has_member i l) refl
+  where
+    by : (b : Bool) → has_member i l ≡ b → (if b then member_size i l else member_size i r) ≡ sizes i
+    by true e = member-sized sizes rules i l o.0 e
+    by false e = member-sized sizes rules i r o.1 (sym (ap (λ b. b || has_member i r) e) ∙ h)
+
+-- what is built of tables
+pub kept-built : (members size : ℕ) (tables : List LeafTable) (ports : List ℕ) (p : Policy) (t : TreeOf) → AreTables members size tables → IsOfTables tables ports t → policy_in t ≡ p → ((i : ℕ) → i < members → names i p ≡ true) → IsKept members size t
+kept-built members size tables ports p t a o e all = record {
+  sizes = λ i. table_size (slice_get tables i);
+  rules = λ i. table_rules ports (slice_get tables i);
+  of = o;
+  each = λ i l. sized size i tables a.sizes (subst (λ (k : ℕ). i < k) (sym a.count) l);
+  has = λ i l. named i t ∙ ap (names i) e ∙ all i l;
+}
+
+-- the change of a member that has such levels
+pub delta-fits : (members size : ℕ) (delta : LeafDelta) (t : TreeOf) → IsKept members size t → delta.member < members → AllCanCome size delta.come → IsMemberDelta delta t
+delta-fits members size delta t k l a = record {
+  normal = all-map (CanCome size) (λ (r : Rule). IsNormal r.m) delta.come (λ r c. c.normal) a;
+  below = subst (λ (s : ℕ). AllByRecursion (λ (r : Rule). r.level < s) delta.come) (sym (member-sized k.sizes k.rules delta.member t k.of (k.has delta.member l) ∙ k.each delta.member l))
+      (all-map (CanCome size) (λ (r : Rule). r.level < size) delta.come (λ r c. c.below) a);
+}
+
+-- the members' rules after a change
+after-it : LeafDelta → (ℕ → List Rule) → ℕ → List Rule
+after-it delta before i = if i == delta.member then rules_after delta (before delta.member) else before i
+
+changes-it : (delta : LeafDelta) (before : ℕ → List Rule) → MemberChanges delta before (after-it delta before)
+changes-it delta before = record {
+  others = λ i n. ap (λ b. if b then rules_after delta (before delta.member) else before i) (eq-other i delta.member (λ e. n (sym e)));
+  changed = by-equation _ _ (sym (ap (λ b. if b then rules_after delta (before delta.member) else before delta.member) (eq-same delta.member delta.member refl)));
+}
+
+-- what is kept after a change
+pub kept-after : (members size : ℕ) (delta : LeafDelta) (old new : TreeOf) → IsKept members size old → policy_in new ≡ policy_in old → ((sizes : ℕ → ℕ) → (before after : ℕ → List Rule) → MemberChanges delta before after → IsOf sizes before old → IsOf sizes after new) → IsKept members size new
+kept-after members size delta old new k p f = record {
+  sizes = k.sizes;
+  rules = after-it delta k.rules;
+  of = f k.sizes k.rules (after-it delta k.rules) (changes-it delta k.rules) k.of;
+  each = k.each;
+  has = λ i l. named i new ∙ ap (names i) p ∙ sym (named i old) ∙ k.has i l;
+}

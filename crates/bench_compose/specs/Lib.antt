@@ -1,0 +1,4 @@
+pub mod Joints
+pub mod Keeping
+pub mod Tabling
+pub mod Worked
