@@ -1,5 +1,5 @@
 -- What a compiled expression has stays through changes of its members.
-use Rattle.std.proofs.Common.{◌≡◌, ◌≢◌, ℕ, ◌==◌, ◌<◌, Bool, true, false, ◌||◌, if◌then◌else◌, inl, inr, List, length, refl, sym, ap, subst, ◌∙◌}
+use Rattle.std.proofs.Common.{◌≡◌, ◌≢◌, ℕ, ◌==◌, ◌<◌, Bool, true, false, ◌||◌, Result, Ok, Err, OnOk, OnErr, if◌then◌else◌, List, length, refl, sym, ap, subst, ◌∙◌, arith}
 use Rattle.std.specs.Prelude.{IsPermutation, slice_get}
 use Rattle.std.specs.List.{AllByRecursion}
 use Rattle.list_change.proofs.Permute.{by-equation}
@@ -38,11 +38,11 @@ test-same i j e = grind arith
 -- a member of the tree has its size
 member-sized : (sizes : ℕ → ℕ) (rules : ℕ → List Rule) (i : ℕ) (t : TreeOf) → IsOf sizes rules t → has_member i t ≡ true → member_size i t ≡ sizes i
 member-sized sizes rules i (leaf j s made) o h = o.0 ∙ ap sizes (sym (test-same i j h))
-member-sized sizes rules i (branch n l r) o h = by (has_member i l) refl
+member-sized sizes rules i (branch n l r) o h = by (has_member i l) refl (member-sized sizes rules i l o.0) (member-sized sizes rules i r o.1)
   where
-    by : (b : Bool) → has_member i l ≡ b → (if b then member_size i l else member_size i r) ≡ sizes i
-    by true e = member-sized sizes rules i l o.0 e
-    by false e = member-sized sizes rules i r o.1 (sym (ap (λ b. b || has_member i r) e) ∙ h)
+    by : (b : Bool) → has_member i l ≡ b → (has_member i l ≡ true → member_size i l ≡ sizes i) → (has_member i r ≡ true → member_size i r ≡ sizes i) → (if b then member_size i l else member_size i r) ≡ sizes i
+    by true e left right = left e
+    by false e left right = right (sym (ap (λ b. b || has_member i r) e) ∙ h)
 
 -- what is built of tables
 pub kept-built : (members size : ℕ) (tables : List LeafTable) (ports : List ℕ) (p : Policy) (t : TreeOf) → AreTables members size tables → IsOfTables tables ports t → policy_in t ≡ p → ((i : ℕ) → i < members → names i p ≡ true) → IsKept members size t
@@ -63,7 +63,7 @@ delta-fits members size delta t k l a = record {
 }
 
 -- the members' rules after a change
-after-it : LeafDelta → (ℕ → List Rule) → ℕ → List Rule
+abbrev after-it : LeafDelta → (ℕ → List Rule) → ℕ → List Rule
 after-it delta before i = if i == delta.member then rules_after delta (before delta.member) else before i
 
 changes-it : (delta : LeafDelta) (before : ℕ → List Rule) → MemberChanges delta before (after-it delta before)
@@ -81,3 +81,8 @@ kept-after members size delta old new k p f = record {
   each = k.each;
   has = λ i l. named i new ∙ ap (names i) p ∙ sym (named i old) ∙ k.has i l;
 }
+
+-- so too where memory was wanted, which changed nothing
+pub kept-in-any : {A B : Type 0} (r : Result A B) (members size : ℕ) (delta : LeafDelta) (old new : TreeOf) → IsKept members size old → OnOk r (policy_in new ≡ policy_in old) → ((sizes : ℕ → ℕ) → (before after : ℕ → List Rule) → MemberChanges delta before after → IsOf sizes before old → OnOk r (IsOf sizes after new)) → OnErr r (new ≡ old) → IsKept members size new
+kept-in-any (Ok x) members size delta old new k p f e = kept-after members size delta old new k p f
+kept-in-any (Err x) members size delta old new k p f e = subst (IsKept members size) (sym e) k

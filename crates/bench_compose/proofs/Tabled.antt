@@ -32,7 +32,7 @@ module _ (size number : ℕ) (es : List LeafEntry) (e : LeafEntry) (n : IsNumber
   more-before b =
       all-append (λ (d : LeafEntry). (d.rank < number + 1) × (d.level ≡ 2 + d.rank)) es (e ∷ [])
       (all-map (λ (d : LeafEntry). (d.rank < number) × (d.level ≡ 2 + d.rank)) (λ (d : LeafEntry). (d.rank < number + 1) × (d.level ≡ 2 + d.rank)) es (λ d p. let q = p.0 in (omega arith, p.1)) b)
-      ((let r = n.rank in let l = n.level in ((omega arith : e.rank < number + 1), (omega arith : e.level ≡ 2 + e.rank))), tt)
+      (let r = n.rank in let l = n.level in let a : e.rank < number + 1 = omega arith in let b : e.level ≡ 2 + e.rank = omega arith in ((a, b), tt))
 
   pub more-entries : 2 + number < size → AreBefore number es → AreEntries size es → AreEntries size (es ++ e ∷ [])
   more-entries w b a = record {

@@ -87,7 +87,11 @@ fn number(word: &str) -> Option<u16>
 pub fn read(words: &mut Args) -> Option<Asked> {
     let first = words.next()?;
     let Some(kind) = words.next() else {
-        return if first.as_str() == "check" { Some(Asked::Check) } else { None };
+        return if first.as_str() == "check" {
+            Some(Asked::Check)
+        } else {
+            None
+        };
     };
     let rules = words.next()?;
     let phase = words.next()?;

@@ -42,7 +42,14 @@ fn rule_in(
     // The level is below the size already.
     let level = entry.level % size;
     let effects = entry.effects.copy()?;
-    Ok(Some(leaf(alloc, m.normal(), level, true, effects, leaf_of(member, entry))?))
+    Ok(Some(leaf(
+        alloc,
+        m.normal(),
+        level,
+        true,
+        effects,
+        leaf_of(member, entry),
+    )?))
 }
 
 /// Appends the rules of an entry.

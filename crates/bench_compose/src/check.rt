@@ -18,7 +18,12 @@ fn words(joint: Joint) -> &'static str {
 
 fn print_levels<G: Ledger>(rt: &HostRuntime, joint: Joint, steps: &mut Steps<G>) -> io::Result<()> {
     match levels(rt.alloc(), joint, steps) {
-        Ok(worked) => println!(rt; "{}: size={} levels={:?}", words(joint), worked.size, worked.levels),
+        Ok(worked) => println!(rt;
+            "{}: size={} levels={:?}",
+            words(joint),
+            worked.size,
+            worked.levels
+        ),
         Err(fault) => println!(rt; "{fault}"),
     }
 }
@@ -27,7 +32,11 @@ fn print_counts<G: Ledger>(rt: &HostRuntime, steps: &mut Steps<G>) -> io::Result
     match counts(rt.alloc(), steps) {
         Ok(counted) => println!(rt;
             "{}: ADD came={} gone={}, DELETE came={} gone={}",
-            words(Joint::Sum), counted.add.0, counted.add.1, counted.delete.0, counted.delete.1
+            words(Joint::Sum),
+            counted.add.0,
+            counted.add.1,
+            counted.delete.0,
+            counted.delete.1
         ),
         Err(fault) => println!(rt; "{fault}"),
     }

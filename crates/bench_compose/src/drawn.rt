@@ -51,7 +51,11 @@ fn packets(draws: &mut Draws) -> Match
 /// Packets get another address, or stay as they are.
 fn rewrite(draws: &mut Draws) -> Rewrite {
     Rewrite {
-        nw_dst: if draws.one_in(2) { Some(address(draws)) } else { None },
+        nw_dst: if draws.one_in(2) {
+            Some(address(draws))
+        } else {
+            None
+        },
         tp_dst: if draws.one_in(4) { Some(80) } else { None },
         ..Rewrite::new()
     }

@@ -8,8 +8,8 @@ use crate::asked::Kind;
 use crate::joint::Joint;
 use cv_io::{List, Memory};
 use of10_actions::{Dest, Effects, Out, Rewrite, Tail};
-use of10_match::{Match, OfpMatch, TCP, read};
 use of10_match::ofp_match::wildcard;
+use of10_match::{Match, OfpMatch, TCP, read};
 use policy_meaning::LeafEntry;
 use std::alloc::Global;
 

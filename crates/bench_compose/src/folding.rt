@@ -20,7 +20,7 @@ use std::fmt;
 use std::sync::ledger::Ledger;
 
 /// How many changes are made.
-const CHANGES: u32 = 400;
+const CHANGES: u32 = 300;
 
 /// After how many changes the rules were those from scratch, and after how many those that were told.
 #[derive(Clone, Copy)]
@@ -32,7 +32,11 @@ pub struct Found {
 
 impl fmt::Display for Found {
     fn fmt<W: fmt::Write>(&self, f: &mut fmt::Formatter<W>) -> fmt::Result {
-        write!(f, "changes={} equal={} told={}", self.changes, self.equal, self.told)
+        write!(
+            f,
+            "changes={} equal={} told={}",
+            self.changes, self.equal, self.told
+        )
     }
 }
 
@@ -77,7 +81,14 @@ fn delta_of(alloc: Global, member: u32, swap: &Swap) -> Result<LeafDelta, Memory
     ensures come { IfOk result (λ delta. AllCanCome 64 delta.come) }
 {
     let cells = cells(alloc, is_half_blind(Joint::Whole, member))?;
-    change(alloc, member, u64::from(SIZE), &swap.gone, &swap.come, &cells)
+    change(
+        alloc,
+        member,
+        u64::from(SIZE),
+        &swap.gone,
+        &swap.come,
+        &cells,
+    )
 }
 
 impl World {

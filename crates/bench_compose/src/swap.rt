@@ -6,6 +6,7 @@ use crate::random::Draws;
 use cv_io::{Duplicate, List, Memory};
 use policy_meaning::LeafEntry;
 use std::alloc::Global;
+use std::mem::replace;
 
 /// How many levels a member has.
 pub const SIZE: u32 = 64;
@@ -101,14 +102,12 @@ impl Maker {
     /// All entries go, and come with other levels.
     fn renumber(&mut self, entries: &mut List<LeafEntry>, swap: &mut Swap) -> Result<(), Memory> {
         swap.come = self.renumbered(entries)?;
-        while let Some(entry) = entries.pop() {
-            swap.gone.push(entry)?;
-        }
+        swap.gone = replace(entries, List::new(self.alloc));
         Ok(())
     }
 
     /// What comes in place of an entry that goes.
-    fn replace(
+    fn in_place_of(
         &mut self,
         member: u32,
         turn: &Turn,
@@ -138,7 +137,7 @@ impl Maker {
             Turn::Renumber => self.renumber(entries, &mut swap)?,
             _ => {
                 if let Some(was) = self.take(entries) {
-                    self.replace(member, &turn, &was, &mut swap.come)?;
+                    self.in_place_of(member, &turn, &was, &mut swap.come)?;
                     swap.gone.push(was)?;
                 }
             }

@@ -39,7 +39,11 @@ impl Tally {
 
 impl fmt::Display for Tally {
     fn fmt<W: fmt::Write>(&self, f: &mut fmt::Formatter<W>) -> fmt::Result {
-        write!(f, "rules={} came={} went={}", self.rules, self.came, self.went)
+        write!(
+            f,
+            "rules={} came={} went={}",
+            self.rules, self.came, self.went
+        )
     }
 }
 
@@ -56,7 +60,10 @@ fn turn(alloc: Global, asked: &Turns, number: u16, comes: bool) -> Result<LeafDe
     ensures come { IfOk result (λ delta. AllCanCome 131072 delta.come) }
 {
     let number = asked.rules.wrapping_add(number);
-    let one = alone(alloc, Some(entry(alloc, asked.joint, asked.kind, 0, number)?))?;
+    let one = alone(
+        alloc,
+        Some(entry(alloc, asked.joint, asked.kind, 0, number)?),
+    )?;
     let none = List::new(alloc);
     let cells = cells(alloc, false)?;
     if comes {

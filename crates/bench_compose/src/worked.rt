@@ -134,7 +134,11 @@ fn alone(entry: LeafEntry, alloc: Global) -> Result<List<LeafEntry>, Memory> {
 }
 
 /// The members before any entry came.
-fn members<G: Ledger>(alloc: Global, joint: Joint, steps: &mut Steps<G>) -> Result<(Kept, u64), Fault>
+fn members<G: Ledger>(
+    alloc: Global,
+    joint: Joint,
+    steps: &mut Steps<G>,
+) -> Result<(Kept, u64), Fault>
     ensures two { IfOk result (λ made. 1 < made.0.0) }
     ensures size { IfOk result (λ made. made.0.1 ≡ 8) }
 {
@@ -160,11 +164,22 @@ fn levels_of(alloc: Global, kept: &Kept) -> Result<Vec<u64>, Memory> {
 }
 
 /// The levels of the rules of two members, in the order of their leaves.
-pub fn levels<G: Ledger>(alloc: Global, joint: Joint, steps: &mut Steps<G>) -> Result<Worked, Fault> {
+pub fn levels<G: Ledger>(
+    alloc: Global,
+    joint: Joint,
+    steps: &mut Steps<G>,
+) -> Result<Worked, Fault> {
     let (mut kept, size) = members(alloc, joint, steps)?;
     let left = alone(left_entry(alloc, joint)?, alloc)?;
     turn(alloc, &mut kept, 0, &left, true, steps)?;
-    turn(alloc, &mut kept, 1, &right_entries(alloc, joint)?, true, steps)?;
+    turn(
+        alloc,
+        &mut kept,
+        1,
+        &right_entries(alloc, joint)?,
+        true,
+        steps,
+    )?;
     Ok(Worked {
         size,
         levels: levels_of(alloc, &kept)?,
