@@ -37,6 +37,7 @@ pub named-once : (j : Joint) → EachPair (λ i j. i ≢ j) (members_of (policy_
 named-once Sum = ((differ 0 1 (omega arith), tt), (tt, tt))
 named-once Chain = ((differ 0 1 (omega arith), tt), (tt, tt))
 named-once Shift = ((differ 0 1 (omega arith), tt), (tt, tt))
-named-once Whole =
-    ((differ 0 1 (omega arith), (differ 0 2 (omega arith), (differ 0 3 (omega arith), tt))),
-    ((differ 1 2 (omega arith), (differ 1 3 (omega arith), tt)), ((differ 2 3 (omega arith), tt), (tt, tt))))
+named-once Whole = (
+  (differ 0 1 (omega arith), (differ 0 2 (omega arith), (differ 0 3 (omega arith), tt))),
+  ((differ 1 2 (omega arith), (differ 1 3 (omega arith), tt)), ((differ 2 3 (omega arith), tt), (tt, tt))),
+)

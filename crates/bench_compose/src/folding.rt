@@ -1,6 +1,7 @@
 //! Changes by a fixed generator, and the rules from scratch after each.
 ghost use Rattle.std.specs.Prelude.{◌≡◌, IfOk, IfSome};
 ghost use Rattle.bench_compose.specs.Keeping.{AllCanCome};
+ghost use Rattle.bench_compose.specs.declared.joint.Joint.TheVariants.{Whole};
 
 use crate::asked::Kind;
 use crate::changes::{cells, change};
@@ -163,33 +164,59 @@ fn fold<G: Ledger>(
     Ok(())
 }
 
-/// Makes changes of four members, which have no entries at first, and compares after each.
-pub fn run<G: Ledger>(alloc: Global, steps: &mut Steps<G>) -> Result<Found, Fault> {
-    let plan = Plan {
+/// Members without entries.
+fn plan() -> Plan
+    ensures joint { result.joint ≡ Whole }
+    ensures size { result.size ≡ 64 }
+    ensures rules { result.rules ≡ 0 }
+{
+    Plan {
         joint: Joint::Whole,
         size: u64::from(SIZE),
         kind: Kind::Exact,
         rules: 0,
-    };
-    let tables = tables(alloc, &plan)?;
+    }
+}
+
+/// Four members without entries, composed.
+fn members<G: Ledger>(alloc: Global, steps: &mut Steps<G>) -> Result<Kept, Fault>
+    ensures { IfOk result (λ kept. kept ≡ (4, 64)) }
+{
+    let tables = tables(alloc, &plan())?;
     let ports = ports(alloc)?;
-    let mut kept = Kept::of(alloc, plan.joint, plan.size, &tables, &ports, steps)?;
-    let told = kept.rules()?;
-    let mut world = World {
-        tables,
-        ports,
+    Kept::of(alloc, Joint::Whole, u64::from(SIZE), &tables, &ports, steps)
+}
+
+/// The members as they are at first.
+fn world(alloc: Global, told: List<Rule>) -> Result<World, Memory> {
+    Ok(World {
+        tables: tables(alloc, &plan())?,
+        ports: ports(alloc)?,
         told,
         maker: Maker {
             alloc,
             draws: Draws::new(19),
             serial: 0,
         },
-    };
+    })
+}
+
+/// Makes all changes of the members.
+fn fold_all<G: Ledger>(alloc: Global, kept: &mut Kept, steps: &mut Steps<G>) -> Result<Found, Fault>
+    requires { kept.old ≡ (4, 64) }
+{
+    let mut world = world(alloc, kept.rules()?)?;
     let mut found = Found {
         changes: 0,
         equal: 0,
         told: 0,
     };
-    fold(alloc, &mut world, &mut kept, &mut found, steps)?;
+    fold(alloc, &mut world, kept, &mut found, steps)?;
     Ok(found)
+}
+
+/// Makes changes of four members, which have no entries at first, and compares after each.
+pub fn run<G: Ledger>(alloc: Global, steps: &mut Steps<G>) -> Result<Found, Fault> {
+    let mut kept = members(alloc, steps)?;
+    fold_all(alloc, &mut kept, steps)
 }

@@ -130,6 +130,20 @@ fn compose<G: Ledger>(
     Kept::of(alloc, plan.joint, plan.size, tables, ports, steps)
 }
 
+/// Composes all anew.
+fn anew_once<G: Ledger>(
+    alloc: Global,
+    plan: &Plan,
+    tables: &List<LeafTable>,
+    ports: &List<u16>,
+    steps: &mut Steps<G>,
+) -> Result<(), Fault>
+    requires { AreTables (count_for plan.now.joint) plan.now.size tables.now }
+{
+    let _kept = compose(alloc, plan, tables, ports, steps)?;
+    Ok(())
+}
+
 /// Composes all anew in each turn.
 fn anew<G: Ledger>(
     alloc: Global,
@@ -142,9 +156,26 @@ fn anew<G: Ledger>(
     requires { AreTables (count_for plan.now.joint) plan.now.size tables.now }
 {
     for _ in 0..asked.turns {
-        let _kept = compose(alloc, plan, tables, ports, steps)?;
+        anew_once(alloc, plan, tables, ports, steps)?;
     }
     Ok(())
+}
+
+/// Composes the members' rules, and does what is asked for with them.
+fn kept_work<G: Ledger>(
+    alloc: Global,
+    asked: &Turns,
+    plan: &Plan,
+    tables: &List<LeafTable>,
+    ports: &List<u16>,
+    tally: &mut Tally,
+    steps: &mut Steps<G>,
+) -> Result<(), Fault>
+    requires tables { AreTables (count_for plan.now.joint) plan.now.size tables.now }
+    requires size { plan.now.size ≡ 131072 }
+{
+    let mut kept = compose(alloc, plan, tables, ports, steps)?;
+    Ok(work(alloc, &mut kept, asked, tally, steps)?)
 }
 
 /// Composes the members' rules, and does what is asked for.
@@ -162,8 +193,7 @@ pub fn run<G: Ledger>(alloc: Global, asked: &Turns, steps: &mut Steps<G>) -> Res
         came: 0,
         went: 0,
     };
-    let mut kept = compose(alloc, &plan, &tables, &ports, steps)?;
-    work(alloc, &mut kept, asked, &mut tally, steps)?;
+    kept_work(alloc, asked, &plan, &tables, &ports, &mut tally, steps)?;
     if let Phase::Scratch = asked.phase {
         anew(alloc, asked, &plan, &tables, &ports, steps)?;
     }

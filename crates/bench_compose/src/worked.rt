@@ -133,26 +133,35 @@ fn alone(entry: LeafEntry, alloc: Global) -> Result<List<LeafEntry>, Memory> {
     Ok(list)
 }
 
-/// The members before any entry came.
-fn members<G: Ledger>(
-    alloc: Global,
-    joint: Joint,
-    steps: &mut Steps<G>,
-) -> Result<(Kept, u64), Fault>
-    ensures two { IfOk result (λ made. 1 < made.0.0) }
-    ensures size { IfOk result (λ made. made.0.1 ≡ 8) }
+/// Members without entries.
+fn plan(joint: Joint) -> Plan
+    ensures joint { result.joint ≡ joint }
+    ensures size { result.size ≡ 8 }
+    ensures rules { result.rules ≡ 0 }
 {
-    let plan = Plan {
+    Plan {
         joint,
         size: SIZE,
         kind: Kind::Exact,
         rules: 0,
-    };
-    let tables = tables(alloc, &plan)?;
+    }
+}
+
+/// The members before any entry came.
+fn members<G: Ledger>(alloc: Global, joint: Joint, steps: &mut Steps<G>) -> Result<Kept, Fault>
+    ensures two { IfOk result (λ kept. 1 < kept.0) }
+    ensures size { IfOk result (λ kept. kept.1 ≡ 8) }
+{
+    let tables = tables(alloc, &plan(joint))?;
     let ports = ports(alloc)?;
-    let kept = Kept::of(alloc, joint, SIZE, &tables, &ports, steps)?;
-    let scratch = from_scratch(alloc, joint, &tables, &ports)?;
-    Ok((kept, scratch.size))
+    Kept::of(alloc, joint, SIZE, &tables, &ports, steps)
+}
+
+/// How many levels the members' rules have.
+fn size_of(alloc: Global, joint: Joint) -> Result<u64, Fault> {
+    let tables = tables(alloc, &plan(joint))?;
+    let ports = ports(alloc)?;
+    Ok(from_scratch(alloc, joint, &tables, &ports)?.size)
 }
 
 fn levels_of(alloc: Global, kept: &Kept) -> Result<Vec<u64>, Memory> {
@@ -163,39 +172,66 @@ fn levels_of(alloc: Global, kept: &Kept) -> Result<Vec<u64>, Memory> {
     Ok(levels)
 }
 
+/// The levels once the entries of both members came.
+fn levels_with<G: Ledger>(
+    alloc: Global,
+    kept: &mut Kept,
+    joint: Joint,
+    steps: &mut Steps<G>,
+) -> Result<Vec<u64>, Memory>
+    requires two { 1 < kept.old.0 }
+    requires size { kept.old.1 ≡ 8 }
+{
+    let left = alone(left_entry(alloc, joint)?, alloc)?;
+    turn(alloc, kept, 0, &left, true, steps)?;
+    let right = right_entries(alloc, joint)?;
+    turn(alloc, kept, 1, &right, true, steps)?;
+    levels_of(alloc, kept)
+}
+
 /// The levels of the rules of two members, in the order of their leaves.
+fn levels_in<G: Ledger>(
+    alloc: Global,
+    joint: Joint,
+    steps: &mut Steps<G>,
+) -> Result<Vec<u64>, Fault> {
+    let mut kept = members(alloc, joint, steps)?;
+    Ok(levels_with(alloc, &mut kept, joint, steps)?)
+}
+
+/// The same, and how many levels there are.
 pub fn levels<G: Ledger>(
     alloc: Global,
     joint: Joint,
     steps: &mut Steps<G>,
 ) -> Result<Worked, Fault> {
-    let (mut kept, size) = members(alloc, joint, steps)?;
-    let left = alone(left_entry(alloc, joint)?, alloc)?;
-    turn(alloc, &mut kept, 0, &left, true, steps)?;
-    turn(
-        alloc,
-        &mut kept,
-        1,
-        &right_entries(alloc, joint)?,
-        true,
-        steps,
-    )?;
-    Ok(Worked {
-        size,
-        levels: levels_of(alloc, &kept)?,
-    })
+    let size = size_of(alloc, joint)?;
+    let levels = levels_in(alloc, joint, steps)?;
+    Ok(Worked { size, levels })
 }
 
-/// An entry comes to the first member of `a + b` and goes, where the second has one.
-pub fn counts<G: Ledger>(alloc: Global, steps: &mut Steps<G>) -> Result<Counted, Fault> {
-    let (mut kept, _size) = members(alloc, Joint::Sum, steps)?;
+/// An entry comes to the first member and goes, where the second has one.
+fn counts_with<G: Ledger>(
+    alloc: Global,
+    kept: &mut Kept,
+    steps: &mut Steps<G>,
+) -> Result<Counted, Memory>
+    requires two { 1 < kept.old.0 }
+    requires size { kept.old.1 ≡ 8 }
+{
     let right = entry(alloc, 1, to_net(0x0a00_0200, 8), 4, Some(1), Tail::Nothing)?;
-    turn(alloc, &mut kept, 1, &alone(right, alloc)?, true, steps)?;
+    turn(alloc, kept, 1, &alone(right, alloc)?, true, steps)?;
     let left = alone(left_entry(alloc, Joint::Sum)?, alloc)?;
-    let came = turn(alloc, &mut kept, 0, &left, true, steps)?;
-    let went = turn(alloc, &mut kept, 0, &left, false, steps)?;
+    let came = turn(alloc, kept, 0, &left, true, steps)?;
+    let went = turn(alloc, kept, 0, &left, false, steps)?;
     Ok(Counted {
         add: (came.come.len(), came.gone.len()),
         delete: (went.come.len(), went.gone.len()),
     })
+}
+
+/// How many rules of `a + b` that changes.
+pub fn counts<G: Ledger>(alloc: Global, steps: &mut Steps<G>) -> Result<Counted, Fault> {
+    let mut kept = members(alloc, Joint::Sum, steps)?;
+    Ok(counts_with(alloc, &mut kept, steps)?)
 }
