@@ -1,9 +1,8 @@
 pub mod Words
+pub mod Ended
+pub mod Stops
 pub mod Written
+pub mod Reported
 pub mod Chunks
-pub mod BuiltIn
-pub mod Asked
-pub mod Outcomes
-pub mod Opening
-pub mod Following
-pub mod Runs
+pub mod Rounds
+pub mod Script
