@@ -1,7 +1,8 @@
 //! Where sessions post.
 ghost use Rattle.std.specs.Prelude.{◌≡◌, ◌∷◌, ◌++◌, [], ℕ, List, IfOk, OnOk, OnErr};
 ghost use Rattle.of10_frames.specs.Frames.{IsFrame};
-ghost use Rattle.sessions.specs.Posts.{AddsHeard, AddsTaken, Finds, IsRefusedWhere, MayAdd, coming_up, going, message, second_told};
+ghost use Rattle.sessions.specs.Posts.{AddsHeard, AddsTaken, Finds, IsRefusedWhere, MayAdd};
+ghost use Rattle.sessions.specs.Posts.{coming_up, going, message, second_told};
 
 use cv_io::{Bytes, Memory, Session, Who};
 use events::{Event, Reply};
@@ -66,7 +67,8 @@ pub trait Desk {
         requires served { serves self.now who }
         ensures pass { admits self.now pass.new }
         ensures who { IfOk result (λ session. session.who ≡ who) }
-        ensures posted { IfOk result (λ session. posts pass.new ≡ posts pass.old ++ coming_up who arp session.round ∷ []) }
+        ensures posted { IfOk result (λ session. posts pass.new
+            ≡ posts pass.old ++ coming_up who arp session.round ∷ []) }
         ensures memory { OnErr result (posts pass.new ≡ posts pass.old) };
 
     /// The session sent a frame.

@@ -9,8 +9,8 @@ use of10_frames::Framer;
 use std::alloc::Global;
 use std::sync::Wait;
 
-/// Posts each frame, up to the first that finds the session ended, and tells after how many entries it had. An `Err` says
-/// why no further frame comes.
+/// Posts each frame, up to the first that finds the session ended, and tells after how many entries it had. An `Err`
+/// says why no further frame comes.
 pub(crate) fn hear_all<R: Wait, D: Desk, S: Source>(
     rt: &R,
     alloc: Global,
@@ -22,10 +22,12 @@ pub(crate) fn hear_all<R: Wait, D: Desk, S: Source>(
 ) -> Result<u64, Stop>
     requires { D.admits desk.now pass.old }
     ensures pass { D.admits desk.now pass.new }
-    ensures closed { IfOk result (λ at. HasFoundEnded (S.remaining source.old) (S.remaining source.new) framer.old session.now
+    ensures closed { IfOk result (λ at. HasFoundEnded (S.remaining source.old) (S.remaining source.new)
+        framer.old session.now
         (D.posts pass.old) (D.posts pass.new) framer.new × D.ended pass.new session.now at) }
     ensures stop { IfErr result (HasHeard (S.remaining source.old) (S.remaining source.new) framer.old session.now
-        (D.posts pass.old) (D.posts pass.new) framer.new (S.faults source.old) (S.faults source.new) (S.is_reliable source.old)) }
+        (D.posts pass.old) (D.posts pass.new) framer.new
+        (S.faults source.old) (S.faults source.new) (S.is_reliable source.old)) }
     ensures reliable { S.is_reliable source.new ≡ S.is_reliable source.old }
 {
     let mut place = chunk(alloc)?;
@@ -52,10 +54,12 @@ fn hear_frames<R: Wait, D: Desk, S: Source>(
     requires pass { D.admits desk.now pass.old }
     requires place { 0 < length place.old }
     ensures pass { D.admits desk.now pass.new }
-    ensures closed { IfOk result (λ at. HasFoundEnded (S.remaining source.old) (S.remaining source.new) framer.old session.now
+    ensures closed { IfOk result (λ at. HasFoundEnded (S.remaining source.old) (S.remaining source.new)
+        framer.old session.now
         (D.posts pass.old) (D.posts pass.new) framer.new × D.ended pass.new session.now at) }
     ensures stop { IfErr result (HasHeard (S.remaining source.old) (S.remaining source.new) framer.old session.now
-        (D.posts pass.old) (D.posts pass.new) framer.new (S.faults source.old) (S.faults source.new) (S.is_reliable source.old)) }
+        (D.posts pass.old) (D.posts pass.new) framer.new
+        (S.faults source.old) (S.faults source.new) (S.is_reliable source.old)) }
     ensures reliable { S.is_reliable source.new ≡ S.is_reliable source.old }
 {
     for _ in rt.forever() {

@@ -9,7 +9,8 @@ use cv_io::{Memory, Session};
 pub(crate) fn leave<D: Desk>(desk: &D, pass: &mut D::Pass, session: &Session) -> Result<(), Memory>
     requires { D.admits desk.now pass.old }
     ensures pass { D.admits desk.now pass.new }
-    ensures left { OnOk result (Leaves (D.ended pass.new session.now) (D.posts pass.old) (D.posts pass.new) session.now) }
+    ensures left { OnOk result (Leaves (D.ended pass.new session.now)
+        (D.posts pass.old) (D.posts pass.new) session.now) }
     ensures memory { OnErr result (D.posts pass.new ≡ D.posts pass.old) }
 {
     let _heard = desk.gone(pass, session)?;

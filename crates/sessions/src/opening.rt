@@ -60,7 +60,8 @@ pub fn open_switch<R: Wait, S: Source, K: Sink>(
     ensures opened { IfOk result (IsKnown (S.remaining source.old) (S.remaining source.new) framer.old framer.new
         (K.held sink.old) (K.held sink.new) dpids.now) }
     ensures end { IfErr result (IsNoSwitch (S.remaining source.old) (S.remaining source.new) framer.old framer.new
-        (K.held sink.old) (K.held sink.new) dpids.now (S.faults source.old) (S.faults source.new) (S.is_reliable source.old)
+        (K.held sink.old) (K.held sink.new) dpids.now
+        (S.faults source.old) (S.faults source.new) (S.is_reliable source.old)
         (K.faults sink.old) (K.faults sink.new) (K.wants sink.old) (K.wants sink.new) (K.is_reliable sink.old)) }
     ensures source { S.is_reliable source.new ≡ S.is_reliable source.old }
     ensures sink { K.is_reliable sink.new ≡ K.is_reliable sink.old }
@@ -105,7 +106,8 @@ fn introduced<R: Wait, S: Source, K: Sink>(
     ensures opened { IfOk result (IsKnown (S.remaining source.old) (S.remaining source.new) framer.old framer.new
         (K.held sink.old) (K.held sink.new) dpids.now) }
     ensures end { IfErr result (IsNoSwitch (S.remaining source.old) (S.remaining source.new) framer.old framer.new
-        (K.held sink.old) (K.held sink.new) dpids.now (S.faults source.old) (S.faults source.new) (S.is_reliable source.old)
+        (K.held sink.old) (K.held sink.new) dpids.now
+        (S.faults source.old) (S.faults source.new) (S.is_reliable source.old)
         (K.faults sink.old) (K.faults sink.new) (K.wants sink.old) (K.wants sink.new) (K.is_reliable sink.old)) }
     ensures source { S.is_reliable source.new ≡ S.is_reliable source.old }
     ensures sink { K.is_reliable sink.new ≡ K.is_reliable sink.old }

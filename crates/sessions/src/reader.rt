@@ -30,7 +30,8 @@ pub fn run_reader<R: Wait, D: Desk, S: Source>(
         (D.posts pass.old) (D.ended pass.new session.now) (D.posts pass.new) framer.new) }
     ensures end { IfOk result (IsReadEnd (S.remaining source.new) framer.new
         (S.faults source.old) (S.faults source.new) (S.is_reliable source.old)) }
-    ensures memory { OnErr result (HasPostedSome (S.remaining source.old) (S.remaining source.new) framer.old session.now
+    ensures memory { OnErr result (HasPostedSome (S.remaining source.old) (S.remaining source.new)
+        framer.old session.now
         (D.posts pass.old) (D.posts pass.new)) }
     ensures reliable { S.is_reliable source.new ≡ S.is_reliable source.old }
 {

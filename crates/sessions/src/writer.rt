@@ -24,11 +24,15 @@ pub fn run_writer<R: Wait, D: Desk, K: Sink, C: Clock>(
 ) -> Result<WriteEnd, Memory>
     requires { D.admits desk.now pass.old }
     ensures pass { D.admits desk.now pass.new }
-    ensures posted { IfOk result (WriterPosts session.now (C.greatest clock.new) (D.posts pass.old) (K.held sink.old) (K.held sink.new)
+    ensures posted { IfOk result (WriterPosts session.now (C.greatest clock.new) (D.posts pass.old)
+        (K.held sink.old) (K.held sink.new)
         (D.ended pass.new session.now) (D.posts pass.new)) }
-    ensures end { IfOk result (IsWriteEnd (K.faults sink.old) (K.faults sink.new) (K.wants sink.old) (K.wants sink.new) (K.is_reliable sink.old)) }
-    ensures memory { OnErr result (HasNoMemory session.now (C.greatest clock.new) (D.posts pass.old) (K.held sink.old) (K.held sink.new)
-        (SinkFailed (K.faults sink.old) (K.faults sink.new) (K.wants sink.old) (K.wants sink.new) (K.is_reliable sink.old)) (D.posts pass.new)) }
+    ensures end { IfOk result (IsWriteEnd (K.faults sink.old) (K.faults sink.new)
+        (K.wants sink.old) (K.wants sink.new) (K.is_reliable sink.old)) }
+    ensures memory { OnErr result (HasNoMemory session.now (C.greatest clock.new) (D.posts pass.old)
+        (K.held sink.old) (K.held sink.new)
+        (SinkFailed (K.faults sink.old) (K.faults sink.new)
+        (K.wants sink.old) (K.wants sink.new) (K.is_reliable sink.old)) (D.posts pass.new)) }
     ensures reliable { K.is_reliable sink.new ≡ K.is_reliable sink.old }
 {
     match send_all(rt, desk, pass, session, sink, clock) {
@@ -55,10 +59,13 @@ fn send_all<R: Wait, D: Desk, K: Sink, C: Clock>(
 ) -> Result<WriteEnd, Memory>
     requires { D.admits desk.now pass.old }
     ensures pass { D.admits desk.now pass.new }
-    ensures sent { IfOk result (HasSent session.now (C.greatest clock.new) (D.posts pass.old) (K.held sink.old) (K.held sink.new)
+    ensures sent { IfOk result (HasSent session.now (C.greatest clock.new) (D.posts pass.old)
+        (K.held sink.old) (K.held sink.new)
         (D.ended pass.new session.now) (D.posts pass.new)) }
-    ensures end { IfOk result (IsWriteEnd (K.faults sink.old) (K.faults sink.new) (K.wants sink.old) (K.wants sink.new) (K.is_reliable sink.old)) }
-    ensures memory { OnErr result (HasWritten session.now (C.greatest clock.new) (D.posts pass.old) (K.held sink.old) (K.held sink.new) (D.posts pass.new)) }
+    ensures end { IfOk result (IsWriteEnd (K.faults sink.old) (K.faults sink.new)
+        (K.wants sink.old) (K.wants sink.new) (K.is_reliable sink.old)) }
+    ensures memory { OnErr result (HasWritten session.now (C.greatest clock.new) (D.posts pass.old)
+        (K.held sink.old) (K.held sink.new) (D.posts pass.new)) }
     ensures reliable { K.is_reliable sink.new ≡ K.is_reliable sink.old }
 {
     let mut last = 0;

@@ -9,7 +9,8 @@ pub fn write_all<K: Sink>(sink: &mut K, bytes: &[u8]) -> Result<(), Failed>
     ensures written { OnOk result (Appends (K.held sink.old) (K.held sink.new) bytes.now) }
     ensures part { OnErr result (AppendsSome (K.held sink.old) (K.held sink.new) bytes.now) }
     ensures quiet { OnOk result ((K.faults sink.new ≡ K.faults sink.old) × (K.wants sink.new ≡ K.wants sink.old)) }
-    ensures failed { OnErr result (SinkFailed (K.faults sink.old) (K.faults sink.new) (K.wants sink.old) (K.wants sink.new) (K.is_reliable sink.old)) }
+    ensures failed { OnErr result (SinkFailed (K.faults sink.old) (K.faults sink.new)
+        (K.wants sink.old) (K.wants sink.new) (K.is_reliable sink.old)) }
     ensures reliable { K.is_reliable sink.new ≡ K.is_reliable sink.old }
 {
     let mut written = 0;

@@ -8,7 +8,8 @@ use std::test::*;
 
 const BARRIER: &[u8] = &[1, 18, 0, 8, 0, 0, 0, 10];
 
-/// A reader over a source of these bytes whose calls fail so, of which so many frames are heard: how it ends, and its pass.
+/// A reader over a source of these bytes whose calls fail so, of which so many frames are heard: how it ends, and its
+/// pass.
 fn read<R: Wait>(
     rt: &R,
     alloc: Global,
