@@ -6,4 +6,3 @@ pub mod Reaching
 pub mod Finishing
 pub mod Statuses
 pub mod Running
-pub mod Stopping
