@@ -5,7 +5,8 @@ use Rattle.replay_report.specs.Reports.{Report}
 use Rattle.covisor_proxy.specs.Chunks.{Gave}
 use Rattle.covisor_proxy.specs.Written.{Appends, AppendsSome}
 use Rattle.covisor_proxy.specs.declared.status.Status.{Status}
-use Rattle.covisor_proxy.specs.declared.status.Status.TheVariants.{Done, Usage, Policy, Line, Read, Write, Absent, Memory}
+use Rattle.covisor_proxy.specs.declared.status.Status.TheVariants.{Done, Usage, Policy, Line, Read, Write}
+use Rattle.covisor_proxy.specs.declared.status.Status.TheVariants.{Absent, Memory}
 
 -- the outside at a moment: what is left of the script and what was written, where these are told, and how many reads
 -- and writes failed

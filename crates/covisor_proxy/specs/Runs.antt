@@ -43,7 +43,8 @@ EndsOver status form name files fails fails' old new =
     × Ends status (over_file report_of form name file) (over_file cut_report_of form name file) old new
 
 -- the exit status is that of an end, and so the run ended: what was read, and what was written of the report
-pub record Runs (answer : ℕ) (command : Option Command) (files : Option (List MemFile)) (fails fails' : ℕ) (old new : Moment) : Type 0 where
+pub record Runs (answer : ℕ) (command : Option Command) (files : Option (List MemFile)) (fails fails' : ℕ)
+    (old new : Moment) : Type 0 where
   pub status : Status
   pub file : Result (List ℕ) FileFault
   pub code : answer ≡ code_of status
@@ -76,6 +77,6 @@ pub record IsQuiet (fails fails' : ℕ) (old new : Moment) : Type 0 where
 abbrev pub IsComplete : ℕ → Option Command → Option (List MemFile) → (fails fails' : ℕ) → Moment → Moment → Type 0
 IsComplete code command files fails fails' old new =
     IsQuiet fails fails' old new
-    → ((file : Result (List ℕ) FileFault) (script : List ℕ) → file ≢ Err Memory → AnswersTo command files fails fails' file
-    → IsScript old.left script → (report_for command file script).status ≡ 0)
+    → ((file : Result (List ℕ) FileFault) (script : List ℕ) → file ≢ Err Memory
+    → AnswersTo command files fails fails' file → IsScript old.left script → (report_for command file script).status ≡ 0)
     → (code ≡ 0) ⊎ (code ≡ 10)

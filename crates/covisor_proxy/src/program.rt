@@ -40,10 +40,12 @@ pub fn run<F: Files, S: Source, K: Sink, G: Ledger>(
     ensures usage { (result ≡ 2) ↔ (command_of words.now ≡ None) }
     ensures refused { result ≡ 3 → IsRefused (command_of words.now) (F.files files.old) }
     ensures absent { result ≡ 7 → IsAbsent (command_of words.now) (F.files files.old) }
-    ensures read { result ≡ 5 → Rose (F.faults files.old) (F.faults files.new) ⊎ Rose (S.faults input.old) (S.faults input.new) }
+    ensures read { result ≡ 5
+        → Rose (F.faults files.old) (F.faults files.new) ⊎ Rose (S.faults input.old) (S.faults input.new) }
     ensures write { result ≡ 6 → Rose (K.faults out.old) (K.faults out.new) }
     ensures whole { result ≡ 0 → has_script (command_of words.now) ≡ true → IsAtEnd (S.remaining input.new) }
-    ensures complete { IsComplete result (command_of words.now) (F.files files.old) (F.faults files.old) (F.faults files.new)
+    ensures complete { IsComplete result (command_of words.now)
+        (F.files files.old) (F.faults files.old) (F.faults files.new)
         (moment (S.remaining input.old) (S.faults input.old) (K.held out.old) (K.faults out.old))
         (moment (S.remaining input.new) (S.faults input.new) (K.held out.new) (K.faults out.new)) }
 {

@@ -2,7 +2,8 @@
 ghost use Rattle.std.specs.Prelude.{◌≡◌, ◌≤◌, ◌+◌, [], IfErr, IfOk, None, OnOk, length};
 ghost use Rattle.replay_report.specs.Players.{Takes, form_of, plan_of, progress_of, reported};
 ghost use Rattle.replay_report.specs.Reports.{taken};
-ghost use Rattle.covisor_proxy.specs.Following.{Closes, ClosesNot, Does, Halts, IsBegun, Leaves, Reaches, Reads, ReadsNot};
+ghost use Rattle.covisor_proxy.specs.Following.{Closes, ClosesNot, Does, Halts, IsBegun};
+ghost use Rattle.covisor_proxy.specs.Following.{Leaves, Reaches, Reads, ReadsNot};
 ghost use Rattle.covisor_proxy.specs.Outcomes.{moment};
 
 use crate::lines::{Lines, Taken};
@@ -24,7 +25,8 @@ pub(crate) fn replay_over<S: Source, K: Sink>(
     requires begins { IsBegun (progress_of player.old) (plan_of player.old) }
     requires silent { reported player.old ≡ [] }
     requires unread { lines.old ≡ record { line = []; unread = [] } }
-    ensures reaches { Reaches result (form_of player.old) (plan_of player.old) (progress_of player.new) (reported player.new)
+    ensures reaches { Reaches result (form_of player.old) (plan_of player.old)
+        (progress_of player.new) (reported player.new)
         (moment (S.remaining input.old) (S.faults input.old) (K.held out.old) (K.faults out.old))
         (moment (S.remaining input.new) (S.faults input.new) (K.held out.new) (K.faults out.new)) }
 {
@@ -63,11 +65,13 @@ fn do_line(player: &mut Player, line: &[u8], used: usize) -> Result<(), Stop>
 /// Does a line whose line feed was read.
 fn whole_line<K: Sink>(player: &mut Player, lines: &mut Lines, out: &mut K) -> Result<(), Stop>
     ensures does { OnOk result (Does
-        (taken (form_of player.old) (plan_of player.old) (progress_of player.old) lines.old.line (length lines.old.line + 1))
+        (taken (form_of player.old) (plan_of player.old) (progress_of player.old)
+        lines.old.line (length lines.old.line + 1))
         (length lines.old.line + 1) (progress_of player.old) (progress_of player.new)
         (K.held out.old) (K.held out.new) (reported player.old) (reported player.new)) }
     ensures halts { IfErr result (λ stop. Halts stop
-        (taken (form_of player.old) (plan_of player.old) (progress_of player.old) lines.old.line (length lines.old.line + 1))
+        (taken (form_of player.old) (plan_of player.old) (progress_of player.old)
+        lines.old.line (length lines.old.line + 1))
         (progress_of player.old) (progress_of player.new)
         (K.held out.old) (K.held out.new) (K.faults out.old) (K.faults out.new)
         (reported player.old) (reported player.new)) }

@@ -24,7 +24,8 @@ pub(crate) fn tell<K: Sink>(alloc: Global, name: &Text, fault: NoPolicy, out: &m
     ensures ends { (files : Option (List MemFile)) (fails fails' : ℕ) (form : Form) (left : Option (List ℕ)) (reads : ℕ)
         → Opens files fails fails' name.now (Err fault)
         → EndsOver result form name.now files fails fails'
-        (moment left reads (K.held out.old) (K.faults out.old)) (moment left reads (K.held out.new) (K.faults out.new)) }
+        (moment left reads (K.held out.old) (K.faults out.old))
+        (moment left reads (K.held out.new) (K.faults out.new)) }
     ensures form { result ≢ Status.Usage }
     ensures done { result ≢ Status.Done }
 {

@@ -1,7 +1,8 @@
 //! The command line.
 ghost use Rattle.std.specs.Prelude.{◌≡◌, ◌≢◌, IfOk, None, OnErr};
 ghost use Rattle.std.specs.List.{list_all};
-ghost use Rattle.covisor_proxy.specs.Words.{alone as alone_of, command_of, is_name as is_name_of, is_printable as is_printable_of};
+ghost use Rattle.covisor_proxy.specs.Words.{alone as alone_of, command_of, is_name as is_name_of};
+ghost use Rattle.covisor_proxy.specs.Words.{is_printable as is_printable_of};
 ghost use Rattle.covisor_proxy.specs.Words.{of_numbers as of_numbers_of, of_policy as of_policy_of};
 
 use cv_io::{Memory, Text};
