@@ -1,15 +1,15 @@
 -- What several writes append, one after the other.
-use Rattle.std.proofs.Common.{ℕ, ◌≡◌, ◌≤◌, ◌+◌, ◌-◌, List, [], ◌++◌, Option, Some, None, take, drop, length, sym, ap, ◌∙◌, subst, refl, append_assoc, length-drop, arith}
-use Rattle.std.proofs.Math.Seq.{take-add}
-use Rattle.std.proofs.lemmas.List.{take_all}
-use Rattle.std.proofs.lemmas.List.{append-nil}
+use Rattle.std.proofs.Common.{◌≡◌, ◌≤◌, ◌+◌, ◌-◌, min, ℕ, List, [], ◌++◌, Option, Some, None, take, drop, length}
+use Rattle.std.proofs.Common.{sym, ap, ◌∙◌, subst, refl, append_assoc, length-drop, arith}
+use Rattle.std.proofs.Math.Seq.{take-add, take-append-add, take-length}
+use Rattle.std.proofs.lemmas.List.{append-nil, take-append-le, take_all, take_min}
 use Rattle.cv_io.specs.Outside.{AppendsFirst}
-use Rattle.covisor_proxy.specs.Written.{Appends}
+use Rattle.covisor_proxy.specs.Written.{Appends, AppendsSome}
 
 -- before the first write
-pub appends-none : (a : Option (List ℕ)) → Appends a a []
-appends-none None = refl
-appends-none (Some held) = ap Some (sym (append-nil held))
+pub appends_none : (a : Option (List ℕ)) → Appends a a []
+appends_none None = refl
+appends_none (Some held) = ap Some (sym (append-nil held))
 
 -- what is left of a piece, as it is lent
 rest_is : (xs : List ℕ) (k : ℕ) → take (length xs - k) (drop k xs) ≡ drop k xs
@@ -27,3 +27,28 @@ appends-more (Some held) b c xs k n e f =
 -- all is written
 pub appends-all : (a b : Option (List ℕ)) (xs : List ℕ) (k : ℕ) → length xs ≤ k → Appends a b (take k xs) → Appends a b xs
 appends-all a b xs k most e = subst (Appends a b) (take_all k xs most) e
+
+-- bytes, and then others
+pub appends_both : (a b c : Option (List ℕ)) (xs ys : List ℕ) → Appends a b xs → Appends b c ys → Appends a c (xs ++ ys)
+appends_both None b c xs ys e f = subst (λ z. Appends z c ys) e f
+appends_both (Some held) b c xs ys e f =
+    let g : c ≡ Some ((held ++ xs) ++ ys) = subst (λ z. Appends z c ys) e f in
+    g ∙ ap Some (append_assoc held xs ys)
+
+-- bytes, and then the first of others
+pub some_after : (a b c : Option (List ℕ)) (xs ys : List ℕ) → Appends a b xs → AppendsSome b c ys → AppendsSome a c (xs ++ ys)
+some_after a b c xs ys e f =
+    (length xs + f.0, subst (Appends a c) (sym (take-append-add xs ys f.0)) (appends_both a b c xs (take f.0 ys) e f.1))
+
+-- none, or all, are the first bytes too
+pub some_none : (a : Option (List ℕ)) (xs : List ℕ) → AppendsSome a a xs
+some_none a xs = (0, appends_none a)
+
+pub some_all : (a b : Option (List ℕ)) (xs : List ℕ) → Appends a b xs → AppendsSome a b xs
+some_all a b xs e = (length xs, subst (Appends a b) (sym (take-length xs)) e)
+
+-- the first bytes are those of more bytes
+pub some_more : (a b : Option (List ℕ)) (xs ys : List ℕ) → AppendsSome a b xs → AppendsSome a b (xs ++ ys)
+some_more a b xs ys e =
+    let short : min e.0 (length xs) ≤ length xs = omega arith in
+    (min e.0 (length xs), subst (Appends a b) (sym (take-append-le (min e.0 (length xs)) xs ys short ∙ take_min e.0 xs)) e.1)

@@ -1,8 +1,9 @@
 pub mod Words
-pub mod Ended
-pub mod Stops
 pub mod Written
-pub mod Reported
 pub mod Chunks
-pub mod Rounds
-pub mod Script
+pub mod BuiltIn
+pub mod Asked
+pub mod Outcomes
+pub mod Opening
+pub mod Following
+pub mod Runs

@@ -1,13 +1,13 @@
 //! Why a replay ends before the end of its script.
 use cv_io::Memory;
+use replay_report::Kind;
 use thiserror::Error;
 
 #[derive(Clone, Copy, PartialEq, Eq, Debug, Error)]
 pub(crate) enum Stop {
-    /// The line of this number, from 1, is none that the program knows at its moment, is too long,
-    /// or makes the script too long.
-    #[error("line {number} is not built")]
-    Unbuilt { number: u64 },
+    /// The next line isn't done.
+    #[error("the line is refused")]
+    Refused { kind: Kind },
     #[error("the script could not be read")]
     Read,
     #[error("the report could not be written")]
@@ -18,9 +18,9 @@ pub(crate) enum Stop {
 
 impl From<Memory> for Stop {
     ghost use Rattle.std.specs.Prelude.{◌≡◌};
-    ghost use Rattle.covisor_proxy.specs.declared.stop.Stop.TheVariants as Stop;
+    ghost use Rattle.covisor_proxy.specs.declared.stop.Stop.TheVariants as stops;
 
-    ghost from_gives = { λ _ stop. stop ≡ Stop.Memory };
+    ghost from_gives = { λ _ stop. stop ≡ stops.Memory };
 
     fn from(_wanted: Memory) -> Stop {
         Stop::Memory

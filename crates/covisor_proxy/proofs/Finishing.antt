@@ -1,0 +1,243 @@
+-- The ends of runs.
+use Rattle.std.proofs.Common.{◌≡◌, ◌⊎◌, inl, inr, ℕ, List, [], ◌∷◌, ◌++◌, Option, Some, None, Result, Ok, Err, take, codes}
+use Rattle.std.proofs.Common.{sym, ap, ◌∙◌, subst, refl, append_assoc, IsOk}
+use Rattle.std.proofs.lemmas.List.{append-nil}
+use Rattle.std.proofs.lemmas.Bool.{false≢true}
+use Rattle.cv_io.specs.Outside.{Rose}
+use Rattle.policy_file.specs.Policies.{PolicyOf}
+use Rattle.replay_report.specs.Reports.{Progress, Report, after_text, cut_report_of, end_text, lone, refusal_text, report_of}
+use Rattle.replay_report.specs.Takings.{as_line}
+use Rattle.script_text.specs.declared.form.Form.{Form}
+use Rattle.cv_io.specs.declared.files.FileFault.TheVariants as faults
+use Rattle.cv_io.specs.declared.files.MemFile.{MemFile}
+use Rattle.policy_file.specs.Terse.{terse}
+use Rattle.policy_file.specs.declared.fault.PolicyFault.{PolicyFault}
+use Rattle.script_text.specs.declared.form.Form.TheVariants as forms
+use Rattle.covisor_proxy.specs.Asked.{over, over_built_in, over_file, report_for, stated}
+use Rattle.covisor_proxy.specs.Chunks.{Gave, IsAtEnd}
+use Rattle.covisor_proxy.specs.Opening.{AnswersTo, Holds}
+use Rattle.covisor_proxy.specs.Runs.{Ended, EndsOver}
+use Rattle.covisor_proxy.specs.declared.words.Command.{Command}
+use Rattle.covisor_proxy.specs.declared.words.Command.TheVariants as commands
+use Rattle.covisor_proxy.specs.Following.{Alone, Breaks, Comes, EndsWith, Reaches, StopsWith, Writes}
+use Rattle.covisor_proxy.specs.Outcomes.{Begins, BreaksOff, Ends, Finishes, IsScript, Moment, Settles, Tells, bytes_of, code_of}
+use Rattle.covisor_proxy.specs.Written.{Appends, AppendsSome}
+use Rattle.covisor_proxy.specs.declared.status.Status.{Status}
+use Rattle.covisor_proxy.specs.declared.status.Status.TheVariants as statuses
+use Rattle.covisor_proxy.specs.declared.stop.Stop.{Stop}
+use Rattle.covisor_proxy.specs.declared.stop.Stop.TheVariants as stops
+use Rattle.covisor_proxy.proofs.Appending.{appends_both, appends_none, some_after, some_none}
+use Rattle.covisor_proxy.proofs.Reading.{rest_in}
+
+pub script-told : (a : Option (List ℕ)) → IsScript a (rest_in a)
+script-told None = tt
+script-told (Some left) = refl
+
+-- ---- a last line alone
+
+pub settles-alone : (code : ℕ) (all : List ℕ → Report) (text : List ℕ) (old new : Moment) → ((script : List ℕ) → all script ≡ lone text code)
+    → Writes old.held new.held old.writes new.writes (as_line text) → Settles code all old new
+settles-alone code all text old new e w = record {
+  script = rest_in old.left;
+  is = script-told old.left;
+  status = ap (λ (r : Report). r.status) (e (rest_in old.left));
+  tells = subst (λ (r : Report). Tells r old new) (sym (e (rest_in old.left))) w;
+}
+
+pub begins-none : (all : List ℕ → Report) (old new : Moment) → new.held ≡ old.held → Begins all old new
+begins-none all old new e = record {
+  script = rest_in old.left;
+  is = script-told old.left;
+  written = subst (λ (x : Option (List ℕ)). AppendsSome old.held x (bytes_of (all (rest_in old.left)))) (sym e) (some_none old.held (bytes_of (all (rest_in old.left))));
+}
+
+pub ends-alone : (status result : Status) (all cut : List ℕ → Report) (text : List ℕ) (old new : Moment)
+    → (Settles (code_of status) all old new → Ends status all cut old new) → ((script : List ℕ) → all script ≡ lone text (code_of status))
+    → Alone status result old.held new.held old.writes new.writes (as_line text) → Ends result all cut old new
+ends-alone status result all cut text old new f e (inl a) =
+    subst (λ (s : Status). Ends s all cut old new) (sym a.0) (f (settles-alone (code_of status) all text old new e a.1))
+ends-alone status result all cut text old new f e (inr a) =
+    subst (λ (s : Status). Ends s all cut old new) (sym a.0) (begins-none all old new a.1)
+
+-- ---- what was written and what waited, and the last line
+
+-- the bytes of a report of which all but the last line is known
+bytes_known : (written waiting text : List ℕ) (code : ℕ) → bytes_of (after_text (written ++ waiting) (lone text code)) ≡ written ++ (waiting ++ as_line text)
+bytes_known written waiting text code =
+    ap (λ (x : List ℕ). x ++ as_line text) (append-nil (written ++ waiting)) ∙ append_assoc written waiting (as_line text)
+
+begins-come : (all : List ℕ → Report) (text : List ℕ) (code : ℕ) (old mid new : Moment) (w : List ℕ) → Comes all (lone text code) old mid w
+    → AppendsSome mid.held new.held (w ++ as_line text) → Begins all old new
+begins-come all text code old mid new w c a = record {
+  script = c.script;
+  is = c.is;
+  written = subst (AppendsSome old.held new.held) (sym (ap bytes_of c.report ∙ bytes_known c.written w text code))
+      (some_after old.held mid.held new.held c.written (w ++ as_line text) c.appends a);
+}
+
+begins-still : (all : List ℕ → Report) (text : List ℕ) (code : ℕ) (old mid new : Moment) (w : List ℕ) → Comes all (lone text code) old mid w
+    → new.held ≡ mid.held → Begins all old new
+begins-still all text code old mid new w c e =
+    begins-come all text code old mid new w c
+    (subst (λ (x : Option (List ℕ)). AppendsSome mid.held x (w ++ as_line text)) (sym e) (some_none mid.held (w ++ as_line text)))
+
+pub ends-done : (status : Status) (all cut : List ℕ → Report) (text : List ℕ) (old mid new : Moment) (w : List ℕ) → Comes all (lone text 0) old mid w
+    → new.reads ≡ old.reads → mid.writes ≡ old.writes
+    → EndsWith status mid.held new.held mid.writes new.writes w (as_line text) → Ends status all cut old new
+ends-done statuses.Done all cut text old mid new w c r q e = record {
+  script = c.script;
+  is = c.is;
+  status = ap (λ (r : Report). r.status) c.report;
+  written = subst (Appends old.held new.held) (sym (ap bytes_of c.report ∙ bytes_known c.written w text 0))
+      (appends_both old.held mid.held new.held c.written (w ++ as_line text) c.appends e.0);
+  reads = r;
+  writes = e.1 ∙ q;
+}
+ends-done statuses.Write all cut text old mid new w c r q e =
+    (subst (λ (x : ℕ). Rose x new.writes) q e.0, begins-come all text 0 old mid new w c e.1)
+ends-done statuses.Memory all cut text old mid new w c r q e = begins-still all text 0 old mid new w c e
+ends-done statuses.Usage all cut text old mid new w c r q e = absurd e
+ends-done statuses.Policy all cut text old mid new w c r q e = absurd e
+ends-done statuses.Line all cut text old mid new w c r q e = absurd e
+ends-done statuses.Read all cut text old mid new w c r q e = absurd e
+ends-done statuses.Absent all cut text old mid new w c r q e = absurd e
+
+tells-come : (all : List ℕ → Report) (text : List ℕ) (code : ℕ) (old mid new : Moment) (w : List ℕ) → (c : Comes all (lone text code) old mid w)
+    → mid.writes ≡ old.writes
+    → Appends mid.held new.held (w ++ as_line text) ⊎ (Rose mid.writes new.writes × ((n : ℕ) × Appends mid.held new.held (w ++ take n (as_line text))))
+    → Tells (all c.script) old new
+tells-come all text code old mid new w c q (inl a) =
+    inl (subst (Appends old.held new.held) (sym (ap bytes_of c.report ∙ bytes_known c.written w text code))
+    (appends_both old.held mid.held new.held c.written (w ++ as_line text) c.appends a))
+tells-come all text code old mid new w c q (inr a) =
+    let some : Appends old.held new.held ((c.written ++ w) ++ take a.1.0 (as_line text)) =
+    subst (Appends old.held new.held) (sym (append_assoc c.written w (take a.1.0 (as_line text))))
+    (appends_both old.held mid.held new.held c.written (w ++ take a.1.0 (as_line text)) c.appends a.1.1) in
+    subst (λ (r : Report). Tells r old new) (sym c.report)
+    (inr (
+      subst (λ (x : ℕ). Rose x new.writes) q a.0,
+      (a.1.0, subst (λ (x : List ℕ). Appends old.held new.held (x ++ take a.1.0 (as_line text))) (sym (append-nil (c.written ++ w))) some),
+    ))
+
+pub ends-stopped : (status : Status) (all cut : List ℕ → Report) (text : List ℕ) (old mid new : Moment) (w : List ℕ) → Comes all (lone text 4) old mid w
+    → mid.writes ≡ old.writes
+    → StopsWith status mid.held new.held mid.writes new.writes w (as_line text) → Ends status all cut old new
+ends-stopped statuses.Line all cut text old mid new w c q e = record {
+  script = c.script;
+  is = c.is;
+  status = ap (λ (r : Report). r.status) c.report;
+  tells = tells-come all text 4 old mid new w c q e;
+}
+ends-stopped statuses.Write all cut text old mid new w c q e =
+    (subst (λ (x : ℕ). Rose x new.writes) q e.0, begins-come all text 4 old mid new w c e.1)
+ends-stopped statuses.Memory all cut text old mid new w c q e = begins-still all text 4 old mid new w c e
+ends-stopped statuses.Done all cut text old mid new w c q e = absurd e
+ends-stopped statuses.Usage all cut text old mid new w c q e = absurd e
+ends-stopped statuses.Policy all cut text old mid new w c q e = absurd e
+ends-stopped statuses.Read all cut text old mid new w c q e = absurd e
+ends-stopped statuses.Absent all cut text old mid new w c q e = absurd e
+
+-- ---- a read failed
+
+breaks_tells : (cut : List ℕ → Report) (old mid new : Moment) (b : Breaks cut old mid) → mid.writes ≡ old.writes
+    → Writes mid.held new.held mid.writes new.writes (as_line (codes "fault read")) → Tells (cut b.read) old new
+breaks_tells cut old mid new b q (inl a) =
+    inl (subst (λ (x : List ℕ). Appends old.held new.held ((cut b.read).told ++ x)) (sym b.last)
+    (appends_both old.held mid.held new.held (cut b.read).told (as_line (codes "fault read")) b.appends a))
+breaks_tells cut old mid new b q (inr a) =
+    inr (
+      subst (λ (x : ℕ). Rose x new.writes) q a.0,
+      (
+        a.1.0,
+        subst (λ (x : List ℕ). Appends old.held new.held ((cut b.read).told ++ take a.1.0 x)) (sym b.last)
+            (appends_both old.held mid.held new.held (cut b.read).told (take a.1.0 (as_line (codes "fault read"))) b.appends a.1.1),
+      ),
+    )
+
+pub breaks-off : (cut : List ℕ → Report) (old mid new : Moment) → Breaks cut old mid → Rose old.reads mid.reads → mid.writes ≡ old.writes
+    → new.left ≡ mid.left → new.reads ≡ mid.reads
+    → Writes mid.held new.held mid.writes new.writes (as_line (codes "fault read")) → BreaksOff cut old new
+breaks-off cut old mid new b r q l s w = record {
+  read = b.read;
+  gave = subst (λ (x : Option (List ℕ)). Gave old.left x b.read) (sym l) b.gave;
+  fault = subst (Rose old.reads) (sym s) r;
+  tells = breaks_tells cut old mid new b q w;
+}
+
+-- ---- a replay
+
+-- it was read to its end
+pub reached-end : (outcome : Result (Unit {0}) Stop) (form : Form) (p : PolicyOf) (at : Progress) (w : List ℕ) (old new : Moment) → IsOk outcome
+    → Reaches outcome form p at w old new → IsAtEnd new.left
+reached-end (Ok _) form p at w old new ok r = r.1
+reached-end (Err stop) form p at w old new ok r = absurd (false≢true ok)
+
+-- ---- policies
+
+pub over-built-in : (status : Status) (r : Result PolicyOf PolicyFault) (p : PolicyOf) (old new : Moment) → r ≡ Ok p
+    → Ends status (report_of forms.Replay p) (cut_report_of forms.Replay p) old new
+    → Ends status (over_built_in report_of r) (over_built_in cut_report_of r) old new
+over-built-in status r p old new e h =
+    subst (λ (x : Result PolicyOf PolicyFault). Ends status (over_built_in report_of x) (over_built_in cut_report_of x) old new) (sym e) h
+
+pub over-policy : (status : Status) (form : Form) (r : Result PolicyOf PolicyFault) (p : PolicyOf) (old new : Moment) → r ≡ Ok p
+    → Ends status (report_of form p) (cut_report_of form p) old new
+    → Ends status (over report_of form r) (over cut_report_of form r) old new
+over-policy status form r p old new e h =
+    subst (λ (x : Result PolicyOf PolicyFault). Ends status (over report_of form x) (over cut_report_of form x) old new) (sym e) h
+
+pub told-absent : (result : Status) (form : Form) (name : List ℕ) (files : Option (List MemFile)) (fails fails' : ℕ) (old new : Moment) → Holds files name None
+    → Alone statuses.Absent result old.held new.held old.writes new.writes (as_line (codes "fault absent " ++ name))
+    → EndsOver result form name files fails fails' old new
+told-absent result form name files fails fails' old new h a = (
+  Err faults.Absent,
+  h,
+  ends-alone statuses.Absent result (over_file report_of form name (Err faults.Absent)) (over_file cut_report_of form name (Err faults.Absent))
+      (codes "fault absent " ++ name) old new (λ s. s) (λ script. refl) a,
+)
+
+pub told-unread : (form : Form) (name : List ℕ) (files : Option (List MemFile)) (fails fails' : ℕ) (old new : Moment) → Rose fails fails'
+    → Writes old.held new.held old.writes new.writes (as_line (codes "fault read"))
+    → EndsOver statuses.Read form name files fails fails' old new
+told-unread form name files fails fails' old new h a = (
+  Err faults.Failed,
+  h,
+  inl (settles-alone 5 (over_file report_of form name (Err faults.Failed)) (codes "fault read") old new (λ script. refl) a),
+)
+
+pub told-refused : (result : Status) (form : Form) (name : List ℕ) (fault : PolicyFault) (files : Option (List MemFile)) (fails fails' : ℕ) (old new : Moment)
+    → (bytes : List ℕ) → Holds files name (Some bytes) → stated bytes ≡ Err fault
+    → Alone statuses.Policy result old.held new.held old.writes new.writes (as_line (codes "fault policy " ++ terse fault))
+    → EndsOver result form name files fails fails' old new
+told-refused result form name fault files fails fails' old new bytes h e a = (
+  Ok bytes,
+  h,
+  ends-alone statuses.Policy result (over_file report_of form name (Ok bytes)) (over_file cut_report_of form name (Ok bytes))
+      (codes "fault policy " ++ terse fault) old new (λ s. s) (λ script. ap (λ (x : Result PolicyOf PolicyFault). over report_of form x script) e) a,
+)
+
+pub told-wanted : (form : Form) (name : List ℕ) (files : Option (List MemFile)) (fails fails' : ℕ) (old new : Moment) → new.held ≡ old.held
+    → EndsOver statuses.Memory form name files fails fails' old new
+told-wanted form name files fails fails' old new e = (
+  Err faults.Memory,
+  tt,
+  begins-none (over_file report_of form name (Err faults.Memory)) old new e,
+)
+
+-- ---- what isn't of a file
+
+pub answers-wanted : (command : Option Command) (files : Option (List MemFile)) (fails fails' : ℕ) → AnswersTo command files fails fails' (Err faults.Memory)
+answers-wanted None files fails fails' = tt
+answers-wanted (Some commands.Replay) files fails fails' = tt
+answers-wanted (Some (commands.ReplayPolicy name)) files fails fails' = tt
+answers-wanted (Some (commands.ExplainPolicy name)) files fails fails' = tt
+
+pub ended-wanted : (command : Option Command) (files : Option (List MemFile)) (fails fails' : ℕ) (old new : Moment) → new.held ≡ old.held
+    → Ended statuses.Memory command files fails fails' old new
+ended-wanted command files fails fails' old new e =
+    (Err faults.Memory, answers-wanted command files fails fails', begins-none (report_for command (Err faults.Memory)) old new e)
+
+pub ended-usage : (files : Option (List MemFile)) (fails fails' : ℕ) (old new : Moment)
+    → Writes old.held new.held old.writes new.writes (as_line (codes "fault usage")) → Ended statuses.Usage None files fails fails' old new
+ended-usage files fails fails' old new a =
+    (Err faults.Memory, tt, settles-alone 2 (report_for None (Err faults.Memory)) (codes "fault usage") old new (λ script. refl) a)

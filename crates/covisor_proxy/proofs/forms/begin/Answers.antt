@@ -1,0 +1,6 @@
+use Rattle.covisor_proxy.specs.Following.{IsBegun}
+use Rattle.covisor_proxy.proofs.forms.begin.Goals as goal
+
+pub returns-clause-begins : goal.returns-clause-begins
+unfolding IsBegun
+returns-clause-begins c = c.open.ensures.begins

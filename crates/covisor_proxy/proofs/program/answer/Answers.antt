@@ -1,0 +1,11 @@
+use Rattle.std.proofs.Common.{refl}
+use Rattle.covisor_proxy.specs.Outcomes.{moment}
+use Rattle.covisor_proxy.specs.Words.{command_of}
+use Rattle.covisor_proxy.proofs.Finishing.{ended-wanted}
+use Rattle.covisor_proxy.proofs.program.answer.Goals as goal
+
+pub returns-in-Err-clause-ends : goal.returns-in-Err-clause-ends
+returns-in-Err-clause-ends g c =
+    let here = moment (g.S.Source.remaining c.args.input.now) (g.S.Source.faults c.args.input.now) (g.K.Sink.held c.args.out.now) (g.K.Sink.faults c.args.out.now) in
+    let fails = g.F.Files.faults c.args.files.now in
+    ended-wanted (command_of c.args.words.now) (g.F.Files.files c.args.files.now) fails fails here here refl

@@ -1,0 +1,17 @@
+use Rattle.std.proofs.Common.{None, Option, subst, sym}
+use Rattle.covisor_proxy.specs.Outcomes.{moment}
+use Rattle.covisor_proxy.specs.Runs.{Ended}
+use Rattle.covisor_proxy.specs.declared.status.Status.{Status}
+use Rattle.covisor_proxy.specs.declared.words.Command.{Command}
+use Rattle.covisor_proxy.proofs.Finishing.{ended-usage}
+use Rattle.covisor_proxy.proofs.program.respond.Goals as goal
+
+pub returns-in-None-clause-ends : goal.returns-in-None-clause-ends
+returns-in-None-clause-ends g c =
+    let old = moment (g.S.Source.remaining c.args.input.now) (g.S.Source.faults c.args.input.now) (g.K.Sink.held c.args.out.now) (g.K.Sink.faults c.args.out.now) in
+    let new = moment (g.S.Source.remaining c.args.input.now) (g.S.Source.faults c.args.input.now) (g.K.Sink.held c.write_fault.new.out) (g.K.Sink.faults c.write_fault.new.out) in
+    let files = g.F.Files.files c.args.files.now in
+    let fails = g.F.Files.faults c.args.files.now in
+    subst (λ (x : Option Command). Ended c.write_fault.result x files fails fails old new) (sym c.in-None.is)
+    (subst (λ (x : Status). Ended x None files fails fails old new) (sym c.write_fault.ensures.status)
+    (ended-usage files fails fails old new c.write_fault.ensures.writes))

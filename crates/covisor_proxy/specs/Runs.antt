@@ -1,0 +1,79 @@
+-- What a run is: its status, why it comes, and what was written.
+use Rattle.std.specs.Prelude.{◌≡◌, ◌≢◌, ◌⊎◌, ℕ, Bool, true, false, List, Option, Some, None, Result, Ok, Err}
+use Rattle.cv_io.specs.Outside.{Rose}
+use Rattle.cv_io.specs.declared.files.FileFault.{FileFault}
+use Rattle.cv_io.specs.declared.files.FileFault.TheVariants.{Memory}
+use Rattle.cv_io.specs.declared.files.MemFile.{MemFile}
+use Rattle.policy_file.specs.declared.fault.PolicyFault.{PolicyFault}
+use Rattle.replay_report.specs.Reports.{cut_report_of, report_of}
+use Rattle.script_text.specs.declared.form.Form.{Form}
+use Rattle.covisor_proxy.specs.Asked.{cut_report_for, over_file, report_for, stated}
+use Rattle.covisor_proxy.specs.Opening.{Answers, AnswersTo, Holds}
+use Rattle.covisor_proxy.specs.Outcomes.{Ends, IsScript, Moment, code_of}
+use Rattle.covisor_proxy.specs.declared.status.Status.{Status}
+use Rattle.covisor_proxy.specs.declared.words.Command.{Command}
+use Rattle.covisor_proxy.specs.declared.words.Command.TheVariants.{Replay, ReplayPolicy, ExplainPolicy}
+
+-- the name of the policy file, if the command has one
+abbrev pub name_in : Option Command → Option (List ℕ)
+name_in None = None
+name_in (Some Replay) = None
+name_in (Some (ReplayPolicy name)) = Some name
+name_in (Some (ExplainPolicy name)) = Some name
+
+-- the command has a script
+abbrev pub has_script : Option Command → Bool
+has_script None = false
+has_script (Some Replay) = true
+has_script (Some (ReplayPolicy name)) = true
+has_script (Some (ExplainPolicy name)) = true
+
+-- a run ended with a status: the files answered in some way, and so much was read and written
+abbrev pub Ended : Status → Option Command → Option (List MemFile) → (fails fails' : ℕ) → Moment → Moment → Type 0
+Ended status command files fails fails' old new =
+    (file : Result (List ℕ) FileFault) × AnswersTo command files fails fails' file
+    × Ends status (report_for command file) (cut_report_for command file) old new
+
+-- so ended a replay over the policy of a file
+abbrev pub EndsOver : Status → Form → List ℕ → Option (List MemFile) → (fails fails' : ℕ) → Moment → Moment → Type 0
+EndsOver status form name files fails fails' old new =
+    (file : Result (List ℕ) FileFault) × Answers files fails fails' name file
+    × Ends status (over_file report_of form name file) (over_file cut_report_of form name file) old new
+
+-- the exit status is that of an end, and so the run ended: what was read, and what was written of the report
+pub record Runs (answer : ℕ) (command : Option Command) (files : Option (List MemFile)) (fails fails' : ℕ) (old new : Moment) : Type 0 where
+  pub status : Status
+  pub file : Result (List ℕ) FileFault
+  pub code : answer ≡ code_of status
+  pub answers : AnswersTo command files fails fails' file
+  pub ends : Ends status (report_for command file) (cut_report_for command file) old new
+
+-- the file of the command states no policy: it is refused for another cause than memory
+pub record IsRefused (command : Option Command) (files : Option (List MemFile)) : Type 0 where
+  pub name : List ℕ
+  pub bytes : List ℕ
+  pub fault : PolicyFault
+  pub named : name_in command ≡ Some name
+  pub held : Holds files name (Some bytes)
+  pub refused : stated bytes ≡ Err fault
+
+-- there is no such file
+pub record IsAbsent (command : Option Command) (files : Option (List MemFile)) : Type 0 where
+  pub name : List ℕ
+  pub named : name_in command ≡ Some name
+  pub absent : Holds files name None
+
+-- no count rose
+pub record IsQuiet (fails fails' : ℕ) (old new : Moment) : Type 0 where
+  pub files : Rose fails fails' → ⊥
+  pub reads : Rose old.reads new.reads → ⊥
+  pub writes : Rose old.writes new.writes → ⊥
+
+-- where no count rose, and the report of the script has status 0 over whatever the files answer but want of memory, all
+-- is done, or memory was wanted
+abbrev pub IsComplete : ℕ → Option Command → Option (List MemFile) → (fails fails' : ℕ) → Moment → Moment → Type 0
+IsComplete code command files fails fails' old new =
+    IsQuiet fails fails' old new
+    → ((file : Result (List ℕ) FileFault) (script : List ℕ) → file ≢ Err Memory → AnswersTo command files fails fails' file
+    → IsScript old.left script → (report_for command file script).status ≡ 0)
+    → (code ≡ 0) ⊎ (code ≡ 10)

@@ -1,0 +1,95 @@
+//! The forms of the program.
+ghost use Rattle.std.specs.Prelude.{◌≡◌, ◌≢◌, [], IfOk};
+ghost use Rattle.replay_report.specs.Players.{form_of, plan_of, progress_of, reported};
+ghost use Rattle.replay_report.specs.Reports.{cut_report_of, report_of};
+ghost use Rattle.covisor_proxy.specs.Asked.{over_built_in};
+ghost use Rattle.covisor_proxy.specs.BuiltIn.{built_in_read};
+ghost use Rattle.covisor_proxy.specs.Chunks.{IsAtEnd};
+ghost use Rattle.covisor_proxy.specs.Following.{IsBegun};
+ghost use Rattle.covisor_proxy.specs.Outcomes.{Ends, moment};
+ghost use Rattle.covisor_proxy.specs.Runs.{EndsOver};
+
+use crate::ending::conclude;
+use crate::lines::Lines;
+use crate::opening::{open, open_built_in};
+use crate::replay::replay_over;
+use crate::status::Status;
+use crate::telling::tell;
+use cv_io::{Files, Memory, Sink, Source, Text};
+use policy_file::Policy;
+use replay_report::Player;
+use script_text::Form;
+use std::alloc::Global;
+
+/// A replay of which nothing is done yet.
+fn begin(alloc: Global, form: Form, policy: Policy) -> Result<Player, Memory>
+    ensures form { IfOk result (λ player. form_of player ≡ form) }
+    ensures plan { IfOk result (λ player. plan_of player ≡ policy) }
+    ensures begins { IfOk result (λ player. IsBegun (progress_of player) policy) }
+    ensures report { IfOk result (λ player. reported player ≡ []) }
+{
+    Player::open(alloc, form, policy)
+}
+
+/// Replays a script over a policy.
+fn replay<S: Source, K: Sink>(
+    alloc: Global,
+    form: Form,
+    policy: Policy,
+    input: &mut S,
+    out: &mut K,
+) -> Status
+    ensures ends { Ends result (report_of form policy) (cut_report_of form policy)
+        (moment (S.remaining input.old) (S.faults input.old) (K.held out.old) (K.faults out.old))
+        (moment (S.remaining input.new) (S.faults input.new) (K.held out.new) (K.faults out.new)) }
+    ensures form { result ≢ Status.Usage }
+    ensures whole { result ≡ Status.Done → IsAtEnd (S.remaining input.new) }
+{
+    let Ok(mut lines) = Lines::new(alloc) else {
+        return Status::Memory;
+    };
+    let Ok(mut player) = begin(alloc, form, policy) else {
+        return Status::Memory;
+    };
+    let outcome = replay_over(&mut player, &mut lines, input, out);
+    conclude(alloc, &mut player, outcome, out)
+}
+
+/// Replays a script over the built-in policy.
+pub(crate) fn replay_built_in<S: Source, K: Sink>(
+    alloc: Global,
+    input: &mut S,
+    out: &mut K,
+) -> Status
+    ensures ends { Ends result (over_built_in report_of built_in_read) (over_built_in cut_report_of built_in_read)
+        (moment (S.remaining input.old) (S.faults input.old) (K.held out.old) (K.faults out.old))
+        (moment (S.remaining input.new) (S.faults input.new) (K.held out.new) (K.faults out.new)) }
+    ensures form { result ≢ Status.Usage }
+    ensures whole { result ≡ Status.Done → IsAtEnd (S.remaining input.new) }
+{
+    match open_built_in(alloc) {
+        Ok(policy) => replay(alloc, Form::Replay, policy, input, out),
+        Err(_) => Status::Memory,
+    }
+}
+
+/// Replays a script over the policy of a file.
+pub(crate) fn replay_file<F: Files, S: Source, K: Sink>(
+    alloc: Global,
+    form: Form,
+    name: &Text,
+    files: &mut F,
+    input: &mut S,
+    out: &mut K,
+) -> Status
+    ensures ends { EndsOver result form name.now (F.files files.old) (F.faults files.old) (F.faults files.new)
+        (moment (S.remaining input.old) (S.faults input.old) (K.held out.old) (K.faults out.old))
+        (moment (S.remaining input.new) (S.faults input.new) (K.held out.new) (K.faults out.new)) }
+    ensures form { result ≢ Status.Usage }
+    ensures whole { result ≡ Status.Done → IsAtEnd (S.remaining input.new) }
+{
+    match open(alloc, files, name) {
+        Ok(policy) => replay(alloc, form, policy, input, out),
+        Err(fault) => tell(alloc, name, fault, out),
+    }
+}

@@ -1,0 +1,78 @@
+//! The last lines of faults of a policy file.
+ghost use Rattle.std.specs.Prelude.{◌≡◌, ◌≢◌, ◌++◌, Err, IfOk, IsTrue, List, Option, codes, ℕ};
+ghost use Rattle.std.specs.List.{list_all};
+ghost use Rattle.script_text.specs.Lines.{is_ascii};
+ghost use Rattle.policy_file.specs.Terse.{terse as terse_of};
+ghost use Rattle.replay_report.specs.Takings.{as_line};
+ghost use Rattle.cv_io.specs.declared.files.MemFile.{MemFile};
+ghost use Rattle.script_text.specs.declared.form.Form.{Form};
+ghost use Rattle.covisor_proxy.specs.Following.{Alone};
+ghost use Rattle.covisor_proxy.specs.Opening.{Opens};
+ghost use Rattle.covisor_proxy.specs.Outcomes.{moment};
+ghost use Rattle.covisor_proxy.specs.Runs.{EndsOver};
+
+use crate::ending::write_fault;
+use crate::opening::NoPolicy;
+use crate::status::Status;
+use cv_io::{Memory, Sink, Text};
+use policy_file::PolicyFault;
+use script_text::say;
+use std::alloc::Global;
+
+/// There is no policy of a name.
+pub(crate) fn tell<K: Sink>(alloc: Global, name: &Text, fault: NoPolicy, out: &mut K) -> Status
+    ensures ends { (files : Option (List MemFile)) (fails fails' : ℕ) (form : Form) (left : Option (List ℕ)) (reads : ℕ)
+        → Opens files fails fails' name.now (Err fault)
+        → EndsOver result form name.now files fails fails'
+        (moment left reads (K.held out.old) (K.faults out.old)) (moment left reads (K.held out.new) (K.faults out.new)) }
+    ensures form { result ≢ Status.Usage }
+    ensures done { result ≢ Status.Done }
+{
+    match fault {
+        NoPolicy::Absent => tell_absent(alloc, name, out),
+        NoPolicy::Unread => write_fault(out, b"fault read\n", Status::Read),
+        NoPolicy::Refused { fault } => tell_refused(alloc, &fault, out),
+        NoPolicy::Memory => Status::Memory,
+    }
+}
+
+/// There is no file of a name.
+fn tell_absent<K: Sink>(alloc: Global, name: &Text, out: &mut K) -> Status
+    ensures { Alone Status.Absent result (K.held out.old) (K.held out.new) (K.faults out.old) (K.faults out.new)
+        (as_line (codes "fault absent " ++ name.now)) }
+{
+    match fault_line(alloc, "fault absent ", name) {
+        Ok(last) => write_fault(out, last.as_bytes(), Status::Absent),
+        Err(_) => Status::Memory,
+    }
+}
+
+/// The policy file is refused.
+fn tell_refused<K: Sink>(alloc: Global, fault: &PolicyFault, out: &mut K) -> Status
+    ensures { Alone Status.Policy result (K.held out.old) (K.held out.new) (K.faults out.old) (K.faults out.new)
+        (as_line (codes "fault policy " ++ terse_of fault.now)) }
+{
+    match refusal_line(alloc, fault) {
+        Ok(last) => write_fault(out, last.as_bytes(), Status::Policy),
+        Err(_) => Status::Memory,
+    }
+}
+
+fn refusal_line(alloc: Global, fault: &PolicyFault) -> Result<Text, Memory>
+    ensures { IfOk result (λ line. line ≡ as_line (codes "fault policy " ++ terse_of fault.now)) }
+{
+    let terse = fault.terse(alloc)?;
+    fault_line(alloc, "fault policy ", &terse)
+}
+
+/// A line of a fault, which ends with a text.
+fn fault_line(alloc: Global, start: &str, end: &Text) -> Result<Text, Memory>
+    requires { IsTrue (list_all is_ascii start.now) }
+    ensures { IfOk result (λ line. line ≡ as_line (start.now ++ end.now)) }
+{
+    let mut line = Text::new(alloc);
+    say(&mut line, start)?;
+    line.push_text(end)?;
+    line.push(b'\n')?;
+    Ok(line)
+}

@@ -1,0 +1,5 @@
+use Rattle.worked_rows.proofs.row.play.Given as goal
+
+-- the ledger of the counter is the blank one's
+abbrev pub ghosts-play_counted : goal.ghosts-play_counted
+ghosts-play_counted a = record { name = a.blank.name; parts = a.blank.parts }
