@@ -1,5 +1,6 @@
 -- A replay as contracts see it. What it is made of stays closed to callers, whose proofs would else open the whole machine.
 use Rattle.std.specs.Prelude.{◌≡◌, ℕ, List, ◌++◌, Option, Some, None, Result, Ok, Err}
+use Rattle.hyper_core.specs.Worlds.{rule_count}
 use Rattle.policy_file.specs.Policies.{PolicyOf}
 use Rattle.script_text.specs.declared.form.Form.{Form}
 use Rattle.replay_report.specs.Playing.{Played}
@@ -21,6 +22,10 @@ reported player = player.stage.report
 -- how far it is
 unfoldable pub progress_of : Player → Progress
 progress_of player = record { number = player.number; size = player.size; stand = stand_in player.stage player.streams }
+
+-- how many composed rules the expression of the first virtual switch has
+unfoldable pub rules_at : PolicyOf → Progress → ℕ
+rules_at p progress = rule_count p progress.stand.state 0
 
 -- a line was done: what it does was reported; or it was not, and nothing is other than it was
 abbrev pub Takes : Option Kind → Result Played Kind → ℕ → Progress → Progress → List ℕ → List ℕ → Type 0

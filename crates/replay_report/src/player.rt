@@ -60,8 +60,7 @@ pub struct Player {
 }
 
 impl Player {
-    ghost use Rattle.hyper_core.specs.Worlds.{rule_count};
-    ghost use Rattle.replay_report.specs.Players.{Takes, form_of, plan_of, progress_of, reported};
+    ghost use Rattle.replay_report.specs.Players.{Takes, form_of, plan_of, progress_of, reported, rules_at};
     ghost use Rattle.replay_report.specs.Reports.{start, taken};
 
     /// A replay that begins.
@@ -112,9 +111,9 @@ impl Player {
     }
 
     /// How many composed rules the expression of the first virtual switch has.
-    #[tactic(auto, unfolding(crate::specs::Players::form_of, crate::specs::Players::plan_of, crate::specs::Players::reported, crate::specs::Players::progress_of))]
+    #[tactic(auto, unfolding(crate::specs::Players::form_of, crate::specs::Players::plan_of, crate::specs::Players::reported, crate::specs::Players::progress_of, crate::specs::Players::rules_at))]
     pub fn rules(&self) -> Result<u64, Memory>
-        ensures { IfOk result (λ count. count ≡ rule_count (plan_of self.now) (progress_of self.now).stand.state 0) }
+        ensures { IfOk result (λ count. count ≡ rules_at (plan_of self.now) (progress_of self.now)) }
     {
         self.stage.machine.rules(0)
     }
