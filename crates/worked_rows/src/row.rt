@@ -130,30 +130,23 @@ impl Row {
 
 /// Runs the program with these words: what it wrote, and its status.
 pub fn play(alloc: Global, row: &Row, words: &str) -> Result<(Bytes, u8), Memory> {
-    play_counted::<Brand>(alloc, row, words, Blank::new(1))
+    let words = words_of(alloc, words)?;
+    play_counted::<Brand>(alloc, row, words.as_slice(), Blank::new(1))
 }
 
 /// The same, with a counter of steps of this ledger.
 fn play_counted<G: Ledger>(
     alloc: Global,
     row: &Row,
-    words: &str,
+    words: &[String],
     blank: Blank,
 ) -> Result<(Bytes, u8), Memory>
     requires { (blank.name ≡ G.name) × (blank.parts ≡ G.parts) × (0 < blank.parts) }
 {
-    let words = words_of(alloc, words)?;
     let mut files = row.files(alloc)?;
     let mut input = MemSource::new(row.script.copied()?, first_if(alloc, row.fails_script)?);
     let mut out = MemSink::new(Bytes::new(alloc), first_if(alloc, row.fails_write)?);
     let mut steps = Steps::<G>::new(blank);
-    let status = run(
-        alloc,
-        words.as_slice(),
-        &mut files,
-        &mut input,
-        &mut out,
-        &mut steps,
-    );
+    let status = run(alloc, words, &mut files, &mut input, &mut out, &mut steps);
     Ok((out.held, status))
 }
