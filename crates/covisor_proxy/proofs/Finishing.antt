@@ -172,6 +172,13 @@ pub reached-end : (outcome : Result (Unit {0}) Stop) (form : Form) (p : PolicyOf
 reached-end (Ok _) form p at w old new ok r = r.1
 reached-end (Err stop) form p at w old new ok r = absurd (false≢true ok)
 
+-- a replay of this policy, by lines of this form
+pub reaches-of : (outcome : Result (Unit {0}) Stop) (form form' : Form) (p p' : PolicyOf) (at : Progress) (w : List ℕ) (old new : Moment)
+    → form' ≡ form → p' ≡ p → Reaches outcome form' p' at w old new → Reaches outcome form p at w old new
+reaches-of outcome form form' p p' at w old new e f r =
+    subst (λ (x : PolicyOf). Reaches outcome form x at w old new) f
+    (subst (λ (x : Form). Reaches outcome x p' at w old new) e r)
+
 -- ---- policies
 
 pub over-built-in : (status : Status) (r : Result PolicyOf PolicyFault) (p : PolicyOf) (old new : Moment) → r ≡ Ok p

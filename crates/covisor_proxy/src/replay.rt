@@ -28,6 +28,7 @@ pub(crate) fn replay_over<S: Source, K: Sink>(
         (moment (S.remaining input.old) (S.faults input.old) (K.held out.old) (K.faults out.old))
         (moment (S.remaining input.new) (S.faults input.new) (K.held out.new) (K.faults out.new)) }
 {
+    // Each round reads or does a byte at least, and a script has at most 2^32: no run gets to the end of this range.
     for _ in 0..u64::MAX {
         match lines.take()? {
             Taken::Whole => whole_line(player, lines, out)?,
