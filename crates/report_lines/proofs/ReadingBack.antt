@@ -1,0 +1,55 @@
+-- What is read of a report is what it was made of.
+use Rattle.std.proofs.Common.{◌≡◌, ◌∙◌, ℕ, ◌==◌, ◌&&◌, ◌||◌, Bool, true, false, true≢false, not, List, [], ◌∷◌, ◌++◌, Some}
+use Rattle.std.proofs.Common.{None, Option, if◌then◌else◌, refl, sym, ap}
+use Rattle.std.specs.Prelude.{codes, flat_map, nat_eq}
+use Rattle.std.specs.Cmp.Lexicographic.{pointwise}
+use Rattle.std.specs.List.{AllByRecursion}
+use Rattle.hex.specs.Hex.{encode_lower}
+use Rattle.script_text.specs.Lines.{report_text}
+use Rattle.report_lines.specs.Lines.{as_line, is_line, is_word, lines_in}
+use Rattle.report_lines.specs.ReadBack.{IsPlain, ReportsAreReadBack, Told, line_of, put_to, read_back, report_with}
+use Rattle.report_lines.specs.ReadBack.Told.{Other, To}
+use Rattle.report_lines.specs.Reading.{behind, head_of, message_in, messages_to, told_by}
+use Rattle.report_lines.proofs.Digits.{hex_line}
+use Rattle.report_lines.proofs.Heads.{head_behind, no_longer}
+use Rattle.report_lines.proofs.Splitting.{one_line}
+
+-- lines of parts
+pub both_lines : (xs ys : List ℕ) → is_line xs ≡ true → is_line ys ≡ true → is_line (xs ++ ys) ≡ true
+both_lines [] ys h k = k
+both_lines (x ∷ xs) ys h k = by (x == 10) h
+  where
+    by : (b : Bool) → (not b && is_line xs) ≡ true → (not b && is_line (xs ++ ys)) ≡ true
+    by true e = absurd (true≢false (sym e))
+    by false e = both_lines xs ys e k
+
+-- a word is a line
+pub word_line : (name : List ℕ) → is_word name ≡ true → is_line name ≡ true
+word_line [] h = refl
+word_line (c ∷ name) h = by (c == 10) (c == 32) h
+  where
+    by : (a b : Bool) → (not (a || b) && is_word name) ≡ true → (not a && is_line name) ≡ true
+    by true b e = absurd (true≢false (sym e))
+    by false true e = absurd (true≢false (sym e))
+    by false false e = word_line name e
+
+plain_line : (t : Told) → IsPlain t → is_line (line_of t) ≡ true
+plain_line (To name message) h =
+    both_lines name (32 ∷ encode_lower message) (word_line name h) (hex_line message)
+plain_line (Other line) h = h.0
+
+-- what one line says
+one_told : (name : List ℕ) → is_word name ≡ true → (t : Told) → IsPlain t → told_by name (line_of t) ≡ put_to name t
+one_told name h (To other message) k = ap message_in (head_behind name other message h k) ∙ by (pointwise nat_eq name other)
+  where
+    by : (b : Bool) → message_in (if b then Some (encode_lower message) else None) ≡ (if b then read_back message else [])
+    by true = refl
+    by false = refl
+one_told name h (Other line) k = ap message_in (no_longer (codes "to ") (name ++ codes " ") line k.1)
+
+pub reports_read : ReportsAreReadBack
+reports_read name h [] plain = refl
+reports_read name h (t ∷ told) plain =
+    ap (flat_map (told_by name)) (one_line (line_of t) (report_with told) (plain_line t plain.0))
+    ∙ ((λ i. one_told name h t plain.0 i ++ flat_map (told_by name) (lines_in (report_with told)))
+    ∙ ap (λ ms. put_to name t ++ ms) (reports_read name h told plain.1))
