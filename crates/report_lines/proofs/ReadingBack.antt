@@ -1,14 +1,15 @@
 -- What is read of a report is what it was made of.
 use Rattle.std.proofs.Common.{◌≡◌, ◌∙◌, ℕ, ◌==◌, ◌&&◌, ◌||◌, Bool, true, false, true≢false, not, List, [], ◌∷◌, ◌++◌, Some}
-use Rattle.std.proofs.Common.{None, Option, if◌then◌else◌, refl, sym, ap}
+use Rattle.std.proofs.Common.{None, append-nil, if◌then◌else◌, refl, sym, ap}
+use Rattle.std.proofs.lemmas.List.Concat.{flat_map-append}
 use Rattle.std.specs.Prelude.{codes, flat_map, nat_eq}
 use Rattle.std.specs.Cmp.Lexicographic.{pointwise}
 use Rattle.std.specs.List.{AllByRecursion}
 use Rattle.hex.specs.Hex.{encode_lower}
 use Rattle.script_text.specs.Lines.{report_text}
 use Rattle.report_lines.specs.Lines.{as_line, is_line, is_word, lines_in}
-use Rattle.report_lines.specs.ReadBack.{IsPlain, ReportsAreReadBack, Told, line_of, put_to, read_back, report_with}
-use Rattle.report_lines.specs.ReadBack.Told.{Other, To}
+use Rattle.report_lines.specs.ReadBack.{IsPlain, Other, ReportsAreReadBack, To, Told, line_of, read_back}
+use Rattle.report_lines.specs.ReadBack.{report_with, said_by, said_to}
 use Rattle.report_lines.specs.Reading.{behind, head_of, message_in, messages_to, told_by}
 use Rattle.report_lines.proofs.Digits.{hex_line}
 use Rattle.report_lines.proofs.Heads.{head_behind, no_longer}
@@ -39,11 +40,14 @@ plain_line (To name message) h =
 plain_line (Other line) h = h.0
 
 -- what one line says
-one_told : (name : List ℕ) → is_word name ≡ true → (t : Told) → IsPlain t → told_by name (line_of t) ≡ put_to name t
-one_told name h (To other message) k = ap message_in (head_behind name other message h k) ∙ by (pointwise nat_eq name other)
+one_told : (name : List ℕ) → is_word name ≡ true → (t : Told) → IsPlain t
+    → told_by name (line_of t) ≡ flat_map read_back (said_by name t)
+one_told name h (To other message) k =
+    ap message_in (head_behind name other message h k) ∙ by (pointwise nat_eq name other)
   where
-    by : (b : Bool) → message_in (if b then Some (encode_lower message) else None) ≡ (if b then read_back message else [])
-    by true = refl
+    by : (b : Bool) → message_in (if b then Some (encode_lower message) else None)
+        ≡ flat_map read_back (if b then message ∷ [] else [])
+    by true = sym (append-nil (read_back message))
     by false = refl
 one_told name h (Other line) k = ap message_in (no_longer (codes "to ") (name ++ codes " ") line k.1)
 
@@ -52,4 +56,5 @@ reports_read name h [] plain = refl
 reports_read name h (t ∷ told) plain =
     ap (flat_map (told_by name)) (one_line (line_of t) (report_with told) (plain_line t plain.0))
     ∙ ((λ i. one_told name h t plain.0 i ++ flat_map (told_by name) (lines_in (report_with told)))
-    ∙ ap (λ ms. put_to name t ++ ms) (reports_read name h told plain.1))
+    ∙ (ap (λ ms. flat_map read_back (said_by name t) ++ ms) (reports_read name h told plain.1)
+    ∙ sym (flat_map-append read_back (said_by name t) (said_to name told))))

@@ -25,14 +25,17 @@ abbrev pub IsPlain : Told → Type 0
 IsPlain (To name message) = is_word name ≡ true
 IsPlain (Other line) = (is_line line ≡ true) × (behind (codes "to ") line ≡ None)
 
+-- the messages that lines say were put to the session of a name
+abbrev pub said_by : List ℕ → Told → List (List ℕ)
+said_by name (To other message) = if pointwise nat_eq name other then message ∷ [] else []
+said_by name (Other line) = []
+
+abbrev pub said_to : List ℕ → List Told → List (List ℕ)
+said_to name told = flat_map (said_by name) told
+
 -- what is read of a message's digits
 abbrev pub read_back : List ℕ → List (List ℕ)
 read_back message = read_of (decode_of (encode_lower message))
-
--- what a line says was put to a session
-abbrev pub put_to : List ℕ → Told → List (List ℕ)
-put_to name (To other message) = if pointwise nat_eq name other then read_back message else []
-put_to name (Other line) = []
 
 pub record MessagesAreReadBack : Type 0 where
   pub bytes : (message : List ℕ) → IsBytes message → read_back message ≡ message ∷ []
@@ -41,4 +44,4 @@ pub record MessagesAreReadBack : Type 0 where
 abbrev pub ReportsAreReadBack : Type 0
 ReportsAreReadBack =
     (name : List ℕ) → is_word name ≡ true → (told : List Told) → AllByRecursion IsPlain told
-    → messages_to name (report_with told) ≡ flat_map (put_to name) told
+    → messages_to name (report_with told) ≡ flat_map read_back (said_to name told)

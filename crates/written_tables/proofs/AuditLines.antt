@@ -26,8 +26,7 @@ use Rattle.machine_meaning.specs.Steps.{step_by}
 use Rattle.machine_meaning.specs.Takings.{audit_outbox, left_by}
 use Rattle.machine_meaning.specs.declared.said.Down.{Down}
 use Rattle.machine_meaning.proofs.Numbered.{behind, from_zero, here}
-use Rattle.written_tables.specs.AuditLines.{IsAuditLine}
-use Rattle.written_tables.specs.AuditLines.IsAuditLine as lines
+use Rattle.written_tables.specs.AuditLines.{IsAuditLine, is_denied, is_down, is_noted, is_replaced, is_slow}
 use Rattle.written_tables.specs.Laws.{AuditHasItsLines, HasAuditLines}
 use Rattle.written_tables.proofs.Acting.{draft_holds}
 use Rattle.written_tables.proofs.Boxes.{Boxes, IsStable}
@@ -53,17 +52,17 @@ module _ (p : PolicyOf) where
     switch_begun = λ k arp is v h. h;
     denied = λ k m at xid denial v h.
         (h.0, (h.1.0, (one_more v.denials (deny_line m.controller m.vsw xid denial) h.1.1.0
-        (lines.denied k m at xid denial), h.1.1.1)));
+        (is_denied k m at xid denial), h.1.1.1)));
     replaced = λ k refusal v h.
-        (h.0, (one_more v.policies _ h.1.0 (lines.replaced k refusal), h.1.1));
+        (h.0, (one_more v.policies _ h.1.0 (is_replaced k refusal), h.1.1));
     noted = λ k v h.
-        (h.0, (h.1.0, (h.1.1.0, one_more v.notes (note_line (switch_name p k)) h.1.1.1 (lines.noted k))));
+        (h.0, (h.1.0, (h.1.1.0, one_more v.notes (note_line (switch_name p k)) h.1.1.1 (is_noted k))));
   }
 
   -- the lines of rounds that ended
   downs_of : (n : ℕ) (downs : List Down) → AreLines (map (λ (x : Down). down_line (switch_name p n) x.cause) downs)
   downs_of n [] = tt
-  downs_of n (x ∷ xs) = (lines.went n x.cause, downs_of n xs)
+  downs_of n (x ∷ xs) = (is_down n x.cause, downs_of n xs)
 
   all_downs : (downs : List Down) (ns : List ℕ) → AreLines (flat_map (down_lines p downs) ns)
   all_downs downs [] = tt
@@ -75,7 +74,7 @@ module _ (p : PolicyOf) where
   slows_of : (n : ℕ) (m : MemberItem) → slice_get p.members n ≡ Some m → (ks : List ℕ)
       → AreLines (map (λ k. slow_line m.controller m.vsw) ks)
   slows_of n m at [] = tt
-  slows_of n m at (k ∷ ks) = (lines.slow n m at, slows_of n m at ks)
+  slows_of n m at (k ∷ ks) = (is_slow n m at, slows_of n m at ks)
 
   all_slows : (slows : List ℕ) (j : ℕ) (ms : List MemberItem)
       → ((i : ℕ) (m : MemberItem) → slice_get ms i ≡ Some m → slice_get p.members (j + i) ≡ Some m)

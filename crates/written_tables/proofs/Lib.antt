@@ -8,3 +8,4 @@ pub mod Waiting
 pub mod AuditLines
 pub mod Bytes
 pub mod PutBytes
+pub mod Reported

@@ -122,7 +122,7 @@ made_agree stands agree p policy s sound messages makes tables =
         (makes n x.0 x.1 x.2 (tables n)) (stands p policy s sound n up)
 
 module _ (kept : SoundnessIsKept) (p : PolicyOf) (policy : IsSound p) where
-  sound_after : (events : List Event) (s : State) → IsSoundState p s → AllByRecursion IsEvent events
+  pub sound_after : (events : List Event) (s : State) → IsSoundState p s → AllByRecursion IsEvent events
       → HasNumbers (fold (after p) s events) → IsSoundState p (fold (after p) s events)
   sound_after [] s sound given numbers = sound
   sound_after (e ∷ es) s sound given numbers =

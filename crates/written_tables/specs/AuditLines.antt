@@ -13,11 +13,11 @@ use Rattle.machine_meaning.specs.Replacing.{refusal_kind}
 -- a line of the audit of a policy: a denial, a new expression or its refusal, a switch that went, a member that is
 -- closed as slow, a note on a switch
 pub data IsAuditLine (p : PolicyOf) : List ℕ → Type 0 where
-  denied :
+  is_denied :
       (n : ℕ) (m : MemberItem) → slice_get p.members n ≡ Some m → (xid : ℕ) (denial : Denial)
       → IsAuditLine p (deny_line m.controller m.vsw xid denial)
-  replaced : (v : ℕ) (refusal : Option PolicyRefusal)
+  is_replaced : (v : ℕ) (refusal : Option PolicyRefusal)
       → IsAuditLine p (policy_line (virtual_name p v) (option_map refusal_kind refusal))
-  went : (n : ℕ) (cause : DownCause) → IsAuditLine p (down_line (switch_name p n) cause)
-  slow : (n : ℕ) (m : MemberItem) → slice_get p.members n ≡ Some m → IsAuditLine p (slow_line m.controller m.vsw)
-  noted : (n : ℕ) → IsAuditLine p (note_line (switch_name p n))
+  is_down : (n : ℕ) (cause : DownCause) → IsAuditLine p (down_line (switch_name p n) cause)
+  is_slow : (n : ℕ) (m : MemberItem) → slice_get p.members n ≡ Some m → IsAuditLine p (slow_line m.controller m.vsw)
+  is_noted : (n : ℕ) → IsAuditLine p (note_line (switch_name p n))

@@ -1,6 +1,7 @@
 //! The laws of what the machine puts to switches, and of what waits.
 ghost use Rattle.written_tables.specs.Laws.{AuditHasItsLines, FlowModsAreBytes, MadeTablesAgree, RoundsFit, RunsMakeTables};
 ghost use Rattle.written_tables.specs.Laws.{StepsMakeTables, WhatIsPutWaits, WrittenTablesAgree};
+ghost use Rattle.written_tables.specs.Reports.{ReportedTablesAgree};
 
 /// What a switch was put since it came up makes what stands on it of any table: so it stays with what one more event puts.
 pub fn steps_make_tables()
@@ -43,6 +44,20 @@ pub fn flow_mods_are_bytes()
 {
     machine_meaning::laws::states_are_writable();
     machine_meaning::laws::soundness_is_kept();
+}
+
+/// Switches with the tables that the lines of a report since they came up make, read of the report's text, do with each
+/// packet what the policy says over the members' tables, whatever they had before.
+pub fn reported_tables_agree()
+    ensures { ReportedTablesAgree }
+{
+    machine_meaning::laws::opening_is_sound();
+    machine_meaning::laws::soundness_is_kept();
+    report_lines::messages_are_read_back();
+    report_lines::reports_are_read_back();
+    runs_make_tables();
+    flow_mods_are_bytes();
+    made_tables_agree();
 }
 
 /// Where nothing waits for a switch, what waits for it after an event is what the event puts to it.
