@@ -18,12 +18,13 @@ use Rattle.report_lines.specs.Reading.{read_of}
 -- no item is a line feed, and so no item is one that is looked up
 looked_up : (xs : List ℕ) → is_line xs ≡ true → (i : ℕ) → (slice_index xs i == 10) ≡ false
 looked_up [] h i = refl
-looked_up (x ∷ xs) h i = by (x == 10) refl h i
+looked_up (x ∷ xs) h i = by (x == 10) refl h i (looked_up xs)
   where
-    by : (b : Bool) → (x == 10) ≡ b → (not b && is_line xs) ≡ true → (i : ℕ) → (slice_index (x ∷ xs) i == 10) ≡ false
-    by true e k i = absurd (true≢false (sym k))
-    by false e k zero = e
-    by false e k (suc i) = looked_up xs k i
+    by : (b : Bool) → (x == 10) ≡ b → (not b && is_line xs) ≡ true → (i : ℕ)
+        → (is_line xs ≡ true → (j : ℕ) → (slice_index xs j == 10) ≡ false) → (slice_index (x ∷ xs) i == 10) ≡ false
+    by true e k i f = absurd (true≢false (sym k))
+    by false e k zero f = e
+    by false e k (suc i) f = f k i
 
 -- digits are no line feeds
 digits_line : (t : List ℕ) → is_line t ≡ true → (message : List ℕ) → is_line (encode_with t message) ≡ true
@@ -51,7 +52,7 @@ beyond (x ∷ xs) (suc i) h = beyond xs i (omega (arith, h))
 decoded : (i : ℕ) (message : List ℕ) → AsOrNone message (decode_pairs i (encode_with lower_digits message))
 unfolding encode_with decode_pairs
 decoded i [] = inl refl
-decoded i (b ∷ message) = by (cases_lt (b / 16) 16)
+decoded i (b ∷ message) = by (cases_lt (b / 16) 16) (decoded (i + 2) message)
   where
     high : ℕ
     high = slice_index lower_digits (b / 16)
@@ -67,8 +68,9 @@ decoded i (b ∷ message) = by (cases_lt (b / 16) 16)
     after (inl e) = inl (ap (cons_byte b) e)
     after (inr (fault, e)) = inr (fault, ap (cons_byte b) e)
 
-    by : (b / 16 < 16) ⊎ (16 ≤ b / 16) → AsOrNone (b ∷ message) (decode_pairs i (high ∷ low ∷ digits))
-    by (inl fits) =
+    by : (b / 16 < 16) ⊎ (16 ≤ b / 16) → AsOrNone message (decode_pairs (i + 2) digits)
+        → AsOrNone (b ∷ message) (decode_pairs i (high ∷ low ∷ digits))
+    by (inl fits) rest =
         let below : b % 16 < 16 = omega arith in
         let first : value_at high i ≡ Ok (b / 16) = ap (digit_or_error high i) (IsDigits-lower_digits (b / 16) fits) in
         let second : value_at low (i + 1) ≡ Ok (b % 16) =
@@ -77,8 +79,8 @@ decoded i (b ∷ message) = by (cases_lt (b / 16) 16)
         let pair : pair_value high low i ≡ Ok (b / 16 * 16 + b % 16) = rw (first, second) refl in
         let is : pair_value high low i ≡ Ok b = pair ∙ ap (λ (v : ℕ). Ok v) whole in
         subst (AsOrNone (b ∷ message)) (sym (decode_pairs-ok_pair i high low b digits is))
-        (after (decoded (i + 2) message))
-    by (inr much) =
+        (after rest)
+    by (inr much) rest =
         let none : high ≡ 0 = beyond lower_digits (b / 16) much in
         let first : value_at high i ≡ Err (InvalidHexCharacter 0 i) = ap (λ (c : ℕ). value_at c i) none in
         let is : pair_value high low i ≡ Err (InvalidHexCharacter 0 i) = rw first refl in

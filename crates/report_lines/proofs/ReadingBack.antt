@@ -18,21 +18,23 @@ use Rattle.report_lines.proofs.Splitting.{one_line}
 -- lines of parts
 pub both_lines : (xs ys : List ℕ) → is_line xs ≡ true → is_line ys ≡ true → is_line (xs ++ ys) ≡ true
 both_lines [] ys h k = k
-both_lines (x ∷ xs) ys h k = by (x == 10) h
+both_lines (x ∷ xs) ys h k = by (x == 10) h (λ e. both_lines xs ys e k)
   where
-    by : (b : Bool) → (not b && is_line xs) ≡ true → (not b && is_line (xs ++ ys)) ≡ true
-    by true e = absurd (true≢false (sym e))
-    by false e = both_lines xs ys e k
+    by : (b : Bool) → (not b && is_line xs) ≡ true → (is_line xs ≡ true → is_line (xs ++ ys) ≡ true)
+        → (not b && is_line (xs ++ ys)) ≡ true
+    by true e f = absurd (true≢false (sym e))
+    by false e f = f e
 
 -- a word is a line
 pub word_line : (name : List ℕ) → is_word name ≡ true → is_line name ≡ true
 word_line [] h = refl
-word_line (c ∷ name) h = by (c == 10) (c == 32) h
+word_line (c ∷ name) h = by (c == 10) (c == 32) h (word_line name)
   where
-    by : (a b : Bool) → (not (a || b) && is_word name) ≡ true → (not a && is_line name) ≡ true
-    by true b e = absurd (true≢false (sym e))
-    by false true e = absurd (true≢false (sym e))
-    by false false e = word_line name e
+    by : (a b : Bool) → (not (a || b) && is_word name) ≡ true → (is_word name ≡ true → is_line name ≡ true)
+        → (not a && is_line name) ≡ true
+    by true b e f = absurd (true≢false (sym e))
+    by false true e f = absurd (true≢false (sym e))
+    by false false e f = f e
 
 plain_line : (t : Told) → IsPlain t → is_line (line_of t) ≡ true
 plain_line (To name message) h =

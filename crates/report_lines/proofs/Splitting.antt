@@ -7,14 +7,16 @@ use Rattle.report_lines.specs.Lines.{as_line, is_line, lines_behind, lines_in}
 line_first : (begun line rest : List ℕ) → is_line line ≡ true
     → lines_behind begun (line ++ 10 ∷ rest) ≡ (begun ++ line) ∷ lines_in rest
 line_first begun [] rest h = ap (λ l. l ∷ lines_in rest) (sym (append-nil begun))
-line_first begun (c ∷ line) rest h = by (c == 10) h
+line_first begun (c ∷ line) rest h = by (c == 10) h (line_first (begun ++ c ∷ []) line rest)
   where
     by : (b : Bool) → (not b && is_line line) ≡ true
+        → (is_line line ≡ true
+        → lines_behind (begun ++ c ∷ []) (line ++ 10 ∷ rest) ≡ ((begun ++ c ∷ []) ++ line) ∷ lines_in rest)
         → (if b then begun ∷ lines_in (line ++ 10 ∷ rest) else lines_behind (begun ++ c ∷ []) (line ++ 10 ∷ rest))
         ≡ (begun ++ c ∷ line) ∷ lines_in rest
-    by true k = absurd (true≢false (sym k))
-    by false k =
-        line_first (begun ++ c ∷ []) line rest k
+    by true k f = absurd (true≢false (sym k))
+    by false k f =
+        f k
         ∙ ap (λ l. l ∷ lines_in rest) (append_assoc begun (c ∷ []) line)
 
 pub one_line : (line rest : List ℕ) → is_line line ≡ true → lines_in (as_line line ++ rest) ≡ line ∷ lines_in rest

@@ -140,7 +140,7 @@ config_are xid =
     both (header_bytes 9 12 xid) (big_bytes 2 0 ++ big_bytes 2 0xffff) (header 9 12 xid (omega arith))
     (joined 2 0 (big_bytes 2 0xffff) (number 2 0xffff))
 
-module _ (m : MatchOf) (cookie command priority flags : ℕ) (list : List Action) (match : IsMatch m)
+module _ (m : MatchOf) (cookie command priority flags : ℕ) (list : List Action) (in_range : IsMatch m)
     (fits : AllByRecursion ActionFits list) where
   abbrev f : FlowModOf
   f = flow_mod m cookie command priority flags list
@@ -160,7 +160,7 @@ module _ (m : MatchOf) (cookie command priority flags : ℕ) (list : List Action
   body_are : AreBytes (body_bytes (bodies.FlowMod f))
   unfolding body_bytes
   body_are =
-      both (match_bytes m) (flow_mod_fields f ++ spellings list) (match_are m match)
+      both (match_bytes m) (flow_mod_fields f ++ spellings list) (match_are m in_range)
       (both (flow_mod_fields f) (spellings list) fields_are (actions_are list fits))
 
   flow_mod_are : IsOfBytes (bodies.FlowMod f)

@@ -19,7 +19,7 @@ after_both table [] ys = refl
 after_both table (x ∷ xs) ys = after_both (table_after table x) xs ys
 
 -- all changes, section by section
-taken : List (List Change) → List FlowEntry → List FlowEntry
+abbrev taken : List (List Change) → List FlowEntry → List FlowEntry
 taken [] table = table
 taken (changes ∷ later) table = taken later (table_after_all table changes)
 

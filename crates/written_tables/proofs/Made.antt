@@ -1,6 +1,6 @@
 -- What a switch was put since it came up makes what stands on it, and tables that are made so agree with the policy.
 use Rattle.std.proofs.Common.{◌≡◌, ◌∙◌, ℕ, zero, suc, ◌+◌, Bool, true, false, List, [], ◌∷◌, ◌++◌, map, Option, Some}
-use Rattle.std.proofs.Common.{None, fold, if◌then◌else◌, option_map, refl, sym, ap, subst}
+use Rattle.std.proofs.Common.{None, true≢false, fold, if◌then◌else◌, option_map, refl, sym, ap, subst}
 use Rattle.std.proofs.lemmas.List.Sorted.{Contains-permutation, IsPermutation-sym}
 use Rattle.std.proofs.lemmas.Option.{slice_get-map}
 use Rattle.std.specs.Prelude.{IsPermutation, slice_get}
@@ -12,6 +12,7 @@ use Rattle.agreement.specs.declared.state.PhysicalSwitch.{PhysicalSwitch}
 use Rattle.events.specs.declared.event.Event.{Event}
 use Rattle.policy_file.specs.Policies.{PolicyOf}
 use Rattle.policy_file.specs.Sound.{IsSound}
+use Rattle.policy_meaning.proofs.Booleans.{some_injective}
 use Rattle.policy_setting.specs.Settings.{holds_at, physical}
 use Rattle.switch_meaning.specs.BatchLaw.{IsTableOf}
 use Rattle.switch_meaning.specs.declared.entry.FlowEntry.{FlowEntry}
@@ -69,7 +70,7 @@ opening_down p n messages x at up =
   where
     by : (o : Option SwitchItem) → option_map new_switch o ≡ Some x → ⊥
     by None e = cc e
-    by (Some item) e = cc (e, up)
+    by (Some item) e = true≢false (sym up ∙ ap (λ (y : SwitchOf). y.outbox.up) (sym (some_injective e)))
 
 module _ (steps : StepsMakeTables) (kept : SoundnessIsKept) (p : PolicyOf) (policy : IsSound p) (n : ℕ) where
   made_from : (events : List Event) (s : State) → IsSoundState p s → AllByRecursion IsEvent events
@@ -93,13 +94,13 @@ up_of : (ups : List Bool) (k n : ℕ) (items : List SwitchItem)
     → option_map_or (λ (x : PhysicalSwitch). x.up)
     (slice_get (map (physical ups) (enumerate_from k items)) n) false ≡ true
     → holds_at ups (k + n) ≡ true
-up_of ups k n [] h = absurd (cc h)
+up_of ups k n [] h = absurd (true≢false (sym h))
 up_of ups k zero (s ∷ ss) h = ap (holds_at ups) (sym (here k)) ∙ h
 up_of ups k (suc n) (s ∷ ss) h = ap (holds_at ups) (sym (behind k n)) ∙ up_of ups (k + 1) n ss h
 
 up_at : (xs : List SwitchOf) (n : ℕ) → holds_at (map (λ (x : SwitchOf). x.outbox.up) xs) n ≡ true
     → (x : SwitchOf) × (slice_get xs n ≡ Some x) × (x.outbox.up ≡ true)
-up_at [] n h = absurd (cc h)
+up_at [] n h = absurd (true≢false (sym h))
 up_at (x ∷ xs) zero h = (x, refl, h)
 up_at (x ∷ xs) (suc n) h = up_at xs n h
 

@@ -3,18 +3,19 @@ use Rattle.std.proofs.Common.{◌≡◌, ◌∙◌, ℕ, zero, suc, ◌⊎◌, i
 use Rattle.std.proofs.Common.{List, [], ◌∷◌, ◌++◌, Option, Some, None, fold, if◌then◌else◌, refl, sym, ap, subst}
 use Rattle.std.proofs.lemmas.Bool.{eqb-true}
 use Rattle.std.proofs.lemmas.List.Concat.{flat_map-append}
-use Rattle.std.specs.Prelude.{flat_map, length, nat_le, slice_get}
+use Rattle.std.specs.Char.{is_ascii_digit, is_ascii_lowercase}
+use Rattle.std.specs.Prelude.{flat_map, length, nat_lt, slice_get}
 use Rattle.std.specs.List.{AllByRecursion, list_all}
 use Rattle.std.specs.Option.{option_map_or}
 use Rattle.events.specs.declared.event.Event.{Event}
 use Rattle.of10_msgs.specs.Reading.{reading}
 use Rattle.policy_file.specs.Policies.{PolicyOf}
 use Rattle.policy_file.specs.Sound.{IsSound, IsSoundSwitch}
+use Rattle.policy_file.specs.Values.{is_name, is_name_byte}
 use Rattle.policy_meaning.proofs.Booleans.{split_and}
 use Rattle.report_lines.specs.Lines.{is_word}
 use Rattle.report_lines.specs.ReadBack.{MessagesAreReadBack, ReportsAreReadBack, Told, read_back, report_with, said_to}
 use Rattle.report_lines.specs.Reading.{messages_to}
-use Rattle.script_text.specs.Names.{is_letter, is_name, is_name_byte}
 use Rattle.switch_meaning.specs.BatchLaw.{IsTableOf}
 use Rattle.switch_meaning.specs.Tables.{table_after_all}
 use Rattle.switch_meaning.specs.declared.entry.Change.{Change}
@@ -92,9 +93,10 @@ name_bytes (c ∷ name) h =
 name_word : (name : List ℕ) → is_name name ≡ true → is_word name ≡ true
 name_word [] h = refl
 name_word (c ∷ name) h =
-    let parts = split_and (is_letter c) (nat_le (length (c ∷ name)) 16 && list_all is_name_byte (c ∷ name)) h in
-    let rest = split_and (nat_le (length (c ∷ name)) 16) (list_all is_name_byte (c ∷ name)) parts.1 in
-    name_bytes (c ∷ name) rest.1
+    let parts = split_and (is_ascii_lowercase c && nat_lt (length name) 16) (list_all is_name_byte name) h in
+    let letter = split_and (is_ascii_lowercase c) (nat_lt (length name) 16) parts.0 in
+    let byte : is_name_byte c ≡ true = ap (λ b. (b || is_ascii_digit c) || (c == 95)) letter.0 in
+    ap (λ b. b && is_word name) (name_byte c byte) ∙ name_bytes name parts.1
 
 switch_word : (items : List SwitchItem) → AllByRecursion IsSoundSwitch items → (n : ℕ)
     → is_word (option_map_or (λ (x : SwitchItem). x.name) (slice_get items n) []) ≡ true

@@ -1,6 +1,6 @@
 -- A switch that is up after an event was up before it, or the event brings it up, and begins its round.
-use Rattle.std.proofs.Common.{◌≡◌, ◌∙◌, ℕ, ◌⊎◌, inl, inr, ◌==◌, Bool, true, false, true≢false, List, [], ◌∷◌, map, Option}
-use Rattle.std.proofs.Common.{Some, None, if◌then◌else◌, option_map, refl, sym, ap, subst, zero, suc, ◌+◌, arith}
+use Rattle.std.proofs.Common.{◌≡◌, ◌∙◌, ℕ, ◌⊎◌, inl, inr, ◌==◌, Bool, true, false, true≢false, List, [], ◌∷◌, ◌++◌, map}
+use Rattle.std.proofs.Common.{Option, Some, None, if◌then◌else◌, option_map, refl, sym, ap, subst, zero, suc, ◌+◌, arith}
 use Rattle.std.proofs.lemmas.Bool.{eq-eqb, eqb-true}
 use Rattle.std.proofs.lemmas.Option.{slice_get-map}
 use Rattle.std.specs.Prelude.{is_some, slice_get}
@@ -29,7 +29,7 @@ use Rattle.machine_meaning.specs.Steps.{step_by}
 use Rattle.machine_meaning.specs.Takings.{left_by}
 use Rattle.machine_meaning.specs.Written.{begins_at, draft_at}
 use Rattle.machine_meaning.proofs.Composed.{elsewhere}
-use Rattle.machine_meaning.proofs.Numbered.{at_changed, behind, changed_unseen, here}
+use Rattle.machine_meaning.proofs.Numbered.{at_changed, behind, changed_unseen, from_zero, here}
 use Rattle.policy_meaning.proofs.Booleans.{some_injective}
 use Rattle.written_tables.specs.Making.{brings_up}
 use Rattle.written_tables.proofs.Acting.{act_holds, draft_holds}
@@ -55,8 +55,8 @@ closed_down : (n : ℕ) (boxes : List OutboxOf) → IsUpIn (changed_at n closed 
 closed_down n boxes (o, at, up) = by (slice_get boxes n) (sym (at_changed n closed boxes) ∙ at)
   where
     by : (g : Option OutboxOf) → option_map closed g ≡ Some o → ⊥
-    by None e = absurd (cc e)
-    by (Some x) e = absurd (cc (e, up))
+    by None e = cc e
+    by (Some x) e = true≢false (sym up ∙ ap (λ (b : OutboxOf). b.up) (sym (some_injective e)))
 
 -- who is up where one goes was up
 still_up : (k n : ℕ) (boxes : List OutboxOf) → IsUpIn (changed_at k closed boxes) n → IsUpIn boxes n
@@ -174,7 +174,12 @@ was_put p d n x at up = by (slice_get d.state.switches n) refl (sym (put_at d 0 
     by None there e = absurd (cc e)
     by (Some y) there e =
         let r = put_one y y.outbox.up refl (ap (λ (z : SwitchOf). z.outbox) (some_injective e)) in
-        record { switch = y; at = there; up = r.0; waiting = r.1 }
+        record {
+          switch = y;
+          at = there;
+          up = r.0;
+          waiting = r.1 ∙ ap (λ (k : ℕ). y.outbox.waiting ++ for_switch d k) (from_zero n);
+        }
 
 -- steps -------------------------------------------------------------------------------------------------------------
 
@@ -198,6 +203,12 @@ taken_up o round = by (is_open o round)
     by true = refl
     by false = refl
 
+up_from : (ys : List SwitchOf) (i : ℕ) → slice_get (map (λ (y : SwitchOf). y.outbox.up) ys) i ≡ Some true
+    → (y : SwitchOf) × (slice_get ys i ≡ Some y) × (y.outbox.up ≡ true)
+up_from [] i e = absurd (cc)
+up_from (y ∷ ys) zero e = (y, refl, cc)
+up_from (y ∷ ys) (suc i) e = up_from ys i e
+
 -- a taking brings nobody up
 left_up : (who : Who) (round : ℕ) (s : State) (n : ℕ) → IsUpAt (left_by who round s) n → IsUpAt s n
 left_up (Member k) round s n h = h
@@ -212,12 +223,6 @@ left_up (Switch k) round s n (x, at, up) =
     (ap (λ (bs : List Bool). slice_get bs n) (sym seen)
     ∙ (slice_get-map (λ (y : SwitchOf). y.outbox.up) xs n
     ∙ (ap (option_map (λ (y : SwitchOf). y.outbox.up)) at ∙ ap (λ u. Some u) up)))
-  where
-    up_from : (ys : List SwitchOf) (i : ℕ) → slice_get (map (λ (y : SwitchOf). y.outbox.up) ys) i ≡ Some true
-        → (y : SwitchOf) × (slice_get ys i ≡ Some y) × (y.outbox.up ≡ true)
-    up_from [] i e = absurd (cc)
-    up_from (y ∷ ys) zero e = (y, refl, cc)
-    up_from (y ∷ ys) (suc i) e = up_from ys i e
 
 module _ (p : PolicyOf) (s : State) (n : ℕ) where
   -- what is true of a step at a switch that is up after it
