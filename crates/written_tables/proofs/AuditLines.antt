@@ -50,9 +50,17 @@ module _ (p : PolicyOf) where
     ends = record { member = λ k v h. h; switch = λ k v h. h };
     member_begun = λ k arp is v h. h;
     switch_begun = λ k arp is v h. h;
-    denied = λ k m at xid denial v h.
-        (h.0, (h.1.0, (one_more v.denials (deny_line m.controller m.vsw xid denial) h.1.1.0
-        (is_denied k m at xid denial), h.1.1.1)));
+    denied = λ k m at xid denial v h. (
+      h.0,
+      (
+        h.1.0,
+        (
+          one_more v.denials (deny_line m.controller m.vsw xid denial) h.1.1.0
+              (is_denied k m at xid denial),
+          h.1.1.1,
+        ),
+      ),
+    );
     replaced = λ k refusal v h.
         (h.0, (one_more v.policies _ h.1.0 (is_replaced k refusal), h.1.1));
     noted = λ k v h.

@@ -80,9 +80,20 @@ network_are w tos proto =
     let ports = big_bytes 2 w.tp_src ++ big_bytes 2 w.tp_dst in
     let dst = big_bytes 4 w.nw_dst ++ ports in
     let src = big_bytes 4 w.nw_src ++ dst in
-    joined 2 w.dl_type (w.nw_tos ∷ w.nw_proto ∷ 0 ∷ 0 ∷ src)
-    (tos, (proto, (omega arith, (omega arith, joined 4 w.nw_src dst (joined 4 w.nw_dst ports
-    (joined 2 w.tp_src (big_bytes 2 w.tp_dst) (number 2 w.tp_dst)))))))
+    joined 2 w.dl_type (w.nw_tos ∷ w.nw_proto ∷ 0 ∷ 0 ∷ src) (
+      tos,
+      (
+        proto,
+        (
+          omega arith,
+          (
+            omega arith,
+            joined 4 w.nw_src dst (joined 4 w.nw_dst ports
+                (joined 2 w.tp_src (big_bytes 2 w.tp_dst) (number 2 w.tp_dst))),
+          ),
+        ),
+      ),
+    )
 
 match_are : (m : MatchOf) → IsMatch m → AreBytes (match_bytes m)
 match_are m h =
@@ -170,8 +181,18 @@ module _ (m : MatchOf) (cookie command priority flags : ℕ) (list : List Action
 
 no_fields : IsMatch everything
 no_fields = record {
-  in_port = tt; dl_src = tt; dl_dst = tt; dl_vlan = tt; dl_vlan_pcp = tt; dl_type = tt;
-  nw_tos = tt; nw_proto = tt; nw_src = tt; nw_dst = tt; tp_src = tt; tp_dst = tt;
+  in_port = tt;
+  dl_src = tt;
+  dl_dst = tt;
+  dl_vlan = tt;
+  dl_vlan_pcp = tt;
+  dl_type = tt;
+  nw_tos = tt;
+  nw_proto = tt;
+  nw_src = tt;
+  nw_dst = tt;
+  tp_src = tt;
+  tp_dst = tt;
 }
 
 deletions_are : (ws : List Written) → AllByRecursion IsFit ws → AllByRecursion IsOfBytes (map delete_strict ws)
