@@ -1,5 +1,6 @@
 -- A text of lines, split.
-use Rattle.std.proofs.Common.{◌≡◌, ◌∙◌, ℕ, ◌==◌, ◌&&◌, Bool, true, false, true≢false, not, List, [], ◌∷◌, ◌++◌, append-nil}
+use Rattle.std.proofs.Common.{◌≡◌, ◌∙◌, ℕ, ◌==◌, ◌&&◌, Bool, true, false, true≢false, not, List, [], ◌∷◌, ◌++◌}
+use Rattle.std.proofs.Common.{append-nil}
 use Rattle.std.proofs.Common.{append_assoc, if◌then◌else◌, refl, sym, ap}
 use Rattle.report_lines.specs.Lines.{as_line, is_line, lines_behind, lines_in}
 

@@ -97,7 +97,8 @@ module _ (p : PolicyOf) (e : Event) (Q : Boxes → Type 0) (stable : IsStable p 
       by : (u : Bool) → Holds (begin_member n (if u then end_member n d else d))
       by true = member_begins n arp is (end_member n d) (member_ends p Q stable.ends n d h)
       by false = member_begins n arp is d h
-  up_holds (Switch n) arp is d h = noting_holds arp (begin_switch n (end_first (Switch n) d)) (by (is_up d.state (Switch n)))
+  up_holds (Switch n) arp is d h =
+      noting_holds arp (begin_switch n (end_first (Switch n) d)) (by (is_up d.state (Switch n)))
     where
       noting_holds : (b : Bool) (c : Draft) → Holds c → Holds (noting p n b c)
       noting_holds true c k = k
@@ -160,7 +161,8 @@ module _ (p : PolicyOf) (e : Event) (Q : Boxes → Type 0) (stable : IsStable p 
       → Q (record (boxes_of d) { switches = map switch_box (changed_at n (with_known f) d.state.switches) })
   known_holds n f d h = switch_still p Q stable.ends n (with_known f) (λ x. refl) d h
 
-  comes_holds : (total : ℕ) (bytes : List ℕ) (o : Option Spot) (d : Draft) → Holds d → Holds (comes_by p total bytes o d)
+  comes_holds : (total : ℕ) (bytes : List ℕ) (o : Option Spot) (d : Draft) → Holds d
+      → Holds (comes_by p total bytes o d)
   comes_holds total bytes None d h = h
   comes_holds total bytes (Some (v, port)) d h = h
 
@@ -168,14 +170,16 @@ module _ (p : PolicyOf) (e : Event) (Q : Boxes → Type 0) (stable : IsStable p 
   answered_holds n xid None d h = h
   answered_holds n xid (Some number) d h = known_holds n (barrier_reply xid) d h
 
-  part_holds : (n xid : ℕ) (more : Bool) (body : ReplyBody) (d : Draft) → Holds d → Holds (part_told p n xid more body d)
+  part_holds : (n xid : ℕ) (more : Bool) (body : ReplyBody) (d : Draft) → Holds d
+      → Holds (part_told p n xid more body d)
   part_holds n xid more (replies.Desc texts) d h = h
   part_holds n xid more (replies.Flow entries) d h = h
   part_holds n xid more (replies.Aggregate packets bytes flows) d h = h
   part_holds n xid more (replies.Table id name wildcards most active lookup matched) d h = h
   part_holds n xid more (replies.Port stats) d h = h
 
-  told_holds : (n xid : ℕ) (r : Result StatsReply StatsFault) (d : Draft) → Holds d → Holds (statistics_told p n xid r d)
+  told_holds : (n xid : ℕ) (r : Result StatsReply StatsFault) (d : Draft) → Holds d
+      → Holds (statistics_told p n xid r d)
   told_holds n xid (Ok reply) d h = part_holds n xid reply.more reply.body d h
   told_holds n xid (Err fault) d h = ended p Q stable.ends n causes.Form d h
 
@@ -224,9 +228,11 @@ module _ (p : PolicyOf) (e : Event) (Q : Boxes → Type 0) (stable : IsStable p 
   tick_holds now d h =
       let c = record d { state = without_expired (record d.state { moment = now }) } in
       fold_holds (doubt_at p) Holds (λ b v k. doubt_holds v (doubts_at p b.state v) b k) (places p.virtuals) c
-      (members_still p Q stable.ends d c.state.members (mapped_unseen member_box (with_kept (expired now)) (λ x. refl) d.state.members) h)
+      (members_still p Q stable.ends d c.state.members
+      (mapped_unseen member_box (with_kept (expired now)) (λ x. refl) d.state.members) h)
 
-  unless_holds : (v : ℕ) (x : Policy) (o : Option PolicyRefusal) (d : Draft) → Holds d → Holds (replace_unless o p v x d)
+  unless_holds : (v : ℕ) (x : Policy) (o : Option PolicyRefusal) (d : Draft) → Holds d
+      → Holds (replace_unless o p v x d)
   unless_holds v x (Some refusal) d h = stable.replaced v (Some refusal) (boxes_of d) h
   unless_holds v x None d h = stable.replaced v None (boxes_of d) h
 

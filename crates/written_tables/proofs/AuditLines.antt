@@ -1,5 +1,6 @@
 -- What an event puts into the audit are lines of the audit.
-use Rattle.std.proofs.Common.{◌≡◌, ◌∙◌, ℕ, zero, suc, ◌+◌, ◌==◌, Bool, true, false, List, [], ◌∷◌, ◌++◌, map, filter, Some, None}
+use Rattle.std.proofs.Common.{◌≡◌, ◌∙◌, ℕ, zero, suc, ◌+◌, ◌==◌, Bool, true, false, List, [], ◌∷◌, ◌++◌, map, filter}
+use Rattle.std.proofs.Common.{Some, None}
 use Rattle.std.proofs.Common.{Option, if◌then◌else◌, refl, sym, ap}
 use Rattle.std.specs.Prelude.{flat_map, slice_get}
 use Rattle.std.specs.List.{AllByRecursion, enumerate_from}
@@ -120,7 +121,8 @@ module _ (p : PolicyOf) where
     left (Switch n) round = h
     left Audit round = by (is_open (audit_outbox s) round)
       where
-        by : (b : Bool) → AreLines (if b then record (audit_outbox s) { waiting = later s.audit } else audit_outbox s).waiting
+        by : (b : Bool)
+            → AreLines (if b then record (audit_outbox s) { waiting = later s.audit } else audit_outbox s).waiting
         by true = later_lines s.audit h
         by false = h
 

@@ -1,5 +1,6 @@
 -- The messages of a batch are bytes.
-use Rattle.std.proofs.Common.{◌≡◌, ℕ, zero, suc, ◌/◌, ◌%◌, ◌^◌, ◌+◌, ◌<◌, Bool, true, false, List, [], ◌∷◌, ◌++◌, map, length}
+use Rattle.std.proofs.Common.{◌≡◌, ℕ, zero, suc, ◌/◌, ◌%◌, ◌^◌, ◌+◌, ◌<◌, Bool, true, false, List, [], ◌∷◌, ◌++◌, map}
+use Rattle.std.proofs.Common.{length}
 use Rattle.std.proofs.Common.{Option, Some, None, unwrap_or, arith}
 use Rattle.std.proofs.lemmas.List.Elements.{recursion_from_All}
 use Rattle.std.specs.Int.{byte_at}
@@ -122,7 +123,8 @@ arguments_are (actions.SetNwTos tos) h =
 arguments_are (actions.SetTpSrc port) h = joined 2 port (replicate 2 0) (zeros 2)
 arguments_are (actions.SetTpDst port) h = joined 2 port (replicate 2 0) (zeros 2)
 arguments_are (actions.Enqueue port queue) h =
-    joined 2 port (replicate 6 0 ++ big_bytes 4 queue) (both (replicate 6 0) (big_bytes 4 queue) (zeros 6) (number 4 queue))
+    joined 2 port (replicate 6 0 ++ big_bytes 4 queue)
+    (both (replicate 6 0) (big_bytes 4 queue) (zeros 6) (number 4 queue))
 
 action_are : (a : Action) → ActionFits a → AreBytes (action_bytes a)
 action_are a h =

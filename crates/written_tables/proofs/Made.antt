@@ -18,7 +18,8 @@ use Rattle.switch_meaning.specs.BatchLaw.{IsTableOf}
 use Rattle.switch_meaning.specs.declared.entry.FlowEntry.{FlowEntry}
 use Rattle.virtual_topology.specs.declared.plan.SwitchItem.{SwitchItem}
 use Rattle.machine_meaning.specs.Events.{IsEvent}
-use Rattle.machine_meaning.specs.Laws.{OpeningIsSound, SoundnessIsKept, StandingIsInstalled, StatesAgree, StepsAreWritten}
+use Rattle.machine_meaning.specs.Laws.{OpeningIsSound, SoundnessIsKept, StandingIsInstalled, StatesAgree}
+use Rattle.machine_meaning.specs.Laws.{StepsAreWritten}
 use Rattle.machine_meaning.specs.Runs.{after, run_of}
 use Rattle.machine_meaning.specs.Settings.{setting_of, ups_with}
 use Rattle.machine_meaning.specs.Sound.{HasNumbers, IsSoundState}

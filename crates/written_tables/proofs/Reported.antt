@@ -1,5 +1,6 @@
 -- What is read of a report makes the tables that what was put makes.
-use Rattle.std.proofs.Common.{◌≡◌, ◌∙◌, ℕ, zero, suc, ◌⊎◌, inl, inr, ◌==◌, ◌&&◌, ◌||◌, Bool, true, false, true≢false, not}
+use Rattle.std.proofs.Common.{◌≡◌, ◌∙◌, ℕ, zero, suc, ◌⊎◌, inl, inr, ◌==◌, ◌&&◌, ◌||◌, Bool, true, false, true≢false}
+use Rattle.std.proofs.Common.{not}
 use Rattle.std.proofs.Common.{List, [], ◌∷◌, ◌++◌, Option, Some, None, fold, if◌then◌else◌, refl, sym, ap, subst}
 use Rattle.std.proofs.lemmas.Bool.{eqb-true}
 use Rattle.std.proofs.lemmas.List.Concat.{flat_map-append}
@@ -60,7 +61,8 @@ module _ (reads : MessagesAreReadBack) where
       by (inl e) = ap changes_in e
       by (inr e) = ap changes_in e ∙ sym quiet
 
-  all_same : (ms : List (List ℕ)) → AllByRecursion IsBytesOrQuiet ms → changes_in (flat_map read_back ms) ≡ changes_in ms
+  all_same : (ms : List (List ℕ)) → AllByRecursion IsBytesOrQuiet ms
+      → changes_in (flat_map read_back ms) ≡ changes_in ms
   all_same [] h = refl
   all_same (m ∷ ms) h =
       changes_both (read_back m) (flat_map read_back ms)

@@ -1,6 +1,7 @@
 -- A switch that is up after an event was up before it, or the event brings it up, and begins its round.
 use Rattle.std.proofs.Common.{◌≡◌, ◌∙◌, ℕ, ◌⊎◌, inl, inr, ◌==◌, Bool, true, false, true≢false, List, [], ◌∷◌, ◌++◌, map}
-use Rattle.std.proofs.Common.{Option, Some, None, if◌then◌else◌, option_map, refl, sym, ap, subst, zero, suc, ◌+◌, arith}
+use Rattle.std.proofs.Common.{Option, Some, None, if◌then◌else◌, option_map, refl, sym, ap, subst, zero, suc, ◌+◌}
+use Rattle.std.proofs.Common.{arith}
 use Rattle.std.proofs.lemmas.Bool.{eq-eqb, eqb-true}
 use Rattle.std.proofs.lemmas.Option.{slice_get-map}
 use Rattle.std.specs.Prelude.{is_some, slice_get}
@@ -120,7 +121,8 @@ module _ (p : PolicyOf) (s : State) (n : ℕ) where
   act_begins (events.Up (Member k) arp) = refl
   act_begins (events.Up (Switch k) arp) = by arp
     where
-      by : (b : Bool) → is_switch n (noting p k b (begin_switch k (end_first (Switch k) (untouched s)))).begun ≡ (k == n)
+      by : (b : Bool)
+          → is_switch n (noting p k b (begin_switch k (end_first (Switch k) (untouched s)))).begun ≡ (k == n)
       by true = refl
       by false = refl
   act_begins (events.Up Audit arp) = refl

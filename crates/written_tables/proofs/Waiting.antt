@@ -53,7 +53,8 @@ bare_changed n k f keeps boxes h o at = by (k == n) refl
     by : (b : Bool) → (k == n) ≡ b → o.waiting ≡ []
     by true t =
         there (slice_get boxes n) refl
-        (sym (at_changed n f boxes) ∙ subst (λ (j : ℕ). slice_get (changed_at j f boxes) n ≡ Some o) (eqb-true k n t) at)
+        (sym (at_changed n f boxes)
+        ∙ subst (λ (j : ℕ). slice_get (changed_at j f boxes) n ≡ Some o) (eqb-true k n t) at)
     by false t = h o (sym (elsewhere k n f boxes t) ∙ at)
 
 bare : (p : PolicyOf) (e : Event) (n : ℕ) → IsStable p e (λ (v : Boxes). IsBare n v.switches)

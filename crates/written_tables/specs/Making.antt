@@ -1,5 +1,6 @@
 -- What switches were put since they came up, and the tables that it makes.
-use Rattle.std.specs.Prelude.{◌≡◌, ◌==◌, ℕ, Bool, true, false, List, [], ◌∷◌, ◌++◌, Some, flat_map, if◌then◌else◌, slice_get}
+use Rattle.std.specs.Prelude.{◌≡◌, ◌==◌, ℕ, Bool, true, false, List, [], ◌∷◌, ◌++◌, Some, flat_map, if◌then◌else◌}
+use Rattle.std.specs.Prelude.{slice_get}
 use Rattle.cv_io.specs.declared.leaf.Who.TheVariants.{Switch}
 use Rattle.events.specs.declared.event.Event.{Event}
 use Rattle.events.specs.declared.event.Event.TheVariants.{Up}

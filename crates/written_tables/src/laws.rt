@@ -1,9 +1,11 @@
 //! The laws of what the machine puts to switches, and of what waits.
-ghost use Rattle.written_tables.specs.Laws.{AuditHasItsLines, FlowModsAreBytes, MadeTablesAgree, RoundsFit, RunsMakeTables};
+ghost use Rattle.written_tables.specs.Laws.{AuditHasItsLines, FlowModsAreBytes, MadeTablesAgree, RoundsFit};
+ghost use Rattle.written_tables.specs.Laws.{RunsMakeTables};
 ghost use Rattle.written_tables.specs.Laws.{StepsMakeTables, WhatIsPutWaits, WrittenTablesAgree};
 ghost use Rattle.written_tables.specs.Reports.{ReportedTablesAgree};
 
-/// What a switch was put since it came up makes what stands on it of any table: so it stays with what one more event puts.
+/// What a switch was put since it came up makes what stands on it of any table: so it stays with what one more event
+/// puts.
 pub fn steps_make_tables()
     ensures { StepsMakeTables }
 {
