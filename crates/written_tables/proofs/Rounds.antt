@@ -238,10 +238,10 @@ module _ (p : PolicyOf) (s : State) (n : ℕ) where
       → (is_switch n (drafted p (heard s e) e).begun ≡ brings_up n e) × (brings_up n e ≡ false → IsUpAt s n)
   through e (x, at, up) =
       let d = drafted p (heard s e) e in
-      let was = was_put p d n x at up in (
+      let was = was_put p d n x at up in
+      let there = slice_get-map switch_box d.state.switches n ∙ ap (option_map switch_box) was.at in (
         draft_begins p (heard s e) n e (slow p (heard s e) e),
-        λ f. by f (draft_up p s e n
-            (was.switch.outbox, slice_get-map switch_box d.state.switches n ∙ ap (option_map switch_box) was.at, was.up)),
+        λ f. by f (draft_up p s e n (was.switch.outbox, there, was.up)),
       )
     where
       by : brings_up n e ≡ false → (brings_up n e ≡ true) ⊎ IsUpIn (map switch_box s.switches) n → IsUpAt s n
