@@ -92,7 +92,7 @@ name_bytes (c ∷ name) h =
     let parts = split_and (is_name_byte c) (list_all is_name_byte name) h in
     ap (λ b. b && is_word name) (name_byte c parts.0) ∙ name_bytes name parts.1
 
-name_word : (name : List ℕ) → is_name name ≡ true → is_word name ≡ true
+pub name_word : (name : List ℕ) → is_name name ≡ true → is_word name ≡ true
 name_word [] h = refl
 name_word (c ∷ name) h =
     let parts = split_and (is_ascii_lowercase c && nat_lt (length name) 16) (list_all is_name_byte name) h in
