@@ -79,7 +79,7 @@ name_byte : (c : ℕ) → is_name_byte c ≡ true → not ((c == 10) || (c == 32
 name_byte c h = by (c == 10) refl (c == 32) refl
   where
     never : (d : ℕ) → is_name_byte d ≡ false → c ≡ d → ⊥
-    never d no e = true≢false (sym h ∙ (ap is_name_byte e ∙ no))
+    never d other e = true≢false (sym h ∙ (ap is_name_byte e ∙ other))
 
     by : (a : Bool) → (c == 10) ≡ a → (b : Bool) → (c == 32) ≡ b → not (a || b) ≡ true
     by true e b f = absurd (never 10 refl (eqb-true c 10 e))
