@@ -1,9 +1,9 @@
 -- Heads of lines.
-use Rattle.std.proofs.Common.{◌≡◌, ◌∙◌, ℕ, ◌==◌, ◌&&◌, ◌||◌, Bool, true, false, true≢false, not, List, [], ◌∷◌, ◌++◌}
+use Rattle.std.proofs.Common.{◌≡◌, ℕ, ◌==◌, ◌&&◌, ◌||◌, Bool, true, false, true≢false, not, List, [], ◌∷◌, ◌++◌}
 use Rattle.std.proofs.Common.{Some}
-use Rattle.std.proofs.Common.{None, Option, append_assoc, if◌then◌else◌, refl, sym, ap, subst}
-use Rattle.std.proofs.lemmas.Bool.{eqb-true, ne_eqb}
-use Rattle.std.specs.Prelude.{codes, nat_eq}
+use Rattle.std.proofs.Common.{None, if◌then◌else◌, refl, sym, ap, subst}
+use Rattle.std.proofs.lemmas.Bool.{ne_eqb}
+use Rattle.std.specs.Prelude.{nat_eq}
 use Rattle.std.specs.Cmp.Lexicographic.{pointwise}
 use Rattle.script_text.specs.Lines.{report_text}
 use Rattle.hex.specs.Hex.{encode_lower}

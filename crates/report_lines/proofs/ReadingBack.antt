@@ -5,13 +5,11 @@ use Rattle.std.proofs.Common.{None, append-nil, if◌then◌else◌, refl, sym, 
 use Rattle.std.proofs.lemmas.List.Concat.{flat_map-append}
 use Rattle.std.specs.Prelude.{codes, flat_map, nat_eq}
 use Rattle.std.specs.Cmp.Lexicographic.{pointwise}
-use Rattle.std.specs.List.{AllByRecursion}
 use Rattle.hex.specs.Hex.{encode_lower}
-use Rattle.script_text.specs.Lines.{report_text}
-use Rattle.report_lines.specs.Lines.{as_line, is_line, is_word, lines_in}
+use Rattle.report_lines.specs.Lines.{is_line, is_word, lines_in}
 use Rattle.report_lines.specs.ReadBack.{IsPlain, Other, ReportsAreReadBack, To, Told, line_of, read_back}
 use Rattle.report_lines.specs.ReadBack.{report_with, said_by, said_to}
-use Rattle.report_lines.specs.Reading.{behind, head_of, message_in, messages_to, told_by}
+use Rattle.report_lines.specs.Reading.{message_in, told_by}
 use Rattle.report_lines.proofs.Digits.{hex_line}
 use Rattle.report_lines.proofs.Heads.{head_behind, no_longer}
 use Rattle.report_lines.proofs.Splitting.{one_line}

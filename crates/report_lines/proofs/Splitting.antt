@@ -1,7 +1,7 @@
 -- A text of lines, split.
 use Rattle.std.proofs.Common.{◌≡◌, ◌∙◌, ℕ, ◌==◌, ◌&&◌, Bool, true, false, true≢false, not, List, [], ◌∷◌, ◌++◌}
 use Rattle.std.proofs.Common.{append-nil}
-use Rattle.std.proofs.Common.{append_assoc, if◌then◌else◌, refl, sym, ap}
+use Rattle.std.proofs.Common.{append_assoc, if◌then◌else◌, sym, ap}
 use Rattle.report_lines.specs.Lines.{as_line, is_line, lines_behind, lines_in}
 
 -- a line that has its line feed, and what follows

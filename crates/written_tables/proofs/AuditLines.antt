@@ -1,7 +1,7 @@
 -- What an event puts into the audit are lines of the audit.
-use Rattle.std.proofs.Common.{◌≡◌, ◌∙◌, ℕ, zero, suc, ◌+◌, ◌==◌, Bool, true, false, List, [], ◌∷◌, ◌++◌, map, filter}
+use Rattle.std.proofs.Common.{◌≡◌, ◌∙◌, ℕ, suc, ◌+◌, ◌==◌, Bool, true, false, List, [], ◌∷◌, ◌++◌, map, filter}
 use Rattle.std.proofs.Common.{Some, None}
-use Rattle.std.proofs.Common.{Option, if◌then◌else◌, refl, sym, ap}
+use Rattle.std.proofs.Common.{Option, if◌then◌else◌, refl, ap}
 use Rattle.std.specs.Prelude.{flat_map, slice_get}
 use Rattle.std.specs.List.{AllByRecursion, enumerate_from}
 use Rattle.cv_io.specs.declared.leaf.Who.{Who}
@@ -9,7 +9,7 @@ use Rattle.cv_io.specs.declared.leaf.Who.TheVariants.{Audit, Member, Switch}
 use Rattle.events.specs.declared.event.Event.{Event}
 use Rattle.events.specs.declared.event.Event.TheVariants as events
 use Rattle.events.specs.declared.event.Reply.{Reply}
-use Rattle.member_replies.specs.Audit.{down_line, note_line, policy_line, slow_line}
+use Rattle.member_replies.specs.Audit.{down_line, note_line, slow_line}
 use Rattle.member_replies.specs.Refusals.{deny_line}
 use Rattle.outbox.specs.Outboxes.{is_open, later}
 use Rattle.policy_file.specs.Policies.{PolicyOf}

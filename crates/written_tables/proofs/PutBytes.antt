@@ -1,8 +1,8 @@
 -- What an event puts to a switch that is up after it are messages of bytes, but for such as change no table.
-use Rattle.std.proofs.Common.{◌≡◌, ◌∙◌, ℕ, ◌<◌, ◌⊎◌, inl, inr, Bool, true, false, List, [], ◌∷◌, ◌++◌, Option, Some}
+use Rattle.std.proofs.Common.{◌≡◌, ◌∙◌, ℕ, inl, inr, true, List, [], ◌∷◌, ◌++◌, Option, Some}
 use Rattle.std.proofs.Common.{None}
 use Rattle.std.proofs.Common.{suc, zero, refl, sym, ap, subst, arith, append-nil}
-use Rattle.std.specs.Prelude.{flat_map, slice_get, slice_index}
+use Rattle.std.specs.Prelude.{flat_map, slice_get}
 use Rattle.std.specs.List.{AllByRecursion}
 use Rattle.std.specs.Option.{option_map_or}
 use Rattle.events.specs.declared.event.Event.{Event}
@@ -13,8 +13,7 @@ use Rattle.of10_msgs.specs.Reading.{reading}
 use Rattle.of10_msgs.specs.declared.message.Body.{Body}
 use Rattle.of10_msgs.specs.declared.message.Body.TheVariants.{BarrierRequest}
 use Rattle.policy_file.specs.Policies.{PolicyOf}
-use Rattle.policy_file.specs.Sound.{IsSound}
-use Rattle.switch_state.specs.Frames.{IsQuiet, bodies_in, said_by}
+use Rattle.switch_state.specs.Frames.{IsQuiet, said_by}
 use Rattle.switch_state.specs.Writing.{changes_of}
 use Rattle.switch_state.proofs.Fitting.{all_joined}
 use Rattle.machine_meaning.specs.Batches.{batch_between}

@@ -1,7 +1,7 @@
 -- What is read of a report makes the tables that what was put makes.
 use Rattle.std.proofs.Common.{◌≡◌, ◌∙◌, ℕ, zero, suc, ◌⊎◌, inl, inr, ◌==◌, ◌&&◌, ◌||◌, Bool, true, false, true≢false}
 use Rattle.std.proofs.Common.{not}
-use Rattle.std.proofs.Common.{List, [], ◌∷◌, ◌++◌, Option, Some, None, fold, if◌then◌else◌, refl, sym, ap, subst}
+use Rattle.std.proofs.Common.{List, [], ◌∷◌, ◌++◌, Some, fold, if◌then◌else◌, refl, sym, ap, subst}
 use Rattle.std.proofs.lemmas.Bool.{eqb-true}
 use Rattle.std.proofs.lemmas.List.Concat.{flat_map-append}
 use Rattle.std.specs.Char.{is_ascii_digit, is_ascii_lowercase}
@@ -15,7 +15,7 @@ use Rattle.policy_file.specs.Sound.{IsSound, IsSoundSwitch}
 use Rattle.policy_file.specs.Values.{is_name, is_name_byte}
 use Rattle.policy_meaning.proofs.Booleans.{split_and}
 use Rattle.report_lines.specs.Lines.{is_word}
-use Rattle.report_lines.specs.ReadBack.{MessagesAreReadBack, ReportsAreReadBack, Told, read_back, report_with, said_to}
+use Rattle.report_lines.specs.ReadBack.{MessagesAreReadBack, ReportsAreReadBack, read_back, report_with}
 use Rattle.report_lines.specs.Reading.{messages_to}
 use Rattle.switch_meaning.specs.BatchLaw.{IsTableOf}
 use Rattle.switch_meaning.specs.Tables.{table_after_all}
@@ -34,10 +34,10 @@ use Rattle.machine_meaning.specs.States.{State, SwitchOf, opening}
 use Rattle.machine_meaning.specs.Steps.{step_of}
 use Rattle.machine_meaning.specs.Written.{put_by, standing_at}
 use Rattle.machine_meaning.proofs.TypedSteps.{cookie_fits, numbers_left}
-use Rattle.written_tables.specs.Laws.{ChangesNothing, FlowModsAreBytes, IsBytesOrQuiet, MadeTablesAgree}
+use Rattle.written_tables.specs.Laws.{FlowModsAreBytes, IsBytesOrQuiet, MadeTablesAgree}
 use Rattle.written_tables.specs.Laws.{RunsMakeTables}
 use Rattle.written_tables.specs.Making.{Makes, brings_up, made_by, put_from, put_more, put_since}
-use Rattle.written_tables.specs.Reports.{IsReportSince, ReportedTablesAgree}
+use Rattle.written_tables.specs.Reports.{ReportedTablesAgree}
 use Rattle.written_tables.proofs.Made.{sound_after}
 use Rattle.written_tables.proofs.Rounds.{comes}
 

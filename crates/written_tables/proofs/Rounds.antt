@@ -1,8 +1,7 @@
 -- A switch that is up after an event was up before it, or the event brings it up, and begins its round.
 use Rattle.std.proofs.Common.{◌≡◌, ◌∙◌, ℕ, ◌⊎◌, inl, inr, ◌==◌, Bool, true, false, true≢false, List, [], ◌∷◌, ◌++◌, map}
 use Rattle.std.proofs.Common.{Option, Some, None, if◌then◌else◌, option_map, refl, sym, ap, subst, zero, suc, ◌+◌}
-use Rattle.std.proofs.Common.{arith}
-use Rattle.std.proofs.lemmas.Bool.{eq-eqb, eqb-true}
+use Rattle.std.proofs.lemmas.Bool.{eqb-true}
 use Rattle.std.proofs.lemmas.Option.{slice_get-map}
 use Rattle.std.specs.Prelude.{is_some, slice_get}
 use Rattle.std.specs.List.{enumerate_from}
@@ -21,10 +20,10 @@ use Rattle.machine_meaning.specs.Glances.{closed_unless, glance_of}
 use Rattle.machine_meaning.specs.Hearing.{heard}
 use Rattle.machine_meaning.specs.Lists.{changed_at}
 use Rattle.machine_meaning.specs.Phases.{draft_of, drafted, slow}
-use Rattle.machine_meaning.specs.Putting.{for_switch, put, put_to, put_to_switch}
+use Rattle.machine_meaning.specs.Putting.{for_switch, put, put_to_switch}
 use Rattle.machine_meaning.specs.Rounds.{Closing, begin_switch}
 use Rattle.machine_meaning.specs.Runs.{after}
-use Rattle.machine_meaning.specs.Sessions.{is_switch, outbox_of}
+use Rattle.machine_meaning.specs.Sessions.{is_switch}
 use Rattle.machine_meaning.specs.States.{State, SwitchOf}
 use Rattle.machine_meaning.specs.Steps.{step_by}
 use Rattle.machine_meaning.specs.Takings.{left_by}

@@ -1,5 +1,5 @@
 -- Where nothing waits for a switch, what waits after an event is what the event puts to it; and rounds fit.
-use Rattle.std.proofs.Common.{◌≡◌, ◌∙◌, ℕ, zero, suc, ◌+◌, ◌<◌, ◌^◌, ◌==◌, Bool, true, false, List, [], ◌∷◌, ◌++◌, map}
+use Rattle.std.proofs.Common.{◌≡◌, ◌∙◌, ℕ, zero, suc, ◌+◌, ◌==◌, Bool, true, false, List, [], ◌∷◌, ◌++◌, map}
 use Rattle.std.proofs.Common.{Option, Some, None, if◌then◌else◌, option_map, arith, refl, sym, ap, subst}
 use Rattle.std.proofs.Math.Nat.{min-le_right}
 use Rattle.std.proofs.lemmas.Bool.{eqb-true}
@@ -17,14 +17,13 @@ use Rattle.policy_file.specs.Policies.{PolicyOf}
 use Rattle.policy_file.specs.declared.policy.MemberItem.{MemberItem}
 use Rattle.policy_meaning.proofs.Booleans.{some_injective}
 use Rattle.virtual_topology.specs.declared.plan.SwitchItem.{SwitchItem}
-use Rattle.machine_meaning.specs.Drafts.{Draft, untouched}
+use Rattle.machine_meaning.specs.Drafts.{Draft}
 use Rattle.machine_meaning.specs.Glances.{glance_of}
 use Rattle.machine_meaning.specs.Hearing.{heard}
 use Rattle.machine_meaning.specs.Lists.{changed_at}
 use Rattle.machine_meaning.specs.Phases.{drafted, slow}
 use Rattle.machine_meaning.specs.Putting.{for_member, for_switch, put, put_to, put_to_member, put_to_switch}
-use Rattle.machine_meaning.specs.Runs.{after}
-use Rattle.machine_meaning.specs.States.{MemberOf, State, SwitchOf, new_member, new_switch, opening}
+use Rattle.machine_meaning.specs.States.{MemberOf, State, SwitchOf, new_member, new_switch}
 use Rattle.machine_meaning.specs.Steps.{step_by}
 use Rattle.machine_meaning.specs.Takings.{left_by}
 use Rattle.machine_meaning.specs.Written.{draft_at}
