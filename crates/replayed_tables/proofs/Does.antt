@@ -1,6 +1,6 @@
 -- An event of a replay: what it reports to each switch is what it puts to it.
-use Rattle.std.proofs.Common.{◌≡◌, ◌∙◌, ℕ, zero, suc, ◌+◌, ◌<◌, ◌^◌, ◌==◌, Bool, true, false, true≢false, List, [], ◌∷◌}
-use Rattle.std.proofs.Common.{◌++◌, map, Option, Some, None, if◌then◌else◌, option_map, append-nil, arith, refl, sym}
+use Rattle.std.proofs.Common.{◌≡◌, ◌∙◌, ℕ, ◌+◌, Bool, true, false, List, []}
+use Rattle.std.proofs.Common.{◌++◌, map, Option, Some, if◌then◌else◌, option_map, refl, sym}
 use Rattle.std.proofs.Common.{ap}
 use Rattle.std.proofs.Common.{subst}
 use Rattle.std.proofs.lemmas.List.Concat.{flat_map-append}
@@ -8,7 +8,7 @@ use Rattle.std.specs.Prelude.{flat_map, nat_eq, slice_get}
 use Rattle.std.specs.Cmp.Lexicographic.{pointwise}
 use Rattle.std.specs.List.{AllByRecursion, enumerate_from}
 use Rattle.std.specs.Option.{option_map_or}
-use Rattle.cv_io.specs.declared.leaf.Who.TheVariants.{Audit, Member, Switch}
+use Rattle.cv_io.specs.declared.leaf.Who.TheVariants.{Audit, Switch}
 use Rattle.events.specs.declared.event.Event.{Event}
 use Rattle.policy_file.specs.Policies.{PolicyOf}
 use Rattle.policy_file.specs.Sound.{IsSound}
@@ -29,11 +29,11 @@ use Rattle.machine_meaning.specs.Written.{put_by, standing_at}
 use Rattle.machine_meaning.proofs.FitEntries.{within}
 use Rattle.machine_meaning.proofs.Numbered.{from_zero}
 use Rattle.replay_report.specs.Sessions.{named_member, named_switch, sessions_of}
-use Rattle.replay_report.specs.Takings.{does, emptied, takes_all, takes_of, waiting_in, waits_for}
+use Rattle.replay_report.specs.Takings.{does, emptied, takes_of, waiting_in, waits_for}
 use Rattle.written_tables.specs.AuditLines.{IsAuditLine}
 use Rattle.written_tables.specs.Laws.{AuditHasItsLines, FlowModsAreBytes, NothingWaits, RoundsFit, StepsMakeTables}
 use Rattle.written_tables.specs.Laws.{WhatIsPutWaits}
-use Rattle.written_tables.specs.Making.{Makes, brings_up, made_by, put_more}
+use Rattle.written_tables.specs.Making.{Makes, brings_up, made_by}
 use Rattle.written_tables.proofs.InOrder.{made_both}
 use Rattle.written_tables.proofs.Reported.{made_same, names_are_words}
 use Rattle.replayed_tables.specs.Since.{HasNames}

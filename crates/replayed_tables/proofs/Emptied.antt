@@ -1,6 +1,6 @@
 -- A state once all that waits for a session is taken: it is sound, and nothing else of it changed.
-use Rattle.std.proofs.Common.{◌≡◌, ◌∙◌, ◌⊎◌, inl, inr, ℕ, zero, suc, ◌<◌, ◌^◌, ◌==◌, ◌&&◌, Bool, true, false}
-use Rattle.std.proofs.Common.{true≢false, List, [], ◌∷◌}
+use Rattle.std.proofs.Common.{◌≡◌, ◌∙◌, ℕ, zero, suc, ◌<◌, ◌^◌, ◌==◌, Bool, true, false}
+use Rattle.std.proofs.Common.{List, [], ◌∷◌}
 use Rattle.std.proofs.Common.{map, ◌+◌, Option, Some, None, if◌then◌else◌, option_map, arith, refl, sym, ap, subst}
 use Rattle.std.proofs.lemmas.Bool.{eqb-false, eqb-true}
 use Rattle.std.specs.Prelude.{slice_get}
@@ -18,7 +18,7 @@ use Rattle.policy_meaning.proofs.Booleans.{some_injective}
 use Rattle.machine_meaning.specs.Glances.{glance_of}
 use Rattle.machine_meaning.specs.Laws.{SoundnessIsKept}
 use Rattle.machine_meaning.specs.Lists.{changed_at}
-use Rattle.machine_meaning.specs.Sessions.{outbox_of, round_of}
+use Rattle.machine_meaning.specs.Sessions.{round_of}
 use Rattle.machine_meaning.specs.Sound.{HasNumbers, IsSoundState}
 use Rattle.machine_meaning.specs.States.{MemberOf, State, SwitchOf}
 use Rattle.machine_meaning.specs.Steps.{step_by, step_of}

@@ -1,14 +1,13 @@
 -- A line of a replay: what it reports tells of each switch what stands there.
-use Rattle.std.proofs.Common.{◌≡◌, ◌∙◌, ℕ, zero, suc, ◌+◌, ◌<◌, ◌^◌, ◌==◌, ◌&&◌, Bool, true, false, true≢false, List}
+use Rattle.std.proofs.Common.{◌≡◌, ◌∙◌, ℕ, zero, suc, ◌+◌, ◌<◌, ◌^◌, Bool, true, false, true≢false, List}
 use Rattle.std.proofs.Common.{[]}
 use Rattle.std.proofs.Common.{◌∷◌, ◌++◌, map, Option, Some, None, if◌then◌else◌, option_map, append_assoc, append-nil}
-use Rattle.std.proofs.Common.{arith, fold, refl, sym, ap, subst}
+use Rattle.std.proofs.Common.{arith, refl, sym, ap, subst}
 use Rattle.std.proofs.lemmas.Bool.{eqb-true}
 use Rattle.std.proofs.lemmas.List.Concat.{flat_map-append}
 use Rattle.std.specs.Prelude.{codes, decimal, flat_map, length, nat_eq, slice_get, slice_set}
 use Rattle.std.specs.Cmp.Lexicographic.{pointwise}
 use Rattle.std.specs.List.{AllByRecursion}
-use Rattle.std.specs.Option.{option_map_or}
 use Rattle.cv_io.specs.declared.leaf.Who.{Who}
 use Rattle.cv_io.specs.declared.leaf.Who.TheVariants.{Audit, Member, Switch}
 use Rattle.events.specs.declared.event.Event.{Event}
@@ -28,13 +27,13 @@ use Rattle.policy_meaning.specs.declared.network.Network.{Network}
 use Rattle.script_text.specs.declared.line.Line.{Line}
 use Rattle.script_text.specs.declared.line.Line.TheVariants as lines
 use Rattle.report_lines.specs.Lines.{is_word}
-use Rattle.report_lines.specs.ReadBack.{IsPlain, Other, Told, read_back, report_with, said_by, said_to}
+use Rattle.report_lines.specs.ReadBack.{IsPlain, Other, read_back, report_with, said_by, said_to}
 use Rattle.report_lines.specs.Reading.{messages_to}
 use Rattle.switch_state.proofs.Fitting.{all_joined}
 use Rattle.virtual_topology.specs.declared.plan.VirtualItem.{VirtualItem}
 use Rattle.machine_meaning.specs.Events.{AreBytes, IsEvent}
 use Rattle.machine_meaning.specs.Names.{switch_name}
-use Rattle.machine_meaning.specs.Sessions.{is_switch, round_of}
+use Rattle.machine_meaning.specs.Sessions.{is_switch}
 use Rattle.machine_meaning.specs.Sound.{HasNumbers}
 use Rattle.machine_meaning.specs.States.{State}
 use Rattle.replay_report.specs.Cuts.{frames_of, is_short, rest_of}
@@ -44,7 +43,7 @@ use Rattle.replay_report.specs.Playing.{line_does, present, replaces, says, send
 use Rattle.replay_report.specs.Playing.{tells_arp, unless_short}
 use Rattle.replay_report.specs.Streams.{fresh}
 use Rattle.replay_report.specs.Sessions.{found_from, session_named, sessions_of, virtual_from, virtual_named}
-use Rattle.replay_report.specs.Takings.{Done, does, quietly}
+use Rattle.replay_report.specs.Takings.{Done, does}
 use Rattle.replay_report.specs.declared.sessions.Found.{Found}
 use Rattle.replay_report.specs.declared.sessions.Named.{Named}
 use Rattle.replay_report.specs.declared.streams.Stream.{Stream}

@@ -10,9 +10,7 @@ use Rattle.std.specs.List.{AllByRecursion}
 use Rattle.std.specs.Option.{option_map_or}
 use Rattle.events.specs.declared.event.PolicyRefusal.{PolicyRefusal}
 use Rattle.events.specs.declared.event.PolicyRefusal.TheVariants.{Expr, TooWide}
-use Rattle.explain_path.specs.declared.trace.LeafTrace.{LeafTrace}
 use Rattle.explain_text.specs.Lines.{controller_name, finding_text, kind_text, used_text}
-use Rattle.explain_text.specs.Lines.{switch_name as switch_of, virtual_name as virtual_of}
 use Rattle.explain_text.specs.declared.finding.Finding.{Finding}
 use Rattle.explain_text.specs.declared.finding.Finding.TheVariants as findings
 use Rattle.grants.specs.Names.{field_at}

@@ -2,33 +2,23 @@
 use Rattle.std.proofs.Common.{◌≡◌, ◌∙◌, ℕ, zero, suc, Bool, true, false, true≢false, List, [], ◌∷◌, ◌++◌, map, Option}
 use Rattle.std.proofs.Common.{Some, None}
 use Rattle.std.proofs.Common.{fold, if◌then◌else◌, option_map, refl, sym, ap}
-use Rattle.std.proofs.lemmas.Option.{slice_get-map}
 use Rattle.std.specs.Prelude.{slice_get}
 use Rattle.std.specs.List.{AllByRecursion}
 use Rattle.std.specs.Option.{option_map_or}
-use Rattle.agreement.specs.Agree.{Agree}
 use Rattle.cv_io.specs.declared.leaf.Who.{Who}
 use Rattle.events.specs.declared.event.Event.{Event}
 use Rattle.events.specs.declared.event.Event.TheVariants as events
-use Rattle.explain_text.specs.Answers.{answer_text}
-use Rattle.explain_text.specs.Entering.{entrance_of}
-use Rattle.explain_text.specs.declared.entrance.Entrance.{Entrance}
-use Rattle.hyper_core.specs.Worlds.{installed_on, network_in}
-use Rattle.install_plan.specs.declared.written.Written.{Written}
-use Rattle.policy_file.specs.Policies.{PolicyOf, plan}
+use Rattle.policy_file.specs.Policies.{PolicyOf}
 use Rattle.policy_file.specs.Sound.{IsSound}
 use Rattle.policy_meaning.proofs.Booleans.{some_injective}
-use Rattle.policy_meaning.specs.declared.network.Network.{Network}
 use Rattle.script_text.specs.declared.line.Line.{Line}
 use Rattle.script_text.specs.declared.line.Line.TheVariants as lines
 use Rattle.report_lines.specs.Reading.{messages_to}
-use Rattle.switch_meaning.specs.declared.entry.FlowEntry.{FlowEntry}
 use Rattle.virtual_topology.specs.declared.plan.SwitchItem.{SwitchItem}
 use Rattle.machine_meaning.specs.Laws.{OpeningIsSound}
 use Rattle.machine_meaning.specs.Names.{switch_name}
 use Rattle.machine_meaning.specs.Sound.{HasNumbers, IsSoundState}
 use Rattle.machine_meaning.specs.States.{State, SwitchOf, new_switch, opening}
-use Rattle.machine_meaning.proofs.TypedSteps.{numbers_left}
 use Rattle.replay_report.specs.Cuts.{frames_of, is_short, rest_of}
 use Rattle.replay_report.specs.Explaining.{asked}
 use Rattle.replay_report.specs.Playing.{Played, Stand, comes_up, heard_of, hears, leaves, line_does, present, replaces}
@@ -40,10 +30,9 @@ use Rattle.replay_report.specs.declared.sessions.Found.{Found}
 use Rattle.replay_report.specs.declared.sessions.Named.{Named}
 use Rattle.replay_report.specs.declared.streams.Stream.{Stream}
 use Rattle.written_tables.specs.Laws.{MadeTablesAgree}
-use Rattle.written_tables.specs.Making.{Makes}
 use Rattle.replayed_tables.specs.Since.{HasNames, IsLine, ReplayedTablesAgree, after_line, brings, report_after}
 use Rattle.replayed_tables.specs.Since.{report_from, report_more, reported_since, stand_of}
-use Rattle.replayed_tables.proofs.Does.{AreLaws, IsIdle, IsTold}
+use Rattle.replayed_tables.proofs.Does.{AreLaws, IsTold}
 use Rattle.replayed_tables.proofs.Frames.{EachByte}
 use Rattle.replayed_tables.proofs.Lines.{IsGoing, Plays, line_plays}
 use Rattle.replayed_tables.proofs.Numbers.{Fits, does_before, does_fits}

@@ -1,16 +1,15 @@
 -- What is taken of a state, as lines of a report, and those of one switch.
-use Rattle.std.proofs.Common.{◌≡◌, ◌∙◌, ℕ, zero, suc, ◌+◌, ◌==◌, ◌&&◌, ◌||◌, Bool, true, false, true≢false, not, List}
+use Rattle.std.proofs.Common.{◌≡◌, ◌∙◌, ℕ, zero, suc, ◌+◌, ◌==◌, Bool, true, false, List}
 use Rattle.std.proofs.Common.{[]}
-use Rattle.std.proofs.Common.{◌∷◌, ◌++◌, map, Option, Some, None, if◌then◌else◌, option_map, append_assoc, append-nil}
+use Rattle.std.proofs.Common.{◌∷◌, ◌++◌, map, Option, Some, if◌then◌else◌, option_map, append_assoc, append-nil}
 use Rattle.std.proofs.Common.{arith, refl, sym, ap, subst}
 use Rattle.std.proofs.lemmas.Bool.{eqb-false, ne_eqb}
 use Rattle.std.proofs.lemmas.List.Concat.{flat_map-append}
-use Rattle.std.specs.Prelude.{flat_map, nat_eq, slice_get}
+use Rattle.std.specs.Prelude.{nat_eq, slice_get}
 use Rattle.std.specs.Cmp.Lexicographic.{pointwise}
 use Rattle.std.specs.List.{AllByRecursion, enumerate_from}
 use Rattle.std.specs.Option.{option_map_or}
-use Rattle.cv_io.specs.declared.leaf.Who.{Who}
-use Rattle.cv_io.specs.declared.leaf.Who.TheVariants.{Audit, Member, Switch}
+use Rattle.cv_io.specs.declared.leaf.Who.TheVariants.{Member, Switch}
 use Rattle.policy_file.specs.declared.policy.MemberItem.{MemberItem}
 use Rattle.policy_meaning.proofs.Booleans.{some_injective}
 use Rattle.report_lines.specs.Lines.{as_line, is_word}
@@ -18,11 +17,10 @@ use Rattle.report_lines.specs.ReadBack.{IsPlain, Other, To, Told, line_of, repor
 use Rattle.script_text.specs.Lines.{report_text}
 use Rattle.switch_state.proofs.Fitting.{all_joined}
 use Rattle.virtual_topology.specs.declared.plan.SwitchItem.{SwitchItem}
-use Rattle.machine_meaning.specs.Lists.{changed_at}
 use Rattle.machine_meaning.specs.States.{State, SwitchOf}
 use Rattle.machine_meaning.proofs.Composed.{elsewhere}
 use Rattle.machine_meaning.proofs.Numbered.{behind, here}
-use Rattle.replay_report.specs.Sessions.{member_name, named_member, named_switch}
+use Rattle.replay_report.specs.Sessions.{named_member, named_switch}
 use Rattle.replay_report.specs.Takings.{audit_lines, emptied, emptied_switch, message_lines, takes_of, waiting_in}
 use Rattle.replay_report.specs.Takings.{waits_for}
 use Rattle.replay_report.specs.declared.sessions.Named.{Named}
