@@ -1,0 +1,9 @@
+pub mod Plain
+pub mod Frames
+pub mod Numbers
+pub mod Names
+pub mod Told
+pub mod Emptied
+pub mod Does
+pub mod Lines
+pub mod Replayed

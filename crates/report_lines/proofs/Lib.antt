@@ -1,0 +1,4 @@
+pub mod Splitting
+pub mod Heads
+pub mod Digits
+pub mod ReadingBack

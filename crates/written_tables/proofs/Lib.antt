@@ -1,0 +1,11 @@
+pub mod Boxes
+pub mod Keeping
+pub mod Acting
+pub mod InOrder
+pub mod Rounds
+pub mod Made
+pub mod Waiting
+pub mod AuditLines
+pub mod Bytes
+pub mod PutBytes
+pub mod Reported

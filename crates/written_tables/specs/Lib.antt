@@ -1,0 +1,4 @@
+pub mod Making
+pub mod AuditLines
+pub mod Laws
+pub mod Reports
