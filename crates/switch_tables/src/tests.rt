@@ -1,6 +1,7 @@
 use super::*;
 use cv_io::{Leaf, List};
 use exact_gate::GateDelta;
+use install_plan::Batch;
 use of10_actions::Action;
 use of10_match::Match;
 use std::alloc::Global;
@@ -24,37 +25,34 @@ fn entry(alloc: Global, priority: u16, kind: u64) -> Result<PhysEntry, Fail> {
     })
 }
 
-/// One entry comes on each of two switches.
-fn both_come(alloc: Global) -> Result<Vec<GateDelta>, Fail> {
-    let mut deltas = Vec::new(alloc);
-    for priority in [7, 9] {
-        let mut come = List::new(alloc);
-        come.push(entry(alloc, priority, 2)?)?;
-        deltas.push(GateDelta {
-            gone: List::new(alloc),
-            come,
-        })?;
+/// One entry comes.
+fn comes(alloc: Global, priority: u16) -> Result<GateDelta, Fail> {
+    let mut come = List::new(alloc);
+    come.push(entry(alloc, priority, 2)?)?;
+    Ok(GateDelta {
+        gone: List::new(alloc),
+        come,
+    })
+}
+
+/// The cookie of the first entry that a batch adds.
+fn first_cookie(batch: &Batch) -> Option<u64> {
+    match batch.adds.get(0) {
+        Some(written) => Some(written.cookie),
+        None => None,
     }
-    Ok(deltas)
 }
 
 #[test]
-fn switches_change_together(rt: HostRuntime) -> Result<(), Fail> {
+fn an_entry_comes_and_is_taken_back(rt: HostRuntime) -> Result<(), Fail> {
     let alloc = rt.alloc();
     let mut tables = Vec::new(alloc);
     tables.push(SwitchTable::new(alloc))?;
-    tables.push(SwitchTable::new(alloc))?;
-    let deltas = both_come(alloc)?;
-    // The first is down: its batch takes no cookies.
-    let ups = [false, true];
-    let batches = change_all(alloc, tables.as_mut_slice(), deltas.as_slice(), &ups, 5)?;
-    assert_eq!(rt; batches.as_slice()[1].batch.adds.as_slice()[0].cookie, 5);
-    // It comes up.
-    let batch = tables[0].whole(6)?;
-    assert_eq!(rt; batch.adds.as_slice()[0].cookie, 6);
-    assert_eq!(rt; tables[0].standing()?.len(), 1);
+    let mut deltas = Vec::new(alloc);
+    deltas.push(comes(alloc, 7)?)?;
+    let batches = change_all(alloc, tables.as_mut_slice(), deltas.as_slice(), &[true], 5)?;
+    assert_eq!(rt; first_cookie(&batches.as_slice()[0].batch), Some(5));
     undo_all(tables.as_mut_slice());
     assert_eq!(rt; tables[0].standing()?.len(), 0);
-    assert_eq!(rt; tables[1].standing()?.len(), 0);
     Ok(())
 }
