@@ -1,0 +1,5 @@
+pub mod Sets
+pub mod Switching
+pub mod Cookies
+pub mod Each
+pub mod Outcomes
