@@ -56,7 +56,7 @@ step_of refused form p before after line old text used replays silent long takes
 pub stepped : {E : Type 0} (answer : Result (Option Kind) E) (old new : Player) (line : List ℕ) (used : ℕ)
     → form_of old ≡ Replay → reported old ≡ [] → used ≡ length line + 1
     → IfOk answer (λ refused. Takes refused (taken (form_of old) (plan_of old) (progress_of old) line used) used
-        (progress_of old) (progress_of new) (reported old) (reported new))
+    (progress_of old) (progress_of new) (reported old) (reported new))
     → IfOk answer (λ refused. Stepped refused old new line)
 unfolding Stepped
 stepped (Ok refused) old new line used replays silent long takes =

@@ -46,7 +46,12 @@ fn do_line(player: &mut Player, line: &[u8]) -> Result<Option<Kind>, Memory>
 }
 
 /// Counts a line that was done, and what was reported of it.
-fn count_line(counts: &mut Counts, line: &[u8], refused: Option<Kind>, report: &[u8]) -> Result<(), Memory>
+fn count_line(
+    counts: &mut Counts,
+    line: &[u8],
+    refused: Option<Kind>,
+    report: &[u8],
+) -> Result<(), Memory>
     ensures { OnOk result (counts.new ≡ counted_unless refused counts.old line.now report.now) }
 {
     match refused {
