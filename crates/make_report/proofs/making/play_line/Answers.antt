@@ -4,7 +4,7 @@ use Rattle.make_report.proofs.making.play_line.Goals as goal
 
 pub returns-clause-tally : goal.returns-clause-tally
 returns-clause-tally c =
-    line_counted c.in_ok-refused.field-0 c.args.player.now c.do_line.new.player c.clear.new.self
+    line_counted c.in_ok-refused.refused c.args.player.now c.do_line.new.player c.clear.new.self
     c.args.counts.now c.count_line.new.counts c.args.line.now c.report.result.now
     c.in_ok-refused.ensures.stepped c.report.ensures c.in_ok-count_line.ensures c.clear.ensures.progress
 
