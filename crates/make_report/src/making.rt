@@ -45,7 +45,7 @@ fn do_line(player: &mut Player, line: &[u8]) -> Result<Option<Kind>, Memory>
     player.line(line, used(line))
 }
 
-/// Counts a line that was done, and what was reported of it.
+/// Counts a line and what was reported of it, unless it wasn't done.
 fn count_line(
     counts: &mut Counts,
     line: &[u8],
@@ -55,10 +55,12 @@ fn count_line(
     ensures { OnOk result (counts.new ≡ counted_unless refused counts.old line.now report.now) }
 {
     match refused {
-        None => *counts = counts.count(line, report)?,
-        Some(_) => {}
+        None => {
+            *counts = counts.count(line, report)?;
+            Ok(())
+        }
+        Some(_) => Ok(()),
     }
-    Ok(())
 }
 
 /// Does a line, counts what is reported of it, and forgets the report.
