@@ -2,6 +2,13 @@ use Rattle.std.proofs.Common.{◌∙◌}
 use Rattle.make_report.proofs.Stepping.{line_counted, unowed}
 use Rattle.make_report.proofs.making.play_line.Goals as goal
 
+pub do_line-requires-clause-form : goal.do_line-requires-clause-form
+do_line-requires-clause-form c = c.requires.form
+
+pub do_line-requires-clause-report : goal.do_line-requires-clause-report
+do_line-requires-clause-report c = c.requires.report
+
+-- once a line was done, or not
 pub returns-clause-tally : goal.returns-clause-tally
 returns-clause-tally c =
     line_counted c.in_ok-refused.refused c.args.player.now c.do_line.new.player c.clear.new.self
