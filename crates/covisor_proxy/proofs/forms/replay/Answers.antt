@@ -31,7 +31,7 @@ returns-clause-ends g c =
     let mid = moment left reads (g.K.Sink.held c.replay_over-outcome.new.out) (g.K.Sink.faults c.replay_over-outcome.new.out) in
     c.conclude.ensures.ends c.args.form c.args.policy old left reads
     (reaches-of c.replay_over-outcome.result c.args.form (form_of begun) c.args.policy (plan_of begun) (progress_of player) (reported player) old mid
-        c.in-Ok-begin.ensures.form c.in-Ok-begin.ensures.plan c.replay_over-outcome.ensures.reaches)
+    c.in-Ok-begin.ensures.form c.in-Ok-begin.ensures.plan c.replay_over-outcome.ensures.reaches)
 
 pub returns-clause-whole : goal.returns-clause-whole
 returns-clause-whole g c = λ done.
@@ -39,6 +39,6 @@ returns-clause-whole g c = λ done.
     let player = c.replay_over-outcome.new.player in
     let old = moment (g.S.Source.remaining c.args.input.now) (g.S.Source.faults c.args.input.now) (g.K.Sink.held c.args.out.now) (g.K.Sink.faults c.args.out.now) in
     let mid = moment (g.S.Source.remaining c.replay_over-outcome.new.input) (g.S.Source.faults c.replay_over-outcome.new.input)
-        (g.K.Sink.held c.replay_over-outcome.new.out) (g.K.Sink.faults c.replay_over-outcome.new.out) in
+    (g.K.Sink.held c.replay_over-outcome.new.out) (g.K.Sink.faults c.replay_over-outcome.new.out) in
     reached-end c.replay_over-outcome.result (form_of begun) (plan_of begun) (progress_of player) (reported player) old mid
     (c.conclude.ensures.done done) c.replay_over-outcome.ensures.reaches
