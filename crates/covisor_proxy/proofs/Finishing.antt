@@ -233,11 +233,25 @@ told-wanted form name files fails fails' old new e = (
 
 -- ---- what isn't of a file
 
+pub ends-made : (status : Status) (all cut : List ℕ → Report) (text : List ℕ) (old new : Moment) → ((script : List ℕ) → all script ≡ lone text 0)
+    → new.reads ≡ old.reads → EndsWith status old.held new.held old.writes new.writes [] (as_line text) → Ends status all cut old new
+ends-made status all cut text old new e r h =
+    ends-done status all cut text old old new []
+    (record {
+      script = rest_in old.left;
+      written = [];
+      is = script-told old.left;
+      appends = appends_none old.held;
+      report = e (rest_in old.left);
+    })
+    r refl h
+
 pub answers-wanted : (command : Option Command) (files : Option (List MemFile)) (fails fails' : ℕ) → AnswersTo command files fails fails' (Err faults.Memory)
 answers-wanted None files fails fails' = tt
 answers-wanted (Some commands.Replay) files fails fails' = tt
 answers-wanted (Some (commands.ReplayPolicy name)) files fails fails' = tt
 answers-wanted (Some (commands.ExplainPolicy name)) files fails fails' = tt
+answers-wanted (Some (commands.Make seed count)) files fails fails' = tt
 
 pub ended-wanted : (command : Option Command) (files : Option (List MemFile)) (fails fails' : ℕ) (old new : Moment) → new.held ≡ old.held
     → Ended statuses.Memory command files fails fails' old new

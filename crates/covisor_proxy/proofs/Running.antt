@@ -76,6 +76,7 @@ refused-for (Some (commands.ReplayPolicy name)) files fails fails' file script a
     refused_file (Some (commands.ReplayPolicy name)) files forms.Replay name fails fails' file script refl a e
 refused-for (Some (commands.ExplainPolicy name)) files fails fails' file script a e =
     refused_file (Some (commands.ExplainPolicy name)) files forms.Explain name fails fails' file script refl a e
+refused-for (Some (commands.Make seed count)) files fails fails' file script a e = absurd (omega arith)
 
 over_other : (form : Form) (r : Result PolicyOf PolicyFault) (script : List ℕ) (n : ℕ) → (n ≡ 0 → ⊥) → (n ≡ 3 → ⊥) → (n ≡ 4 → ⊥) → (over report_of form r script).status ≡ n → ⊥
 over_other form (Ok p) script n a b c e = no_other form p script n a c e
@@ -98,6 +99,7 @@ absent-for (Some (commands.ReplayPolicy name)) files fails fails' file script a 
     absent_file (Some (commands.ReplayPolicy name)) files forms.Replay name fails fails' file script refl a e
 absent-for (Some (commands.ExplainPolicy name)) files fails fails' file script a e =
     absent_file (Some (commands.ExplainPolicy name)) files forms.Explain name fails fails' file script refl a e
+absent-for (Some (commands.Make seed count)) files fails fails' file script a e = absurd (omega arith)
 
 unread_file : (files : Option (List MemFile)) (form : Form) (name : List ℕ) (fails fails' : ℕ) (file : Result (List ℕ) FileFault) (script : List ℕ)
     → Answers files fails fails' name file → (over_file report_of form name file script).status ≡ 5 → Rose fails fails'
@@ -114,6 +116,7 @@ unread-for (Some commands.Replay) files fails fails' file script a e =
     absurd (never_built_in built_in_read script 5 (λ h. omega (arith, h)) (λ h. omega (arith, h)) (λ h. omega (arith, h)) e)
 unread-for (Some (commands.ReplayPolicy name)) files fails fails' file script a e = unread_file files forms.Replay name fails fails' file script a e
 unread-for (Some (commands.ExplainPolicy name)) files fails fails' file script a e = unread_file files forms.Explain name fails fails' file script a e
+unread-for (Some (commands.Make seed count)) files fails fails' file script a e = absurd (omega arith)
 
 -- ---- the clauses of a run
 
@@ -194,6 +197,8 @@ settled_not : (n : ℕ) (command : Option Command) (files : Option (List MemFile
 settled_not n None files fails fails' file old new low more a all e = settled_as n None files fails fails' (Ok []) old new low (ok_other []) tt all e
 settled_not n (Some commands.Replay) files fails fails' file old new low more a all e =
     settled_as n (Some commands.Replay) files fails fails' (Ok []) old new low (ok_other []) tt all e
+settled_not n (Some (commands.Make seed count)) files fails fails' file old new low more a all e =
+    settled_as n (Some (commands.Make seed count)) files fails fails' (Ok []) old new low (ok_other []) tt all e
 settled_not n (Some (commands.ReplayPolicy name)) files fails fails' (Ok bytes) old new low more a all e =
     settled_as n (Some (commands.ReplayPolicy name)) files fails fails' (Ok bytes) old new low (ok_other bytes) a all e
 settled_not n (Some (commands.ReplayPolicy name)) files fails fails' (Err faults.Absent) old new low more a all e =

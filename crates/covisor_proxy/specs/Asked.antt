@@ -2,6 +2,8 @@
 use Rattle.std.specs.Prelude.{◌≡◌, ℕ, List, [], ◌++◌, Option, Some, None, Result, Ok, Err, codes}
 use Rattle.cv_io.specs.declared.files.FileFault.{FileFault}
 use Rattle.cv_io.specs.declared.files.FileFault.TheVariants.{Absent, Failed, Memory}
+use Rattle.made_script.specs.Summary.{summary_text}
+use Rattle.make_report.specs.Making.{made_of}
 use Rattle.policy_file.specs.Policies.{PolicyOf}
 use Rattle.policy_file.specs.Reading.{policy_in_bytes}
 use Rattle.policy_file.specs.Terse.{terse}
@@ -11,7 +13,7 @@ use Rattle.script_text.specs.declared.form.Form.{Form}
 use Rattle.script_text.specs.declared.form.Form.TheVariants as forms
 use Rattle.covisor_proxy.specs.BuiltIn.{built_in_read}
 use Rattle.covisor_proxy.specs.declared.words.Command.{Command}
-use Rattle.covisor_proxy.specs.declared.words.Command.TheVariants.{Replay, ReplayPolicy, ExplainPolicy}
+use Rattle.covisor_proxy.specs.declared.words.Command.TheVariants.{Replay, ReplayPolicy, ExplainPolicy, Make}
 
 -- the policy that the bytes of a file state, or the first fault of them
 unfoldable pub stated : List ℕ → Result PolicyOf PolicyFault
@@ -44,6 +46,7 @@ gives of None file script = lone (codes "fault usage") 2
 gives of (Some Replay) file script = over_built_in of built_in_read script
 gives of (Some (ReplayPolicy name)) file script = over_file of forms.Replay name file script
 gives of (Some (ExplainPolicy name)) file script = over_file of forms.Explain name file script
+gives of (Some (Make seed count)) file script = lone (summary_text (made_of seed count)) 0
 
 -- the report of a script, and of one that can't be read further
 abbrev pub report_for : Option Command → Result (List ℕ) FileFault → List ℕ → Report

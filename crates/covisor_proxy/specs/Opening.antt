@@ -10,7 +10,7 @@ use Rattle.covisor_proxy.specs.Asked.{stated}
 use Rattle.covisor_proxy.specs.declared.opening.NoPolicy.{NoPolicy}
 use Rattle.covisor_proxy.specs.declared.opening.NoPolicy.TheVariants as none
 use Rattle.covisor_proxy.specs.declared.words.Command.{Command}
-use Rattle.covisor_proxy.specs.declared.words.Command.TheVariants.{Replay, ReplayPolicy, ExplainPolicy}
+use Rattle.covisor_proxy.specs.declared.words.Command.TheVariants.{Replay, ReplayPolicy, ExplainPolicy, Make}
 
 -- the files hold this under a name, where they tell what they hold
 abbrev pub Holds : Option (List MemFile) → List ℕ → Option (List ℕ) → Type 0
@@ -29,6 +29,7 @@ abbrev pub AnswersTo : Option Command → Option (List MemFile) → ℕ → ℕ 
 AnswersTo (Some (ReplayPolicy name)) files old new file = Answers files old new name file
 AnswersTo (Some (ExplainPolicy name)) files old new file = Answers files old new name file
 AnswersTo (Some Replay) files old new file = ⊤
+AnswersTo (Some (Make seed count)) files old new file = ⊤
 AnswersTo None files old new file = ⊤
 
 -- bytes state a policy, or are refused

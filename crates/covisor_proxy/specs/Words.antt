@@ -1,13 +1,14 @@
 -- The forms of the command line.
-use Rattle.std.specs.Prelude.{ℕ, ◌==◌, ◌&&◌, Bool, false, not, List, [], ◌∷◌, Option, Some, None, codes}
+use Rattle.std.specs.Prelude.{ℕ, zero, suc, ◌==◌, ◌&&◌, Bool, false, not, List, [], ◌∷◌, Option, Some, None, codes}
 use Rattle.std.specs.Prelude.{length, nat_le, slice_index, if◌then◌else◌}
 use Rattle.std.specs.List.{list_all}
 use Rattle.std.specs.Str.{bytes_eq}
 use Rattle.std.specs.String.{string_bytes}
 use Rattle.std.specs.declared.alloc.Global.{Global}
 use Rattle.std.specs.declared.string.String.{String}
+use Rattle.script_text.specs.Numbers.{number_in}
 use Rattle.covisor_proxy.specs.declared.words.Command.{Command}
-use Rattle.covisor_proxy.specs.declared.words.Command.TheVariants.{Replay, ReplayPolicy, ExplainPolicy}
+use Rattle.covisor_proxy.specs.declared.words.Command.TheVariants.{Replay, ReplayPolicy, ExplainPolicy, Make}
 
 -- printable ASCII
 abbrev pub is_printable : ℕ → Bool
@@ -30,9 +31,22 @@ of_file verb name =
 abbrev pub of_policy : List ℕ → List ℕ → Option Command
 of_policy verb name = if is_name name then of_file verb name else None
 
+-- a seed, and how many messages, which is at least one
+abbrev pub making : Option ℕ → Option ℕ → Option Command
+making None count = None
+making (Some seed) None = None
+making (Some seed) (Some zero) = None
+making (Some seed) (Some (suc n)) = Some (Make seed (suc n))
+
+-- `make SEED N`: the seed is at most 2^64 - 1, and there are at most 2,000 messages
+abbrev pub of_numbers : List ℕ → List ℕ → List ℕ → Option Command
+of_numbers verb seed count =
+    if bytes_eq verb (codes "make") then making (number_in 18446744073709551615 seed) (number_in 2000 count) else None
+
 -- what words ask for; None where they are of no form
 abbrev pub command_of : List (String Global) → Option Command
 command_of [] = None
 command_of (verb ∷ []) = alone (string_bytes verb)
 command_of (verb ∷ name ∷ []) = of_policy (string_bytes verb) (string_bytes name)
-command_of (verb ∷ name ∷ more ∷ words) = None
+command_of (verb ∷ seed ∷ count ∷ []) = of_numbers (string_bytes verb) (string_bytes seed) (string_bytes count)
+command_of (verb ∷ seed ∷ count ∷ next ∷ words) = None

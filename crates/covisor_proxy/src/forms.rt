@@ -1,11 +1,14 @@
 //! The forms of the program.
 ghost use Rattle.std.specs.Prelude.{◌≡◌, ◌≢◌, [], IfOk};
+ghost use Rattle.made_script.specs.Summary.{summary_text};
+ghost use Rattle.make_report.specs.Making.{made_of};
 ghost use Rattle.replay_report.specs.Players.{form_of, plan_of, progress_of, reported};
 ghost use Rattle.replay_report.specs.Reports.{cut_report_of, report_of};
+ghost use Rattle.replay_report.specs.Takings.{as_line};
 ghost use Rattle.covisor_proxy.specs.Asked.{over_built_in};
 ghost use Rattle.covisor_proxy.specs.BuiltIn.{built_in_read};
 ghost use Rattle.covisor_proxy.specs.Chunks.{IsAtEnd};
-ghost use Rattle.covisor_proxy.specs.Following.{IsBegun};
+ghost use Rattle.covisor_proxy.specs.Following.{EndsWith, IsBegun};
 ghost use Rattle.covisor_proxy.specs.Outcomes.{Ends, moment};
 ghost use Rattle.covisor_proxy.specs.Runs.{EndsOver};
 
@@ -15,7 +18,9 @@ use crate::opening::{open, open_built_in};
 use crate::replay::replay_over;
 use crate::status::Status;
 use crate::telling::tell;
+use crate::writing::write_all;
 use cv_io::{Files, Memory, Sink, Source, Text};
+use made_script::summary_line;
 use policy_file::Policy;
 use replay_report::Player;
 use script_text::Form;
@@ -92,4 +97,28 @@ pub(crate) fn replay_file<F: Files, S: Source, K: Sink>(
         Ok(policy) => replay(alloc, form, policy, input, out),
         Err(fault) => tell(alloc, name, fault, out),
     }
+}
+
+/// Does a script that is made, and writes one line of numbers.
+pub(crate) fn make<K: Sink>(alloc: Global, seed: u64, count: u32, out: &mut K) -> Status
+    ensures { EndsWith result (K.held out.old) (K.held out.new) (K.faults out.old) (K.faults out.new)
+        [] (as_line (summary_text (made_of seed count))) }
+{
+    let Ok(line) = made_line(alloc, seed, count) else {
+        return Status::Memory;
+    };
+    match write_all(out, line.as_bytes()) {
+        Ok(()) => Status::Done,
+        Err(_) => Status::Write,
+    }
+}
+
+/// The line of numbers of a script that is made.
+fn made_line(alloc: Global, seed: u64, count: u32) -> Result<Text, Memory>
+    ensures { IfOk result (λ line. line ≡ as_line (summary_text (made_of seed count))) }
+{
+    let summary = make_report::make(alloc, seed, count)?;
+    let mut line = summary_line(alloc, &summary)?;
+    line.push(b'\n')?;
+    Ok(line)
 }

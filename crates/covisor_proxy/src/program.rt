@@ -7,7 +7,7 @@ ghost use Rattle.covisor_proxy.specs.Runs.{Ended, IsAbsent, IsComplete, IsRefuse
 ghost use Rattle.covisor_proxy.specs.Words.{command_of};
 
 use crate::ending::write_fault;
-use crate::forms::{replay_built_in, replay_file};
+use crate::forms::{make, replay_built_in, replay_file};
 use crate::status::Status;
 use crate::words::{Command, asked};
 use cv_io::{Files, Sink, Source, Steps};
@@ -20,7 +20,8 @@ pub const MEMORY: u8 = 10;
 
 /// Does what the words after the program's name say, and answers the exit status. `replay` and `replay POLICY` do the
 /// lines of the script that `input` gives, over the built-in policy or over that of a file, and write the report to
-/// `out`; so does `explain POLICY`, which also knows lines that ask why a packet goes where it goes.
+/// `out`; so does `explain POLICY`, which also knows lines that ask why a packet goes where it goes. `make SEED N` does
+/// a script that it makes, and writes one line of numbers.
 ///
 /// The exit status is 0 where all is done; 2 where the words are of no form; 3 where the policy file is refused; 4 at a
 /// line that isn't done; 5 where a file or the script can't be read; 6 where the report can't be written; 7 where there
@@ -121,5 +122,6 @@ fn obey<F: Files, S: Source, K: Sink>(
             input,
             out,
         ),
+        Command::Make { seed, count } => make(alloc, seed, count, out),
     }
 }

@@ -2,11 +2,15 @@
 ghost use Rattle.std.specs.Prelude.{◌≡◌, ◌≢◌, IfOk, None, OnErr};
 ghost use Rattle.std.specs.List.{list_all};
 ghost use Rattle.covisor_proxy.specs.Words.{alone as alone_of, command_of, is_name as is_name_of, is_printable as is_printable_of};
-ghost use Rattle.covisor_proxy.specs.Words.{of_policy as of_policy_of};
+ghost use Rattle.covisor_proxy.specs.Words.{of_numbers as of_numbers_of, of_policy as of_policy_of};
 
 use cv_io::{Memory, Text};
+use script_text::decimal_number;
 use script_text::form::is_text;
 use std::alloc::Global;
+
+/// The most messages that `make` can be asked for.
+const MOST_MADE: u64 = 2_000;
 
 /// What the words after the program's name ask for.
 #[derive(Debug, Drop)]
@@ -17,6 +21,8 @@ pub(crate) enum Command {
     ReplayPolicy { name: Text },
     /// `explain POLICY`
     ExplainPolicy { name: Text },
+    /// `make SEED N`
+    Make { seed: u64, count: u32 },
 }
 
 /// What the words ask for; None where they are of no form.
@@ -27,6 +33,7 @@ pub(crate) fn asked(alloc: Global, words: &[String]) -> Result<Option<Command>, 
     match words {
         [verb] => Ok(alone(verb.as_bytes())),
         [verb, name] => of_policy(alloc, verb.as_bytes(), name.as_bytes()),
+        [verb, seed, count] => Ok(of_numbers(verb.as_bytes(), seed.as_bytes(), count.as_bytes())),
         _ => Ok(None),
     }
 }
@@ -59,6 +66,24 @@ fn of_policy(alloc: Global, verb: &[u8], name: &[u8]) -> Result<Option<Command>,
         return Ok(Some(Command::ExplainPolicy { name }));
     }
     Ok(None)
+}
+
+/// A word and two numbers.
+fn of_numbers(verb: &[u8], seed: &[u8], count: &[u8]) -> Option<Command>
+    ensures { result ≡ of_numbers_of verb.now seed.now count.now }
+{
+    if !is_text(verb, "make") {
+        return None;
+    }
+    let seed = decimal_number(seed, u64::MAX)?;
+    let count = decimal_number(count, MOST_MADE)?;
+    if count == 0 {
+        return None;
+    }
+    Some(Command::Make {
+        seed,
+        count: count as u32,
+    })
 }
 
 /// Whether a word can name a file: it isn't empty, doesn't begin with `-`, and is printable ASCII.

@@ -1,0 +1,23 @@
+use Rattle.std.proofs.Common.{◌≡◌, ◌+◌, ap, length, sym, subst, ◌∙◌}
+use Rattle.std.specs.Prelude.{IfOk}
+use Rattle.make_report.specs.Making.{summary_in}
+use Rattle.make_report.proofs.Stepping.{lines_told, made_long, of_bench, summary_long}
+use Rattle.make_report.proofs.making.make.Goals as goal
+
+pub summary-requires : goal.summary-requires
+summary-requires c =
+    ap (λ n. n + 3) c.from.ensures ∙ sym (ap length c.new-script.ensures ∙ made_long c.args.seed c.args.count)
+
+pub returns-clause-summary : goal.returns-clause-summary
+returns-clause-summary c =
+    let p = c.in_ok-policy.field-0 in
+    subst (λ told. IfOk c.summary.result (λ summary. summary ≡ told))
+    (ap (summary_in p) c.new-script.ensures ∙ of_bench p c.args.seed c.args.count c.in_ok-policy.ensures)
+    c.summary.ensures
+
+pub returns-clause-lines : goal.returns-clause-lines
+returns-clause-lines c =
+    let p = c.in_ok-policy.field-0 in
+    let script = c.new-script.result in
+    lines_told c.summary.result (summary_in p script) (c.args.count + 3) c.summary.ensures
+    (summary_long p script ∙ ap length c.new-script.ensures ∙ made_long c.args.seed c.args.count)

@@ -1,0 +1,34 @@
+use Rattle.std.proofs.Common.{◌≡◌, ◌∙◌, ap, refl}
+use Rattle.replay_report.specs.Players.{plan_of}
+use Rattle.make_report.specs.Making.{Tally, after_lines, first, tally_of}
+use Rattle.make_report.proofs.Stepping.{counts_of, rules_told, told_of, unowed}
+use Rattle.make_report.proofs.making.tell.Goals as goal
+
+pub returns : goal.returns
+returns c =
+    let p = plan_of c.args.player.now in
+    let player = c.play_lines.new.player in
+    let counts = c.play_lines.new.counts in
+    let t = tally_of player counts in
+    let all : t ≡ after_lines p (first p) c.args.script.now =
+    c.in_ok-play_lines.ensures.tally
+    ∙ ap (λ (u : Tally). after_lines p u c.args.script.now)
+    (ap (tally_of c.args.player.now) c.new-counts.ensures ∙ c.requires.first) in
+    told_of p c.args.lines c.in_ok-rules.rules counts t c.args.script.now c.requires.lines
+    (counts_of player counts t refl)
+    (rules_told p (plan_of player) player counts t c.in_ok-rules.rules refl c.in_ok-play_lines.ensures.plan
+    c.in_ok-rules.ensures)
+    all
+
+pub play_lines-requires-clause-form : goal.play_lines-requires-clause-form
+play_lines-requires-clause-form c = c.requires.form
+
+pub play_lines-requires-clause-report : goal.play_lines-requires-clause-report
+play_lines-requires-clause-report c = c.requires.report
+
+-- after want of memory
+pub returns-in_err-play_lines : goal.returns-in_err-play_lines
+returns-in_err-play_lines c = unowed c.from_residual.result _ c.from_residual.ensures.0
+
+pub returns-in_err-rules : goal.returns-in_err-rules
+returns-in_err-rules c = unowed c.from_residual-in_err-rules.result _ c.from_residual-in_err-rules.ensures.0

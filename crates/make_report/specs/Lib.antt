@@ -1,0 +1,4 @@
+pub mod Bench
+pub mod Counting
+pub mod Making
+pub mod Worked
