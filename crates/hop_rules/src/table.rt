@@ -1,0 +1,161 @@
+//! The rules of the ports of virtual switches.
+ghost use Rattle.std.specs.Prelude.{◌≡◌, ◌<◌, ◌^◌, ◌++◌, ◌×◌, ◌∷◌, [], Contains, IfOk, IsPermutation, List, OnErr, OnOk, ℕ};
+ghost use Rattle.std.specs.Prelude.{false, length, map, true};
+ghost use Rattle.std.specs.List.{AllByRecursion};
+ghost use Rattle.policy_meaning.specs.Hops.{hop_size};
+ghost use Rattle.policy_meaning.specs.declared.network.Place.{Place};
+ghost use Rattle.policy_meaning.specs.declared.rule.Rule.{Rule};
+ghost use Rattle.hop_rules.specs.Counts.{AreCounted};
+ghost use Rattle.hop_rules.specs.Links.{ends as ends_of};
+ghost use Rattle.hop_rules.specs.Tables.{AreDeltas, AreOfPorts, IsHanded, MayCome, TableOf, coming, fabric, is_whole, own_ports};
+ghost use Rattle.hop_rules.specs.Tables.{port_rules, rules_at as rules_held};
+
+use crate::building::{last_nodes, level_of, levels_below, none_given, outside_stands};
+use crate::delta::PortDelta;
+use crate::exits::ends;
+use crate::parts::Parts;
+use crate::telling::{port_deltas, rules_at, whole_delta};
+use cv_io::{Duplicate, List, Memory, Steps};
+use op_compose::RuleDelta;
+use policy_meaning::{Place, Rule};
+use std::alloc::Global;
+use std::marker::Model;
+use std::sync::ledger::Ledger;
+use virtual_topology::Topology;
+
+/// The rules of the outside ports of virtual switches, through at most `hops` evaluations.
+#[derive(Drop)]
+pub struct HopTable {
+    alloc: Global,
+    topology: Topology,
+    /// How many levels the rules of each virtual switch have.
+    sizes: List<u64>,
+    hops: u32,
+    /// Of which virtual switches the rules stand for all ports at once.
+    whole: List<bool>,
+    parts: Parts,
+    /// Want of memory stopped a change halfway.
+    is_lost: bool,
+}
+
+impl Model for HopTable {
+    ghost use Rattle.std.specs.Prelude.{◌≡◌, false};
+    ghost use Rattle.hop_rules.specs.Kept.{IsKept, rules_of};
+    ghost use Rattle.hop_rules.specs.Tables.{TableOf};
+
+    ghost Value = { TableOf };
+
+    ghost view = { λ t. record { plan = t.topology; sizes = t.sizes; hops = t.hops; whole = t.whole; rules = rules_of t.parts.given; lost = t.is_lost } };
+
+    ghost invariant = { λ t. t.is_lost ≡ false → IsKept (record { plan = t.topology; sizes = t.sizes; hops = t.hops; whole = t.whole; rules = rules_of t.parts.given; lost = t.is_lost }) t.parts };
+}
+
+/// The parts of a table without rules.
+fn parts_of(
+    alloc: Global,
+    topology: &Topology,
+    sizes: &[u64],
+    hops: u32,
+    whole: &[bool],
+) -> Result<Parts, Memory> {
+    let ends = ends(alloc, topology)?;
+    let given = none_given(alloc, ends.as_slice(), sizes.len())?;
+    let last = last_nodes(alloc, ends.len())?;
+    let rising = levels_below(alloc, hops, ends.as_slice(), given.as_slice(), sizes)?;
+    let stands = outside_stands(alloc, topology.outside_ports(), whole, &rising.peers)?;
+    let top = level_of(alloc, stands, false)?;
+    Ok(Parts {
+        given,
+        last,
+        levels: rising.levels,
+        top,
+    })
+}
+
+impl HopTable {
+    /// The table of a topology, without rules: the size of each virtual switch is that of its
+    /// expression, and `whole` says of which its rules stand for all ports at once.
+    pub fn new(
+        alloc: Global,
+        topology: Topology,
+        sizes: List<u64>,
+        hops: u32,
+        whole: List<bool>,
+    ) -> Result<HopTable, Memory>
+        requires hop { 0 < hops }
+        requires sizes { length sizes ≡ length topology.virtuals }
+        requires whole { length whole ≡ length topology.virtuals }
+        requires fits { (v : ℕ) → hop_size (fabric (record { plan = topology; sizes = sizes; hops = hops; whole = whole; rules = []; lost = false })) hops v < 2 ^ 64 }
+        ensures { IfOk result (λ t. t ≡ record { plan = topology; sizes = sizes; hops = hops; whole = whole; rules = map (λ v. []) sizes; lost = false }) }
+    {
+        let parts = parts_of(alloc, &topology, sizes.as_slice(), hops, whole.as_slice())?;
+        Ok(HopTable {
+            alloc,
+            topology,
+            sizes,
+            hops,
+            whole,
+            parts,
+            is_lost: false,
+        })
+    }
+
+    /// Whether want of memory stopped a change halfway: then the table is to be made anew.
+    pub fn is_lost(&self) -> bool
+        ensures { result ≡ self.now.lost }
+    {
+        self.is_lost
+    }
+
+    /// The rules of an outside port of a virtual switch that isn't whole, in no order that counts.
+    pub fn rules(&self, v: u32, port: u16) -> Result<List<Rule>, Memory>
+        requires lost { self.now.lost ≡ false }
+        ensures { Contains (own_ports self.now) (record { v = v; port = port })
+            → IfOk result (IsPermutation (port_rules self.now (record { v = v; port = port }))) }
+    {
+        rules_at(self.alloc, &self.parts.top, Place { v, port })
+    }
+
+    /// The rules of a virtual switch that isn't whole change, and those of the ports with them.
+    fn change<G: Ledger>(
+        &mut self,
+        v: u32,
+        delta: &RuleDelta,
+        steps: &mut Steps<G>,
+    ) -> Result<List<PortDelta>, Memory> {
+        self.is_lost = true;
+        let tolds = self.parts.change(self.alloc, v, delta, steps)?;
+        let deltas = port_deltas(self.alloc, &self.parts.top, tolds)?;
+        self.is_lost = false;
+        Ok(deltas)
+    }
+
+    /// The rules of a virtual switch change, and those of the ports with them; those of a whole one are
+    /// handed on, with port 0. Want of memory leaves a table that is lost, but where it is whole.
+    pub fn apply<G: Ledger>(
+        &mut self,
+        v: u32,
+        delta: &RuleDelta,
+        steps: &mut Steps<G>,
+    ) -> Result<List<PortDelta>, Memory>
+    {
+        if self.whole.as_slice()[v as usize] {
+            return whole_delta(self.alloc, v, delta);
+        }
+        self.change(v, delta, steps)
+    }
+}
+
+impl Duplicate for HopTable {
+    fn copy(&self) -> Result<HopTable, Memory> {
+        Ok(HopTable {
+            alloc: self.alloc,
+            topology: self.topology.copy()?,
+            sizes: self.sizes.copied()?,
+            hops: self.hops,
+            whole: self.whole.copied()?,
+            parts: self.parts.copy()?,
+            is_lost: self.is_lost,
+        })
+    }
+}

@@ -1,0 +1,121 @@
+//! What is told of the nodes of outside ports.
+use crate::delta::PortDelta;
+use crate::level::{Level, Stand, Told};
+use crate::node::{Node, Turn};
+use cv_io::{Duplicate, List, Memory};
+use made_rules::Made;
+use op_compose::RuleDelta;
+use policy_meaning::{Place, Rule};
+use std::alloc::Global;
+
+/// Appends the rule of an id, if there is one.
+fn add_rule_at(rules: &mut List<Rule>, node: &Node, id: usize) -> Result<(), Memory> {
+    match node.rule(id) {
+        Some(rule) => rules.push(rule.copy()?),
+        None => Ok(()),
+    }
+}
+
+/// The rules of these ids.
+fn rules_under(alloc: Global, node: &Node, ids: &[usize]) -> Result<List<Rule>, Memory> {
+    let mut rules = List::with_capacity(alloc, ids.len())?;
+    for id in ids {
+        add_rule_at(&mut rules, node, *id)?;
+    }
+    Ok(rules)
+}
+
+/// The rules of a node.
+fn rules_of(alloc: Global, node: &Node) -> Result<List<Rule>, Memory> {
+    let ids = node.ids()?;
+    rules_under(alloc, node, &ids)
+}
+
+/// The place among these of a port, if it is one of them.
+fn place_of(stands: &[Stand], at: Place) -> Option<usize> {
+    for (place, stand) in stands.iter().enumerate() {
+        if stand.at == at {
+            return Some(place);
+        }
+    }
+    None
+}
+
+/// The rules of a port of a level, none where it is no port of it.
+pub(crate) fn rules_at(alloc: Global, level: &Level, at: Place) -> Result<List<Rule>, Memory> {
+    match place_of(level.stands.as_slice(), at) {
+        Some(place) => rules_of(alloc, &level.nodes.as_slice()[place]),
+        None => Ok(List::new(alloc)),
+    }
+}
+
+/// Made rules alone.
+fn rules_alone(alloc: Global, left: List<Made>) -> Result<List<Rule>, Memory> {
+    let mut rules = List::with_capacity(alloc, left.len())?;
+    for made in left.into_vec() {
+        rules.push(made.rule)?;
+    }
+    Ok(rules)
+}
+
+/// What changed at a port.
+fn port_delta(alloc: Global, at: Place, node: &Node, told: Told) -> Result<PortDelta, Memory> {
+    let come = rules_under(alloc, node, told.turn.come.as_slice())?;
+    Ok(PortDelta {
+        v: at.v,
+        port: at.port,
+        gone: rules_alone(alloc, told.left)?,
+        come,
+    })
+}
+
+/// Whether nothing went and nothing came.
+fn is_none(turn: &Turn) -> bool {
+    turn.gone.is_empty() && turn.come.is_empty()
+}
+
+/// Appends what changed at a port, if something did.
+fn add_delta(
+    alloc: Global,
+    deltas: &mut List<PortDelta>,
+    at: Place,
+    node: &Node,
+    told: Told,
+) -> Result<(), Memory> {
+    if is_none(&told.turn) {
+        return Ok(());
+    }
+    deltas.push(port_delta(alloc, at, node, told)?)
+}
+
+/// What changed at the ports of a level at which something did.
+pub(crate) fn port_deltas(
+    alloc: Global,
+    level: &Level,
+    tolds: List<Told>,
+) -> Result<List<PortDelta>, Memory> {
+    let mut deltas = List::new(alloc);
+    let mut place = 0;
+    for told in tolds.into_vec() {
+        let at = level.stands.as_slice()[place].at;
+        add_delta(alloc, &mut deltas, at, &level.nodes.as_slice()[place], told)?;
+        place += 1;
+    }
+    Ok(deltas)
+}
+
+/// The change of the rules of a whole virtual switch, handed on.
+pub(crate) fn whole_delta(
+    alloc: Global,
+    v: u32,
+    delta: &RuleDelta,
+) -> Result<List<PortDelta>, Memory> {
+    let mut deltas = List::new(alloc);
+    deltas.push(PortDelta {
+        v,
+        port: 0,
+        gone: delta.gone.copy()?,
+        come: delta.come.copy()?,
+    })?;
+    Ok(deltas)
+}
