@@ -23,6 +23,7 @@ rules_of gs = map (λ (g : GivenOf). map item_of g.rules) gs
 pub record IsKept (t : TableOf) (p : Parts) : Type 0 where
   pub rules : t.rules ≡ rules_of p.given
   pub sizes : length t.sizes ≡ length p.given
+  pub whole : length t.whole ≡ length p.given
   pub given : IsGiven (fabric t) (ends t.plan) p.given
   pub rising : (v : ℕ) → Rises (given_at p.given v).rules
   pub listed : (v : ℕ) → AreListed (given_at p.given v) (given_at p.given v).rules

@@ -1,5 +1,5 @@
 -- The nodes of ports for one number of hops after the other, and how they change.
-use Rattle.std.specs.Prelude.{◌≡◌, ℕ, true, ◌+◌, ◌<◌, ◌==◌, List, [], ◌∷◌, IsPermutation, if◌then◌else◌, length}
+use Rattle.std.specs.Prelude.{◌≡◌, ℕ, true, false, ◌+◌, ◌<◌, ◌==◌, List, [], ◌∷◌, IsPermutation, if◌then◌else◌, length}
 use Rattle.std.specs.Prelude.{map, slice_index_or, suc}
 use Rattle.std.specs.List.{AllByRecursion}
 use Rattle.policy_meaning.specs.Hops.{Fabric, hop_size, node, peers_size}
@@ -26,6 +26,9 @@ none_given = record { exits = []; rules = []; items = [] }
 
 abbrev pub no_stand : Stand
 no_stand = record { at = no_place; size = 0 }
+
+abbrev pub no_node : NodeOf
+no_node = record { held = []; read = false }
 
 abbrev pub nothing_told : Told
 nothing_told = record { turn = no_turn; left = [] }

@@ -9,3 +9,6 @@ pub mod Levels
 pub mod Tables
 pub mod Counts
 pub mod Kept
+pub mod Building
+pub mod Telling
+pub mod Climbing

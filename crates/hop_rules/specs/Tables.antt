@@ -82,3 +82,8 @@ pub record MayCome (t : TableOf) (v : ℕ) (r : Rule) : Type 0 where
 -- the rules that come to each virtual switch, where these come to one
 abbrev pub coming : ℕ → List Rule → ℕ → List Rule
 coming v come u = if u == v then come else []
+
+-- a table without rules
+abbrev pub empty_table : TopologyPlan → List ℕ → ℕ → List Bool → TableOf
+empty_table plan sizes hops whole =
+    record { plan = plan; sizes = sizes; hops = hops; whole = whole; rules = []; lost = false }

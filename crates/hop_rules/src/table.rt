@@ -7,8 +7,9 @@ ghost use Rattle.policy_meaning.specs.declared.network.Place.{Place};
 ghost use Rattle.policy_meaning.specs.declared.rule.Rule.{Rule};
 ghost use Rattle.hop_rules.specs.Counts.{AreCounted};
 ghost use Rattle.hop_rules.specs.Links.{ends as ends_of};
-ghost use Rattle.hop_rules.specs.Tables.{AreDeltas, AreOfPorts, IsHanded, MayCome, TableOf, coming, fabric, is_whole, own_ports};
-ghost use Rattle.hop_rules.specs.Tables.{port_rules, rules_at as rules_held};
+ghost use Rattle.hop_rules.specs.Kept.{IsKept, rules_of, with_rules};
+ghost use Rattle.hop_rules.specs.Tables.{AreDeltas, AreOfPorts, IsHanded, MayCome, coming, empty_table, fabric, is_whole};
+ghost use Rattle.hop_rules.specs.Tables.{own_ports, port_rules, rules_at as rules_held};
 
 use crate::building::{last_nodes, level_of, levels_below, none_given, outside_stands};
 use crate::delta::PortDelta;
@@ -57,12 +58,19 @@ fn parts_of(
     sizes: &[u64],
     hops: u32,
     whole: &[bool],
-) -> Result<Parts, Memory> {
+) -> Result<Parts, Memory>
+    requires hop { 0 < hops }
+    requires sizes { length sizes.now ≡ length topology.now.virtuals }
+    requires whole { length whole.now ≡ length topology.now.virtuals }
+    requires fits { (v : ℕ) → hop_size (fabric (empty_table topology.now sizes.now hops whole.now)) hops v < 2 ^ 64 }
+    ensures kept { IfOk result (λ parts. IsKept (with_rules (empty_table topology.now sizes.now hops whole.now) parts.given) parts) }
+    ensures empty { IfOk result (λ parts. rules_of parts.given ≡ map (λ v. []) sizes.now) }
+{
     let ends = ends(alloc, topology)?;
     let given = none_given(alloc, ends.as_slice(), sizes.len())?;
-    let last = last_nodes(alloc, ends.len())?;
+    let last = last_nodes(alloc, ends.as_slice())?;
     let rising = levels_below(alloc, hops, ends.as_slice(), given.as_slice(), sizes)?;
-    let stands = outside_stands(alloc, topology.outside_ports(), whole, &rising.peers)?;
+    let stands = outside_stands(alloc, topology.outside_ports(), whole, rising.peers.as_slice())?;
     let top = level_of(alloc, stands, false)?;
     Ok(Parts {
         given,
@@ -85,8 +93,8 @@ impl HopTable {
         requires hop { 0 < hops }
         requires sizes { length sizes ≡ length topology.virtuals }
         requires whole { length whole ≡ length topology.virtuals }
-        requires fits { (v : ℕ) → hop_size (fabric (record { plan = topology; sizes = sizes; hops = hops; whole = whole; rules = []; lost = false })) hops v < 2 ^ 64 }
-        ensures { IfOk result (λ t. t ≡ record { plan = topology; sizes = sizes; hops = hops; whole = whole; rules = map (λ v. []) sizes; lost = false }) }
+        requires fits { (v : ℕ) → hop_size (fabric (empty_table topology sizes hops whole)) hops v < 2 ^ 64 }
+        ensures { IfOk result (λ t. t ≡ record (empty_table topology sizes hops whole) { rules = map (λ v. []) sizes }) }
     {
         let parts = parts_of(alloc, &topology, sizes.as_slice(), hops, whole.as_slice())?;
         Ok(HopTable {
@@ -122,7 +130,17 @@ impl HopTable {
         v: u32,
         delta: &RuleDelta,
         steps: &mut Steps<G>,
-    ) -> Result<List<PortDelta>, Memory> {
+    ) -> Result<List<PortDelta>, Memory>
+        requires lost { self.old.lost ≡ false }
+        requires there { v < length self.old.sizes }
+        requires come { AllByRecursion (MayCome self.old v) delta.now.come }
+        ensures handed { OnOk result (IsHanded self.old self.new v delta.now.gone delta.now.come) }
+        ensures ports { IfOk result (AreDeltas self.old self.new) }
+        ensures others { IfOk result (AreOfPorts self.old) }
+        ensures steps { OnOk result (AreCounted (fabric self.old) (fabric self.new) (ends_of self.old.plan)
+            (coming v delta.now.come) (own_ports self.old) 0 self.old.hops steps.old steps.new) }
+        ensures memory { OnErr result (self.new.lost ≡ true) }
+    {
         self.is_lost = true;
         let tolds = self.parts.change(self.alloc, v, delta, steps)?;
         let deltas = port_deltas(self.alloc, &self.parts.top, tolds)?;
@@ -138,6 +156,22 @@ impl HopTable {
         delta: &RuleDelta,
         steps: &mut Steps<G>,
     ) -> Result<List<PortDelta>, Memory>
+        requires lost { self.old.lost ≡ false }
+        requires there { v < length self.old.sizes }
+        requires gone { is_whole self.old v ≡ false
+            → (kept : List Rule) × IsPermutation (rules_held self.old v) (delta.now.gone ++ kept) }
+        requires come { is_whole self.old v ≡ false → AllByRecursion (MayCome self.old v) delta.now.come }
+        ensures whole { is_whole self.old v ≡ true → IfOk result (λ deltas. deltas
+            ≡ record { v = v; port = 0; gone = delta.now.gone; come = delta.now.come } ∷ []) }
+        ensures unmoved { is_whole self.old v ≡ true → self.new ≡ self.old }
+        ensures handed { is_whole self.old v ≡ false
+            → OnOk result (IsHanded self.old self.new v delta.now.gone delta.now.come) }
+        ensures ports { is_whole self.old v ≡ false → IfOk result (AreDeltas self.old self.new) }
+        ensures others { is_whole self.old v ≡ false → IfOk result (AreOfPorts self.old) }
+        ensures steps { is_whole self.old v ≡ false → OnOk result (AreCounted (fabric self.old) (fabric self.new)
+            (ends_of self.old.plan) (coming v delta.now.come) (own_ports self.old) 0 self.old.hops steps.old steps.new) }
+        ensures still { is_whole self.old v ≡ true → steps.new ≡ steps.old }
+        ensures memory { is_whole self.old v ≡ false → OnErr result (self.new.lost ≡ true) }
     {
         if self.whole.as_slice()[v as usize] {
             return whole_delta(self.alloc, v, delta);

@@ -1,4 +1,14 @@
 //! What is told of the nodes of outside ports.
+ghost use Rattle.std.specs.Prelude.{◌≡◌, ◌<◌, ◌++◌, ◌∷◌, [], Contains, IfNone, IfOk, IfSome, List, OnOk, length, map};
+ghost use Rattle.rule_ancestry.specs.Holding.{item_of};
+ghost use Rattle.made_rules.specs.Rules.{rule_of, rules_in};
+ghost use Rattle.hop_rules.specs.Levels.{stand_at};
+ghost use Rattle.hop_rules.specs.Nodes.{held_at};
+ghost use Rattle.hop_rules.specs.Telling.{IsOfPort, delta_if, delta_of, deltas_from, is_still, rules_held};
+ghost use Rattle.hop_rules.specs.Telling.{rules_under as rules_under_of};
+ghost use Rattle.hop_rules.specs.Under.{held_under};
+ghost use Rattle.hop_rules.specs.declared.level.Stand.{Stand};
+
 use crate::delta::PortDelta;
 use crate::level::{Level, Stand, Told};
 use crate::node::{Node, Turn};
@@ -9,7 +19,9 @@ use policy_meaning::{Place, Rule};
 use std::alloc::Global;
 
 /// Appends the rule of an id, if there is one.
-fn add_rule_at(rules: &mut List<Rule>, node: &Node, id: usize) -> Result<(), Memory> {
+fn add_rule_at(rules: &mut List<Rule>, node: &Node, id: usize) -> Result<(), Memory>
+    ensures { OnOk result (rules.new ≡ rules.old ++ map item_of (held_under (rules_in node.now.held) id)) }
+{
     match node.rule(id) {
         Some(rule) => rules.push(rule.copy()?),
         None => Ok(()),
@@ -17,7 +29,9 @@ fn add_rule_at(rules: &mut List<Rule>, node: &Node, id: usize) -> Result<(), Mem
 }
 
 /// The rules of these ids.
-fn rules_under(alloc: Global, node: &Node, ids: &[usize]) -> Result<List<Rule>, Memory> {
+fn rules_under(alloc: Global, node: &Node, ids: &[usize]) -> Result<List<Rule>, Memory>
+    ensures { IfOk result (λ rules. rules ≡ rules_under_of node.now.held ids.now) }
+{
     let mut rules = List::with_capacity(alloc, ids.len())?;
     for id in ids {
         add_rule_at(&mut rules, node, *id)?;
@@ -26,13 +40,19 @@ fn rules_under(alloc: Global, node: &Node, ids: &[usize]) -> Result<List<Rule>, 
 }
 
 /// The rules of a node.
-fn rules_of(alloc: Global, node: &Node) -> Result<List<Rule>, Memory> {
+fn rules_of(alloc: Global, node: &Node) -> Result<List<Rule>, Memory>
+    ensures { IfOk result (λ rules. rules ≡ rules_held node.now.held) }
+{
     let ids = node.ids()?;
     rules_under(alloc, node, &ids)
 }
 
 /// The place among these of a port, if it is one of them.
-fn place_of(stands: &[Stand], at: Place) -> Option<usize> {
+fn place_of(stands: &[Stand], at: Place) -> Option<usize>
+    ensures there { IfSome result (λ place. place < length stands.now) }
+    ensures found { IfSome result (λ place. (stand_at stands.now place).at ≡ at) }
+    ensures none { IfNone result (Contains (map (λ (s : Stand). s.at) stands.now) at → ⊥) }
+{
     for (place, stand) in stands.iter().enumerate() {
         if stand.at == at {
             return Some(place);
@@ -42,7 +62,10 @@ fn place_of(stands: &[Stand], at: Place) -> Option<usize> {
 }
 
 /// The rules of a port of a level, none where it is no port of it.
-pub(crate) fn rules_at(alloc: Global, level: &Level, at: Place) -> Result<List<Rule>, Memory> {
+pub(crate) fn rules_at(alloc: Global, level: &Level, at: Place) -> Result<List<Rule>, Memory>
+    requires { length level.now.nodes ≡ length level.now.stands }
+    ensures { Contains (map (λ (s : Stand). s.at) level.now.stands) at → IfOk result (IsOfPort level.now at) }
+{
     match place_of(level.stands.as_slice(), at) {
         Some(place) => rules_of(alloc, &level.nodes.as_slice()[place]),
         None => Ok(List::new(alloc)),
@@ -50,7 +73,9 @@ pub(crate) fn rules_at(alloc: Global, level: &Level, at: Place) -> Result<List<R
 }
 
 /// Made rules alone.
-fn rules_alone(alloc: Global, left: List<Made>) -> Result<List<Rule>, Memory> {
+fn rules_alone(alloc: Global, left: List<Made>) -> Result<List<Rule>, Memory>
+    ensures { IfOk result (λ rules. rules ≡ map rule_of left) }
+{
     let mut rules = List::with_capacity(alloc, left.len())?;
     for made in left.into_vec() {
         rules.push(made.rule)?;
@@ -59,7 +84,9 @@ fn rules_alone(alloc: Global, left: List<Made>) -> Result<List<Rule>, Memory> {
 }
 
 /// What changed at a port.
-fn port_delta(alloc: Global, at: Place, node: &Node, told: Told) -> Result<PortDelta, Memory> {
+fn port_delta(alloc: Global, at: Place, node: &Node, told: Told) -> Result<PortDelta, Memory>
+    ensures { IfOk result (λ delta. delta ≡ delta_of at node.now.held told) }
+{
     let come = rules_under(alloc, node, told.turn.come.as_slice())?;
     Ok(PortDelta {
         v: at.v,
@@ -70,7 +97,9 @@ fn port_delta(alloc: Global, at: Place, node: &Node, told: Told) -> Result<PortD
 }
 
 /// Whether nothing went and nothing came.
-fn is_none(turn: &Turn) -> bool {
+fn is_none(turn: &Turn) -> bool
+    ensures { result ≡ is_still turn.now }
+{
     turn.gone.is_empty() && turn.come.is_empty()
 }
 
@@ -81,7 +110,9 @@ fn add_delta(
     at: Place,
     node: &Node,
     told: Told,
-) -> Result<(), Memory> {
+) -> Result<(), Memory>
+    ensures { OnOk result (deltas.new ≡ deltas.old ++ delta_if at node.now.held told) }
+{
     if is_none(&told.turn) {
         return Ok(());
     }
@@ -93,7 +124,11 @@ pub(crate) fn port_deltas(
     alloc: Global,
     level: &Level,
     tolds: List<Told>,
-) -> Result<List<PortDelta>, Memory> {
+) -> Result<List<PortDelta>, Memory>
+    requires nodes { length level.now.nodes ≡ length level.now.stands }
+    requires tolds { length tolds ≡ length level.now.stands }
+    ensures { IfOk result (λ deltas. deltas ≡ deltas_from level.now.stands level.now.nodes 0 tolds) }
+{
     let mut deltas = List::new(alloc);
     let mut place = 0;
     for told in tolds.into_vec() {
@@ -109,7 +144,9 @@ pub(crate) fn whole_delta(
     alloc: Global,
     v: u32,
     delta: &RuleDelta,
-) -> Result<List<PortDelta>, Memory> {
+) -> Result<List<PortDelta>, Memory>
+    ensures { IfOk result (λ deltas. deltas ≡ record { v = v; port = 0; gone = delta.now.gone; come = delta.now.come } ∷ []) }
+{
     let mut deltas = List::new(alloc);
     deltas.push(PortDelta {
         v,
