@@ -57,7 +57,7 @@ still-told held up = record {
   rising = up;
   risen = up;
   left_are = refl;
-  apart = λ x a b. absurd (let h = a.1.0 in omega arith);
+  apart = λ x a b. absurd (let h = a.1 in omega arith);
 }
 
 -- the rules that came to the nodes where links lead

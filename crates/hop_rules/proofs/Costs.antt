@@ -126,7 +126,7 @@ module _ (f : Fabric) (es : List LinkEnd) (gs : List GivenOf) (g : IsGiven f es 
       let come = (turn_at e v).come in
       let a = left-steps f n s.at E below (nodes-at f es gs g n below row v lt) (under (given_at gs v).rules come) in
       let b = right-steps f n s.at E below turns (given_at gs v) come (g.rules v) in
-      subst (λ (xs : List Exit). node_cost gs below e turns s ≤ node_steps f n xs s.at (came_to gs e v) came_below) (g.exits v lt) (omega arith)
+      subst (λ (xs : List Exit). node_cost gs below e turns s ≤ node_steps f n xs s.at (came_to gs e v) came_below) (g.exits_are v lt) (omega arith)
 
   each-steps : (stands : List Stand) → AllByRecursion (λ (s : Stand). s.at.v < length gs) stands → AllByRecursion (λ (s : Stand). node_cost gs below e turns s ≤ node_steps f n (exits es s.at.v) s.at (came_to gs e s.at.v) came_below) stands
   each-steps [] a = tt

@@ -148,8 +148,8 @@ module _ (t u : TableOf) (stands : List Stand) (before after : List NodeOf) (tol
   number-of : (p : Place) → Contains (own_ports t) p → (k : ℕ) × ((k < length stands) × ((stand_at stands k).at ≡ p))
   number-of p c =
       let d = subst (λ (ps : List Place). Contains ps p) (sym ports) c in
-      let lt : d.0 < length stands = let h = length-map stands (λ (s : Stand). s.at) in let x = d.1.0 in omega arith in
-      (d.0, (lt, sym (map-at (λ (s : Stand). s.at) no_stand stands d.0) ∙ get_or_default (map (λ (s : Stand). s.at) stands) d.0 no_place p d.1.0 ∙ d.1.1))
+      let lt : d.0 < length stands = let h = length-map stands (λ (s : Stand). s.at) in let x = d.1 in omega arith in
+      (d.0, (lt, sym (map-at (λ (s : Stand). s.at) no_stand stands d.0) ∙ get_or_default (map (λ (s : Stand). s.at) stands) d.0 no_place p d.1 ∙ d.2))
 
   of-port : (p : Place) → Contains (own_ports t) p → (o : Option PortDelta) → find (is_of p) deltas ≡ o →
       ChangesBy (port_rules t p) (port_rules u p) (option_map_or (λ (d : PortDelta). d.gone) o []) (option_map_or (λ (d : PortDelta). d.come) o [])

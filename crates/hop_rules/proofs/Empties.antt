@@ -56,11 +56,11 @@ module _ (n : ℕ) where
 
   looked-up : (p : Spot → Bool) (js : List Joint) → AllByRecursion (λ (j : Joint). j.1.0 < n) js → (s : Spot) → lookup p js ≡ Some s → s.0 < n
   looked-up p [] a s e = absurd (cc)
-  looked-up p (j ∷ js) a s e = by (p j.0) e
+  looked-up p (j ∷ js) a s e = by (p j.0) e (looked-up p js a.1 s)
     where
-      by : (t : Bool) → cond t (Some j.1) (lookup p js) ≡ Some s → s.0 < n
-      by true e = let h : j.1 ≡ s = cc in subst (λ (x : Spot). x.0 < n) h a.0
-      by false e = looked-up p js a.1 s e
+      by : (t : Bool) → cond t (Some j.1) (lookup p js) ≡ Some s → (lookup p js ≡ Some s → s.0 < n) → s.0 < n
+      by true e rest = let h : j.1 ≡ s = cc in subst (λ (x : Spot). x.0 < n) h a.0
+      by false e rest = rest e
 
 module _ (plan : TopologyPlan) where
   abbrev IsIn : LinkEnd → Type 0
@@ -111,13 +111,13 @@ module _ (f : Fabric) where
 
   pub fits-below : (hops : ℕ) → ((v : ℕ) → hop_size f hops v < 2 ^ 64) → (n v : ℕ) → n ≤ hops → hop_size f n v < 2 ^ 64
   fits-below zero h n v le = subst (λ (k : ℕ). hop_size f k v < 2 ^ 64) (let e : zero ≡ n = omega arith in e) (h v)
-  fits-below (suc hops) h n v le = by (cases_eq n (suc hops))
+  fits-below (suc hops) h n v le = by (cases_eq n (suc hops)) (fits-below hops less n v)
     where
       less : (u : ℕ) → hop_size f hops u < 2 ^ 64
       less u = let a = grows hops u in let b = h u in omega arith
-      by : (n ≡ suc hops) ⊎ (n ≡ suc hops → ⊥) → hop_size f n v < 2 ^ 64
-      by (inl e) = subst (λ (k : ℕ). hop_size f k v < 2 ^ 64) (sym e) (h v)
-      by (inr d) = fits-below hops less n v (omega arith)
+      by : (n ≡ suc hops) ⊎ (n ≡ suc hops → ⊥) → (n ≤ hops → hop_size f n v < 2 ^ 64) → hop_size f n v < 2 ^ 64
+      by (inl e) rest = subst (λ (k : ℕ). hop_size f k v < 2 ^ 64) (sym e) (h v)
+      by (inr d) rest = rest (omega arith)
 
 -- ---- nodes without rules
 empty-held : (read : Bool) (ns : List NodeOf) → AllByRecursion (IsEmptyNode read) ns → (k : ℕ) → held_at ns k ≡ []
@@ -160,8 +160,7 @@ module _ (gs : List GivenOf) (none : (v : ℕ) → (given_at gs v).rules ≡ [])
       ((k : ℕ) → k < length levels → IsEmptyLevel f es (n + k) (get_or levels k no_level)) → ((below : List NodeOf) → IsMade f (n + length levels) gs below top) → AreMade f es n gs below levels top
   empty-levels f es peers [] n below top each at-top = subst (λ (m : ℕ). IsMade f m gs below top) (let h : n + 0 ≡ n = omega arith in h) (at-top below)
   empty-levels f es peers (l ∷ levels) n below top each at-top =
-      let one = subst (λ (m : ℕ). IsEmptyLevel f es m l) (let h : n + 0 ≡ n = omega arith in h) (each 0 (omega arith)) in
-      (
+      let one = subst (λ (m : ℕ). IsEmptyLevel f es m l) (let h : n + 0 ≡ n = omega arith in h) (each 0 (omega arith)) in (
         (empty-made f n below l true one.count (there-of es l.stands one.ports peers) one.sizes one.empty, record { peers = one.ports; read = empty-read l.nodes one.empty }),
         empty-levels f es peers levels (suc n) l.nodes top
             (λ k lt. subst (λ (m : ℕ). IsEmptyLevel f es m (get_or levels k no_level)) (let h : n + suc k ≡ suc n + k = omega arith in h) (each (suc k) (omega arith)))
@@ -264,7 +263,7 @@ module _ (plan : TopologyPlan) (sizes : List ℕ) (hops : ℕ) (whole : List Boo
   pub is-fabric : IsFabric (fabric t) (ends plan) gs sizes
   is-fabric = record {
     count = sym count;
-    sizes = λ v. refl;
+    own_sizes = λ v. refl;
     links = λ v lt. ap (λ (g : GivenOf). map exit_link g.exits) (each v lt) ∙ exits-linked plan v;
     none = λ v le. none-past plan v (let h = count ∙ virtuals in omega arith);
     peers = ends-there;
@@ -272,7 +271,7 @@ module _ (plan : TopologyPlan) (sizes : List ℕ) (hops : ℕ) (whole : List Boo
 
   is-given : IsGiven (fabric t) (ends plan) gs
   is-given = record {
-    exits = λ v lt. ap (λ (g : GivenOf). g.exits) (each v lt);
+    exits_are = λ v lt. ap (λ (g : GivenOf). g.exits) (each v lt);
     links = exits-linked plan;
     rules = λ v. by-equation _ _ (sym (map-at (λ (g : GivenOf). map item_of g.rules) none_given gs v));
     own = λ v. subst (AllByRecursion _) (sym (map-at (λ (g : GivenOf). map item_of g.rules) none_given gs v ∙ ap (map item_of) (no-rules (ends plan) gs each v))) tt;

@@ -173,7 +173,7 @@ module _ (t : TableOf) (old : Parts) (k : IsKept t old) (v : ℕ) (gone come : L
 
   given-new : IsGiven (fabric t') (ends t.plan) new
   given-new = record {
-    exits = λ u lt. h.event.exits u ∙ k.given.exits u (let c = h.event.count in omega arith);
+    exits_are = λ u lt. h.event.exits u ∙ k.given.exits_are u (let c = h.event.count in omega arith);
     links = k.given.links;
     rules = λ u. by-equation _ _ (sym (rules-new u));
     own = λ u. own-by u (u == v) refl;
@@ -219,7 +219,7 @@ module _ (t : TableOf) (old : Parts) (k : IsKept t old) (v : ℕ) (gone come : L
             sizes = k.sizes ∙ sym all;
             whole = k.whole ∙ sym all;
             given = record {
-              exits = λ u lt. exits u ∙ given-new.exits u (let x = count in omega arith);
+              exits_are = λ u lt. exits u ∙ given-new.exits_are u (let x = count in omega arith);
               links = k.given.links;
               rules = λ u. by-equation _ _ (sym (map-at (λ (g : GivenOf). map item_of g.rules) none_given final u));
               own = λ u. own-by u (u == v) refl;

@@ -34,3 +34,4 @@ pub mod Deltas
 pub mod Keeping
 pub mod Levelling
 pub mod Empties
+pub mod Risings

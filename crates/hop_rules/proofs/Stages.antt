@@ -35,13 +35,13 @@ same-peers f rules n v = ap (λ (w : ℕ → ℕ). peers_size w (f.links v)) (λ
 
 module _ (f : Fabric) (es : List LinkEnd) (gs : List GivenOf) (g : IsGiven f es gs) where
   pub links-at : (v : ℕ) → v < length gs → map exit_link (given_at gs v).exits ≡ f.links v
-  links-at v lt = ap (map exit_link) (g.exits v lt) ∙ g.links v
+  links-at v lt = ap (map exit_link) (g.exits_are v lt) ∙ g.links v
 
   pub once-at : (v : ℕ) → v < length gs → Once (map (λ (e : Exit). e.place) (given_at gs v).exits)
-  once-at v lt = subst (λ (xs : List Exit). Once (map (λ (e : Exit). e.place) xs)) (sym (g.exits v lt)) (exits-once es v)
+  once-at v lt = subst (λ (xs : List Exit). Once (map (λ (e : Exit). e.place) xs)) (sym (g.exits_are v lt)) (exits-once es v)
 
   pub there-at : (v : ℕ) → v < length gs → AllByRecursion (IsExitOf es) (given_at gs v).exits
-  there-at v lt = subst (AllByRecursion (IsExitOf es)) (sym (g.exits v lt)) (exits-there es v)
+  there-at v lt = subst (AllByRecursion (IsExitOf es)) (sym (g.exits_are v lt)) (exits-there es v)
 
   module _ (n : ℕ) (below : List NodeOf) (row : IsRow f es n below) where
     of-exit : (e : Exit) → IsExitOf es e → IsOf f n below e

@@ -65,16 +65,16 @@ pub record IsEmptyLevel (f : Fabric) (es : List LinkEnd) (n : ℕ) (l : Level) :
 -- the virtual switches are those of a fabric
 pub record IsFabric (f : Fabric) (es : List LinkEnd) (gs : List GivenOf) (sizes : List ℕ) : Type 0 where
   pub count : length sizes ≡ length gs
-  pub sizes : (v : ℕ) → size_at sizes v ≡ f.sizes v
+  pub own_sizes : (v : ℕ) → size_at sizes v ≡ f.sizes v
   pub links : (v : ℕ) → v < length gs → map exit_link (given_at gs v).exits ≡ f.links v
   pub none : (v : ℕ) → length gs ≤ v → f.links v ≡ []
   pub peers : AllByRecursion (λ (e : LinkEnd). e.peer.v < length gs) es
 
 -- the levels of so many hops are there, without rules, and the sizes at the peers are those for so many
-pub record IsRisen (f : Fabric) (es : List LinkEnd) (count : ℕ) (r : Rising) : Type 0 where
+pub record IsRisen (f : Fabric) (es : List LinkEnd) (many : ℕ) (r : Rising) : Type 0 where
   pub levels : (n : ℕ) → n < length r.levels → IsEmptyLevel f es n (slice_index_or r.levels n no_level)
-  pub count : length r.peers ≡ count
-  pub peers : (v : ℕ) → v < count → size_at r.peers v ≡ peers_size (hop_size f (length r.levels)) (f.links v)
+  pub count : length r.peers ≡ many
+  pub peers : (v : ℕ) → v < many → size_at r.peers v ≡ peers_size (hop_size f (length r.levels)) (f.links v)
 
 -- one level more fits
 pub record CanRise (f : Fabric) (es : List LinkEnd) (gs : List GivenOf) (sizes : List ℕ) (r : Rising) : Type 0 where

@@ -110,7 +110,7 @@ AreMade f es n gs below (l ∷ ls) top = (IsMade f n gs below l × IsBetween es 
 
 -- the rules that were handed over, by virtual switch
 pub record IsGiven (f : Fabric) (es : List LinkEnd) (gs : List GivenOf) : Type 0 where
-  pub exits : (v : ℕ) → v < length gs → (given_at gs v).exits ≡ exits es v
+  pub exits_are : (v : ℕ) → v < length gs → (given_at gs v).exits ≡ exits es v
   pub links : (v : ℕ) → map exit_link (exits es v) ≡ f.links v
   pub rules : (v : ℕ) → IsPermutation (map item_of (given_at gs v).rules) (f.rules v)
   pub own : (v : ℕ) → AllByRecursion (IsOwn (f.sizes v)) (f.rules v)

@@ -1,5 +1,6 @@
 //! The parts of a table without rules.
-ghost use Rattle.std.specs.Prelude.{◌≡◌, ◌+◌, ◌*◌, ◌<◌, ◌≤◌, ◌^◌, ℕ, IfOk, List, OnOk, filter_map, length, map, suc, true};
+ghost use Rattle.std.specs.Prelude.{◌≡◌, ◌+◌, ◌*◌, ◌<◌, ◌≤◌, ◌^◌, ℕ, IfOk, List, OnOk, false, filter_map, length, map, slice_index_or};
+ghost use Rattle.std.specs.Prelude.{suc, true};
 ghost use Rattle.std.specs.List.{AllByRecursion};
 ghost use Rattle.policy_meaning.specs.Hops.{Fabric};
 ghost use Rattle.hop_rules.specs.Building.{CanBuild, CanRise, IsEmptyNode, IsFabric, IsLast, IsRisen, arrival_stand};
@@ -138,11 +139,21 @@ fn arrival_stands(alloc: Global, ends: &[LinkEnd], peers: &[u64]) -> Result<List
     Ok(stands)
 }
 
+/// Whether a virtual switch is whole, and none past the last.
+pub(crate) fn whole_at(whole: &[bool], v: u32) -> bool
+    ensures { result ≡ slice_index_or whole.now v false }
+{
+    match whole.get(v as usize) {
+        Some(is_whole) => *is_whole,
+        None => false,
+    }
+}
+
 /// An outside port, if its virtual switch isn't whole.
 fn outside_stand(v: u32, port: u16, whole: &[bool], peers: &[u64]) -> Option<Stand>
     ensures { result ≡ outside_stand_of whole.now peers.now v port }
 {
-    if let Some(true) = whole.get(v as usize) {
+    if whole_at(whole, v) {
         return None;
     }
     Some(Stand {
@@ -180,11 +191,7 @@ fn empty_nodes(alloc: Global, stands: &[Stand], is_read: bool) -> Result<List<No
 }
 
 /// The level of these places, without rules.
-pub(crate) fn level_of(
-    alloc: Global,
-    stands: List<Stand>,
-    is_read: bool,
-) -> Result<Level, Memory>
+pub(crate) fn level_of(alloc: Global, stands: List<Stand>, is_read: bool) -> Result<Level, Memory>
     ensures stands { IfOk result (λ level. level.stands ≡ stands) }
     ensures count { IfOk result (λ level. length level.nodes ≡ length stands) }
     ensures nodes { IfOk result (λ level. AllByRecursion (IsEmptyNode is_read) level.nodes) }

@@ -98,18 +98,22 @@ fn climb<G: Ledger>(
                 steps,
             )?;
             let turns = turns_of(alloc, tolds)?;
-            climb(alloc, given, level.nodes.as_slice(), rest, top, event, &turns, steps)
+            climb(
+                alloc,
+                given,
+                level.nodes.as_slice(),
+                rest,
+                top,
+                event,
+                &turns,
+                steps,
+            )
         }
     }
 }
 
 /// The rules of a virtual switch change; those that come aren't listed yet.
-fn hand_over(
-    alloc: Global,
-    given: &mut [Given],
-    v: u32,
-    delta: &RuleDelta,
-) -> Result<Event, Memory>
+fn hand_over(alloc: Global, given: &mut [Given], v: u32, delta: &RuleDelta) -> Result<Event, Memory>
     requires there { v < length given.old }
     requires listed { (u : ℕ) → AreListed (given_at given.old u) (given_at given.old u).rules }
     requires rising { (u : ℕ) → Rises (given_at given.old u).rules }

@@ -1,5 +1,5 @@
 //! The rules of the ports of virtual switches.
-ghost use Rattle.std.specs.Prelude.{◌≡◌, ◌<◌, ◌^◌, ◌++◌, ◌×◌, ◌∷◌, [], Contains, IfOk, IsPermutation, List, OnErr, OnOk, ℕ};
+ghost use Rattle.std.specs.Prelude.{◌≡◌, ◌<◌, ◌^◌, ◌++◌, ◌∷◌, [], Contains, IfOk, IsPermutation, List, OnErr, OnOk, ℕ};
 ghost use Rattle.std.specs.Prelude.{false, length, map, true};
 ghost use Rattle.std.specs.List.{AllByRecursion};
 ghost use Rattle.policy_meaning.specs.Hops.{hop_size};
@@ -11,7 +11,7 @@ ghost use Rattle.hop_rules.specs.Kept.{IsKept, rules_of, with_rules};
 ghost use Rattle.hop_rules.specs.Tables.{AreDeltas, AreOfPorts, IsHanded, MayCome, coming, empty_table, fabric, is_whole};
 ghost use Rattle.hop_rules.specs.Tables.{own_ports, port_rules, rules_at as rules_held};
 
-use crate::building::{last_nodes, level_of, levels_below, none_given, outside_stands};
+use crate::building::{last_nodes, level_of, levels_below, none_given, outside_stands, whole_at};
 use crate::delta::PortDelta;
 use crate::exits::ends;
 use crate::parts::Parts;
@@ -70,7 +70,12 @@ fn parts_of(
     let given = none_given(alloc, ends.as_slice(), sizes.len())?;
     let last = last_nodes(alloc, ends.as_slice())?;
     let rising = levels_below(alloc, hops, ends.as_slice(), given.as_slice(), sizes)?;
-    let stands = outside_stands(alloc, topology.outside_ports(), whole, rising.peers.as_slice())?;
+    let stands = outside_stands(
+        alloc,
+        topology.outside_ports(),
+        whole,
+        rising.peers.as_slice(),
+    )?;
     let top = level_of(alloc, stands, false)?;
     Ok(Parts {
         given,
@@ -173,7 +178,7 @@ impl HopTable {
         ensures still { is_whole self.old v ≡ true → steps.new ≡ steps.old }
         ensures memory { is_whole self.old v ≡ false → OnErr result (self.new.lost ≡ true) }
     {
-        if self.whole.as_slice()[v as usize] {
+        if whole_at(self.whole.as_slice(), v) {
             return whole_delta(self.alloc, v, delta);
         }
         self.change(v, delta, steps)

@@ -113,7 +113,14 @@ fn entry(alloc: Global, kind: u64, from: u16, link: Option<u16>) -> Result<Rule,
     let m = Match::at_port(from);
     match link {
         Some(to) => rule(alloc, m, 4, kind, None, Tail::Link(Rewrite::new(), to)),
-        None => rule(alloc, m, 4, kind, Some(Dest::Port { v: 0, port: 1 }), Tail::Nothing),
+        None => rule(
+            alloc,
+            m,
+            4,
+            kind,
+            Some(Dest::Port { v: 0, port: 1 }),
+            Tail::Nothing,
+        ),
     }
 }
 
@@ -150,7 +157,11 @@ fn greatest(deltas: &List<PortDelta>, v: u32, port: u16) -> Option<u64> {
 
 /// The greatest level at port 1 of the first virtual switch, where what comes back by its link 8 leaves
 /// by port 1 or goes on.
-fn split<G: Ledger>(alloc: Global, back: Option<u16>, steps: &mut Steps<G>) -> Result<Option<u64>, Fail> {
+fn split<G: Ledger>(
+    alloc: Global,
+    back: Option<u16>,
+    steps: &mut Steps<G>,
+) -> Result<Option<u64>, Fail> {
     let sizes = List::from_slice(alloc, &[8, 8])?;
     let whole = List::from_slice(alloc, &[false, false])?;
     let mut table = HopTable::new(alloc, topology(alloc, true)?, sizes, 4, whole)?;
