@@ -235,12 +235,13 @@ module _ (es : List LinkEnd) (gs : List GivenOf) (each : (v : ℕ) → v < lengt
   pub all-listed : (v : ℕ) → AreListed (given_at gs v) (given_at gs v).rules
   all-listed = blank (λ (g : GivenOf). AreListed g g.rules) (λ v. IsPermutation-refl []) (IsPermutation-refl [])
 
-  empty-rises : Rises []
+  blank-rises : (hs : List (Held Rule)) → hs ≡ [] → Rises hs
   unfolding IsStrictlySortedBy
-  empty-rises = tt
+  blank-rises [] e = tt
+  blank-rises (h ∷ hs) e = absurd (cc)
 
   pub all-rise : (v : ℕ) → Rises (given_at gs v).rules
-  all-rise v = subst Rises (sym (no-rules v)) empty-rises
+  all-rise v = blank-rises (given_at gs v).rules (no-rules v)
 
 blanks : (gs : List GivenOf) → ((v : ℕ) → (given_at gs v).rules ≡ []) → (sizes : List ℕ) → length sizes ≡ length gs → rules_of gs ≡ map (λ v. []) sizes
 blanks [] a [] e = refl
