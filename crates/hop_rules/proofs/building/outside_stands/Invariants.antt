@@ -1,7 +1,0 @@
-use Rattle.std.proofs.Common.{◌≡◌, take}
-use Rattle.std.specs.Prelude.{filter_map}
-use Rattle.hop_rules.specs.Building.{joint_stand}
-use Rattle.hop_rules.proofs.building.outside_stands.Given as goal
-
-abbrev pub invariant-loop-v : goal.invariant-loop-v
-invariant-loop-v l = l.stands ≡ filter_map (joint_stand l.whole l.peers) (take l.v-index l.outside)
