@@ -6,17 +6,12 @@ use Rattle.events.specs.declared.event.Event.{Event}
 use Rattle.events.specs.declared.event.Reply.{Reply}
 use Rattle.policy_lock.specs.Seat.{SeatOf}
 use Rattle.policy_lock.specs.declared.machine.Machine.{Ghosts}
-use Rattle.lock_desk.specs.Hosts.{IsOver}
-use Rattle.lock_desk.specs.Passes.{HoldsAfter, IsSince, own_posts}
+use Rattle.lock_desk.specs.Passes.{HasEnded, IsSince, own_posts}
 use Rattle.endpoint_works.specs.Rounds.{RoundPosts, RoundWants}
 use Rattle.endpoint_works.specs.declared.round.RoundEnd.{RoundEnd}
 use Rattle.endpoint_works.specs.declared.side.Side.{Side}
 
 module _ {M S : Type 0} (g : Ghosts M Event Reply S) (side : Side) (wanted : Bool) where
-  -- so many entries of the history, among which are all calls of the seat, are such that the session is over after them
-  abbrev pub WasOver : SeatOf Event Reply S → Session → ℕ → Type 0
-  WasOver seat session at = HoldsAfter g seat.pass at (λ s. IsOver g.reply s session)
-
   -- the seat v, which is w since, posted what is to be posted of one connection, whose source had these bytes to give
   pub record IsRound (bytes : Option (List ℕ)) (reads : Bool) (v w : SeatOf Event Reply S) : Type 0 where
     pub since : IsSince v w
@@ -24,7 +19,7 @@ module _ {M S : Type 0} (g : Ghosts M Event Reply S) (side : Side) (wanted : Boo
     pub faults : ℕ
     pub risen : ℕ
     pub posted :
-        ((end : RoundEnd) × RoundPosts side bytes after (own_posts v.pass) (own_posts w.pass) (WasOver w) faults risen reads end)
+        ((end : RoundEnd) × RoundPosts side bytes after (own_posts v.pass) (own_posts w.pass) (HasEnded g w.pass) faults risen reads end)
         ⊎ ((wanted ≡ true) × RoundWants side bytes after (own_posts v.pass) (own_posts w.pass))
 
   -- the dial, which had these connections to give, gave one, and then has those

@@ -3,3 +3,4 @@ pub mod Rounds
 pub mod Chains
 pub mod Sendings
 pub mod Audits
+pub mod Tasks

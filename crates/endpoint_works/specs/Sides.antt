@@ -1,5 +1,5 @@
 -- Who is at the other end of an endpoint's connections, and how these are opened.
-use Rattle.std.specs.Prelude.{◌≡◌, ◌<◌, ◌^◌, ℕ, Bool, false, List, [], Option, length, ⊤}
+use Rattle.std.specs.Prelude.{◌≡◌, ◌<◌, ◌^◌, ℕ, Bool, true, false, List, [], Option, length, ⊤}
 use Rattle.cv_io.specs.declared.leaf.Who.{Who}
 use Rattle.cv_io.specs.declared.leaf.Who.TheVariants as whos
 use Rattle.sessions.specs.Opening.{IsGreeted, IsKnown, IsNoSwitch, IsNotOpened}
@@ -7,6 +7,12 @@ use Rattle.sessions.specs.declared.ends.Greeted.{Greeted}
 use Rattle.sessions.specs.declared.ends.OpenEnd.{OpenEnd}
 use Rattle.endpoint_works.specs.declared.side.Side.{Side}
 use Rattle.endpoint_works.specs.declared.side.Side.TheVariants as sides
+
+-- who is the audit, which is at no endpoint
+abbrev pub is_audit : Who → Bool
+is_audit (whos.Member n) = false
+is_audit (whos.Switch n) = false
+is_audit whos.Audit = true
 
 -- whoever can come up there is served
 abbrev pub IsServedSide : (Who → Type 0) → Side → Type 0

@@ -1,4 +1,7 @@
 //! How the work that takes connections hands them to the work that writes to them.
+ghost use Rattle.std.specs.Prelude.{◌≡◌, false};
+ghost use Rattle.endpoint_works.specs.Sides.{is_audit};
+
 use cv_io::Session;
 use std::sync::{Condvar, Mutex, Wait};
 
@@ -7,6 +10,7 @@ use std::sync::{Condvar, Mutex, Wait};
 pub struct Hand<K> {
     pub sink: K,
     pub session: Session,
+    ghost of_endpoint: { is_audit session.who ≡ false },
 }
 
 /// What lies between the two works.

@@ -2,6 +2,8 @@
 ghost use Rattle.std.specs.Prelude.{◌≡◌, [], IfSome, List, false, true};
 ghost use Rattle.events.specs.declared.event.Event.{Event};
 ghost use Rattle.events.specs.declared.event.Reply.{Reply};
+ghost use Rattle.hyper_core.specs.Meanings.{StateData};
+ghost use Rattle.hyper_desk.specs.Proxies.{HasOne};
 ghost use Rattle.policy_lock.specs.Seat.{IsSeatOf, SeatOf};
 ghost use Rattle.endpoint_works.specs.Chains.{AreRounds};
 ghost use Rattle.endpoint_works.specs.Sides.{IsServedSide};
@@ -10,7 +12,8 @@ use crate::handover::Handover;
 use crate::round::serve_round;
 use crate::side::Side;
 use cv_io::{Dial, Sink};
-use lock_desk::{Host, LockDesk};
+use hyper_core::Hyper;
+use hyper_desk::LockDesk;
 use policy_lock::{Machine, PolicyLock, Seat};
 use std::alloc::Global;
 use std::snapshot::Snapshot;
@@ -27,11 +30,11 @@ pub struct Received {
 }
 
 /// Serves each connection that a dial gives.
-pub fn receive<R: Wait + Threads + Sync, H: Host, L: Dial>(
+pub fn receive<R: Wait + Threads + Sync, L: Dial>(
     rt: &R,
     alloc: Global,
-    lock: &PolicyLock<H::Machine>,
-    seat: &mut Seat<H::Machine>,
+    lock: &PolicyLock<Hyper>,
+    seat: &mut Seat<Hyper>,
     side: &Side,
     dial: &mut L,
     handover: &Handover<L::Out>,
@@ -40,9 +43,9 @@ where
     L::In: Drop,
     L::Out: Drop,
     requires seat { IsSeatOf lock.now seat.old }
-    requires side { IsServedSide (H.knows lock.now.start) side.now }
+    requires side { IsServedSide (HasOne lock.now.start) side.now }
     ensures seat { IsSeatOf lock.now seat.new }
-    ensures rounds { (seats : List (SeatOf Event Reply H.Machine.State)) × AreRounds ⟦<H::Machine as Machine>⟧ side.now
+    ensures rounds { (seats : List (SeatOf Event Reply StateData)) × AreRounds ⟦<Hyper as Machine>⟧ side.now
         result.wanted (L.left dial.old) (L.left dial.new) seat.old seat.new seats }
     ensures all { result.failed ≡ false → IfSome (L.left dial.new) (λ links. links ≡ []) }
     ensures dials { L.is_reliable dial.old ≡ true → result.failed ≡ false }
@@ -51,7 +54,7 @@ where
     for _ in rt.forever() {
         match dial.next() {
             Ok(Some((mut source, sink))) => {
-                let desk: LockDesk<'_, H, R> = LockDesk {
+                let desk: LockDesk<'_, R> = LockDesk {
                     rt,
                     lock,
                     since: Snapshot::of(seat),

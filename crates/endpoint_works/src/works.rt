@@ -7,7 +7,8 @@ use crate::sending::send;
 use crate::shared_clock::SharedClock;
 use crate::side::Side;
 use cv_io::{Clock, Dial, Memory, Sink, Work};
-use lock_desk::{Host, LockDesk};
+use hyper_core::Hyper;
+use hyper_desk::LockDesk;
 use policy_lock::{PolicyLock, Seat};
 use std::alloc::Global;
 use std::snapshot::Snapshot;
@@ -16,13 +17,13 @@ use std::thread::Threads;
 
 /// Takes the connections of an endpoint, and reads from them.
 #[derive(Drop)]
-pub struct Reader<'a, H: Host, R, L: Dial> {
+pub struct Reader<'a, R, L: Dial> {
     pub rt: &'a R,
     pub alloc: Global,
-    pub lock: &'a PolicyLock<H::Machine>,
+    pub lock: &'a PolicyLock<Hyper>,
     pub others: &'a Others,
     pub handover: &'a Handover<L::Out>,
-    pub seat: Seat<H::Machine>,
+    pub seat: Seat<Hyper>,
     pub side: Side,
     pub dial: L,
     pub end: Option<Received>,
@@ -30,43 +31,43 @@ pub struct Reader<'a, H: Host, R, L: Dial> {
 
 /// Writes to the connections of an endpoint.
 #[derive(Drop)]
-pub struct Writer<'a, 'b, H: Host, R, K, C> {
+pub struct Writer<'a, 'b, R, K, C> {
     pub rt: &'a R,
-    pub lock: &'a PolicyLock<H::Machine>,
+    pub lock: &'a PolicyLock<Hyper>,
     pub others: &'a Others,
     pub handover: &'a Handover<K>,
-    pub seat: Seat<H::Machine>,
+    pub seat: Seat<Hyper>,
     pub clock: SharedClock<'a, 'b, R, C>,
     pub wanted: bool,
 }
 
 /// Writes the audit.
 #[derive(Drop)]
-pub struct Audit<'a, 'b, H: Host, R, K, C> {
+pub struct Audit<'a, 'b, 'c, R, K, C> {
     pub rt: &'a R,
-    pub lock: &'a PolicyLock<H::Machine>,
+    pub lock: &'a PolicyLock<Hyper>,
     pub others: &'a Others,
-    pub seat: Seat<H::Machine>,
-    pub out: &'b mut K,
+    pub seat: Seat<Hyper>,
+    pub out: &'c mut K,
     pub clock: SharedClock<'a, 'b, R, C>,
     pub end: Option<Result<AuditEnd, Memory>>,
 }
 
 /// One of the works.
 #[derive(Drop)]
-pub enum Task<'a, 'b, H: Host, R, L: Dial, K, C> {
-    Reader { reader: Reader<'a, H, R, L> },
-    Writer { writer: Writer<'a, 'b, H, R, L::Out, C> },
-    Audit { audit: Audit<'a, 'b, H, R, K, C> },
+pub enum Task<'a, 'b, 'c, R, L: Dial, K, C> {
+    Reader { reader: Reader<'a, R, L> },
+    Writer { writer: Writer<'a, 'b, R, L::Out, C> },
+    Audit { audit: Audit<'a, 'b, 'c, R, K, C> },
 }
 
-impl<H: Host, R: Wait + Threads + Sync, L: Dial> Reader<'_, H, R, L>
+impl<R: Wait + Threads + Sync, L: Dial> Reader<'_, R, L>
 where
     L::In: Drop,
     L::Out: Drop,
 {
     fn run(&mut self) {
-        let end = receive::<R, H, L>(
+        let end = receive::<R, L>(
             self.rt,
             self.alloc,
             self.lock,
@@ -81,9 +82,9 @@ where
     }
 }
 
-impl<H: Host, R: Wait + Threads + Sync, K: Sink + Drop, C: Clock> Writer<'_, '_, H, R, K, C> {
+impl<R: Wait + Threads + Sync, K: Sink + Drop, C: Clock> Writer<'_, '_, R, K, C> {
     fn run(&mut self) {
-        let desk: LockDesk<'_, H, R> = LockDesk {
+        let desk: LockDesk<'_, R> = LockDesk {
             rt: self.rt,
             lock: self.lock,
             since: Snapshot::of(&self.seat),
@@ -99,9 +100,9 @@ impl<H: Host, R: Wait + Threads + Sync, K: Sink + Drop, C: Clock> Writer<'_, '_,
     }
 }
 
-impl<H: Host, R: Wait + Threads + Sync, K: Sink, C: Clock> Audit<'_, '_, H, R, K, C> {
+impl<R: Wait + Threads + Sync, K: Sink, C: Clock> Audit<'_, '_, '_, R, K, C> {
     fn run(&mut self) {
-        let desk: LockDesk<'_, H, R> = LockDesk {
+        let desk: LockDesk<'_, R> = LockDesk {
             rt: self.rt,
             lock: self.lock,
             since: Snapshot::of(&self.seat),
@@ -118,8 +119,8 @@ impl<H: Host, R: Wait + Threads + Sync, K: Sink, C: Clock> Audit<'_, '_, H, R, K
     }
 }
 
-impl<H: Host, R: Wait + Threads + Sync, L: Dial + Send, K: Sink + Send, C: Clock + Send> Work
-    for Task<'_, '_, H, R, L, K, C>
+impl<R: Wait + Threads + Sync, L: Dial + Send, K: Sink + Send, C: Clock + Send> Work
+    for Task<'_, '_, '_, R, L, K, C>
 where
     L::In: Drop,
     L::Out: Drop,

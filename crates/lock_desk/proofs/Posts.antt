@@ -93,7 +93,7 @@ module _ {M S : Type 0} (g : Ghosts M Event Reply S) (start : S) (v w : Pass Eve
   abbrev s : S
   s = after g start p.before
 
-  opened_by : (who : Who) (arp : Bool) → e ≡ Up who arp → IsOpened g.idle g.reply s who arp
+  pub opened_by : (who : Who) (arp : Bool) → e ≡ Up who arp → IsOpened g.idle g.reply s who arp
       → (round : ℕ) × (r ≡ Opened round) × (own_posts w ≡ own_posts v ++ answered e (Opened round) ∷ [])
   opened_by who arp is o =
       let busy : g.idle s e ≡ false = ap (g.idle s) is ∙ o.0 in

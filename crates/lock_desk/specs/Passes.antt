@@ -1,6 +1,7 @@
 -- What a seat of the lock is as a pass of the desk.
 use Rattle.std.specs.Prelude.{◌≡◌, ◌≤◌, ℕ, List, Some, length, map, take}
 use mathlib.Core.List.{IsPrefix}
+use Rattle.cv_io.specs.declared.leaf.Session.{Session}
 use Rattle.events.specs.declared.event.Event.{Event}
 use Rattle.events.specs.declared.event.Reply.{Reply}
 use Rattle.policy_lock.specs.History.{after, calls_by}
@@ -9,6 +10,7 @@ use Rattle.policy_lock.specs.declared.machine.Machine.{Ghosts}
 use Rattle.policy_lock.specs.declared.view.Entry.{Entry}
 use Rattle.policy_lock.specs.declared.view.Pass.{Pass}
 use Rattle.sessions.specs.declared.desk.Post.{Post}
+use Rattle.lock_desk.specs.Hosts.{IsOver, NothingWaits}
 
 -- an entry, without the number of the seat
 abbrev pub post_of : Entry Event Reply → Post
@@ -34,3 +36,13 @@ module _ {M E R S : Type 0} (g : Ghosts M E R S) where
     pub long : at ≤ length p.seen
     pub own : calls_by p.number (take at p.seen) ≡ calls_by p.number p.seen
     pub holds : (s : S) → p.start ≡ Some s → P (after g s (take at p.seen))
+
+module _ {M S : Type 0} (g : Ghosts M Event Reply S) where
+  -- after so many entries of the history, among which are all calls of the seat, the machine refuses what the session
+  -- sends
+  abbrev pub HasEnded : Pass Event Reply S → Session → ℕ → Type 0
+  HasEnded p session at = HoldsAfter g p at (λ s. IsOver g.reply s session)
+
+  -- after so many nothing waits for it
+  abbrev pub Waits : Pass Event Reply S → Session → ℕ → Type 0
+  Waits p session at = HoldsAfter g p at (λ s. NothingWaits g.reply s session)

@@ -8,7 +8,7 @@ use policy_lock::Machine;
 
 /// A machine of sessions. It knows some members and switches, each of which comes up in a round of its own; what a
 /// session sends is done, or refused once the session has ended; what waits for it can be taken.
-pub trait Host {
+pub trait Host: Send + Sync {
     ghost use Rattle.cv_io.specs.declared.leaf.Who.{Who};
     ghost use Rattle.cv_io.specs.declared.leaf.Session.{Session};
     ghost use Rattle.events.specs.declared.event.Event.{Event};

@@ -1,5 +1,5 @@
--- Through all phases of a step the members and the switches stay as many, and the reply stays what the event's own work
--- made it.
+-- Through all phases of a step the members and the switches stay as many, the lines of the audit stay, and the reply is
+-- what the event's own work made it.
 use Rattle.std.proofs.Common.{◌≡◌, ◌∙◌, ℕ, Bool, true, false, List, [], ◌∷◌, length, map, filter, Option, Some, None}
 use Rattle.std.proofs.Common.{Result, Ok, Err, find, fold, nat_lt, slice_get, refl, if◌then◌else◌}
 use Rattle.std.proofs.lemmas.List.{length-map}
@@ -84,19 +84,21 @@ use Rattle.waitings.specs.declared.state.Purpose.TheVariants as purposes
 long_map : {X Y : Type 0} (f : X → Y) (xs : List X) → length (map f xs) ≡ length xs
 long_map f xs = length-map xs f
 
--- so many members and switches, and this reply
-module _ (m k : ℕ) (r : Reply) where
+-- so many members and switches, these lines of the audit, and this reply
+module _ (m k : ℕ) (a : List (List ℕ)) (r : Reply) where
   abbrev pub Holds : Draft → Type 0
-  Holds d = (length d.state.members ≡ m) × (length d.state.switches ≡ k) × (d.reply ≡ r)
+  Holds d = (length d.state.members ≡ m) × (length d.state.switches ≡ k) × (d.state.audit ≡ a) × (d.reply ≡ r)
 
   -- one member or switch becomes another
   member : (n : ℕ) (f : MemberOf → MemberOf) (d : Draft) → Holds d
-      → (length (changed_at n f d.state.members) ≡ m) × (length d.state.switches ≡ k) × (d.reply ≡ r)
-  member n f d h = (long_changed n f d.state.members ∙ h.0, h.1, h.2)
+      → (length (changed_at n f d.state.members) ≡ m) × (length d.state.switches ≡ k) × (d.state.audit ≡ a)
+      × (d.reply ≡ r)
+  member n f d h = (long_changed n f d.state.members ∙ h.0, h.1, h.2, h.3)
 
   switch : (n : ℕ) (f : SwitchOf → SwitchOf) (d : Draft) → Holds d
-      → (length d.state.members ≡ m) × (length (changed_at n f d.state.switches) ≡ k) × (d.reply ≡ r)
-  switch n f d h = (h.0, long_changed n f d.state.switches ∙ h.1, h.2)
+      → (length d.state.members ≡ m) × (length (changed_at n f d.state.switches) ≡ k) × (d.state.audit ≡ a)
+      × (d.reply ≡ r)
+  switch n f d h = (h.0, long_changed n f d.state.switches ∙ h.1, h.2, h.3)
 
   ended : (n : ℕ) (cause : DownCause) (d : Draft) → Holds d → Holds (end_switch n cause d)
   ended n cause d h = switch n ended_switch d h
@@ -238,7 +240,7 @@ module _ (m k : ℕ) (r : Reply) where
   tick_holds p now d h =
       fold_holds (doubt_at p) Holds (λ e v k. doubt_holds p v (doubts_at p e.state v) e k) (places p.virtuals)
       (record d { state = without_expired (record d.state { moment = now }) })
-      (long_map (with_kept (expired now)) d.state.members ∙ h.0, h.1, h.2)
+      (long_map (with_kept (expired now)) d.state.members ∙ h.0, h.1, h.2, h.3)
 
   -- closing
   closed_holds : (c : Closing) (d : Draft) → Holds d → Holds (close c d)
@@ -248,7 +250,7 @@ module _ (m k : ℕ) (r : Reply) where
 
   -- settling
   abbrev AreMany : State → Type 0
-  AreMany s = (length s.members ≡ m) × (length s.switches ≡ k)
+  AreMany s = (length s.members ≡ m) × (length s.switches ≡ k) × (s.audit ≡ a)
 
   decided_holds : (s : State) (doubt : Doubt) → AreMany s → AreMany (decided s doubt)
   decided_holds s doubt h = by (find (has_serial doubt.serial) (entries_at (slice_get s.members doubt.member)))
@@ -258,15 +260,15 @@ module _ (m k : ℕ) (r : Reply) where
       by (Some e) = risen (nat_lt doubt.packets (count_of s doubt.member doubt.serial).packets)
         where
           risen : (b : Bool) → AreMany (if b then with_risen doubt s else without_idle doubt e s)
-          risen true = (long_changed doubt.member (with_kept (touched doubt.serial s.moment)) s.members ∙ h.0, h.1)
-          risen false = (long_changed doubt.member (with_kept (without doubt.serial)) s.members ∙ h.0, h.1)
+          risen true = (long_changed doubt.member (with_kept (touched doubt.serial s.moment)) s.members ∙ h.0, h.1, h.2)
+          risen false = (long_changed doubt.member (with_kept (without doubt.serial)) s.members ∙ h.0, h.1, h.2)
 
   settle_holds : (p : PolicyOf) (purpose : Purpose) (d : Draft) → Holds d → Holds (settle_for p purpose d)
   settle_holds p (purposes.Flow asker f) d h = h
   settle_holds p (purposes.Aggregate asker f) d h = h
   settle_holds p (purposes.Port asker port_no told) d h = h
   settle_holds p (purposes.Idle doubts) d h =
-      let t = fold_holds decided AreMany decided_holds doubts d.state (h.0, h.1) in (t.0, t.1, h.2)
+      let t = fold_holds decided AreMany decided_holds doubts d.state (h.0, h.1, h.2) in (t.0, t.1, t.2, h.3)
   settle_holds p (purposes.Barrier asker) d h = h
 
   settled_holds : (p : PolicyOf) (d : Draft) → Holds d → Holds (settle p d)

@@ -47,78 +47,82 @@ use Rattle.machine_answers.proofs.Phases.{Holds, drafted_holds, first_holds, gon
 -- an event's own work -----------------------------------------------------------------------------------------------
 
 -- so many members and switches
-abbrev AreMany : ℕ → ℕ → State → Type 0
+abbrev pub AreMany : ℕ → ℕ → State → Type 0
 AreMany m k s = (length s.members ≡ m) × (length s.switches ≡ k)
 
 -- who comes up is answered a round
-opened_member : (m k n : ℕ) (d : Draft) → Holds m k Done d → (round : ℕ) × Holds m k (Opened round) (begin_member n d)
-opened_member m k n d h =
+opened_member : (m k : ℕ) (a : List (List ℕ)) (n : ℕ) (d : Draft) → Holds m k a Done d
+    → (round : ℕ) × Holds m k a (Opened round) (begin_member n d)
+opened_member m k a n d h =
     let s = record d.state { members = changed_at n begun_member d.state.members } in
-    (round_of s (Member n), long_changed n begun_member d.state.members ∙ h.0, h.1, refl)
+    (round_of s (Member n), long_changed n begun_member d.state.members ∙ h.0, h.1, h.2, refl)
 
-opened_switch : (m k n : ℕ) (d : Draft) → Holds m k Done d → (round : ℕ) × Holds m k (Opened round) (begin_switch n d)
-opened_switch m k n d h =
+opened_switch : (m k : ℕ) (a : List (List ℕ)) (n : ℕ) (d : Draft) → Holds m k a Done d
+    → (round : ℕ) × Holds m k a (Opened round) (begin_switch n d)
+opened_switch m k a n d h =
     (round_of (with_round n d.state) (Switch n), h.0,
-    long_changed n (begun_switch d.state.next_cookie) d.state.switches ∙ h.1, refl)
+    long_changed n (begun_switch d.state.next_cookie) d.state.switches ∙ h.1, h.2, refl)
 
-noted : (m k : ℕ) (r : Reply) (p : PolicyOf) (n : ℕ) (arp : Bool) (d : Draft) → Holds m k r d
-    → Holds m k r (noting p n arp d)
-noted m k r p n true d h = h
-noted m k r p n false d h = h
+noted : (m k : ℕ) (a : List (List ℕ)) (r : Reply) (p : PolicyOf) (n : ℕ) (arp : Bool) (d : Draft)
+    → Holds m k a r d → Holds m k a r (noting p n arp d)
+noted m k a r p n true d h = h
+noted m k a r p n false d h = h
 
 came_up : (m k : ℕ) (p : PolicyOf) (who : Who) (arp : Bool) (s t : State) → AreMany m k t → HasSession s who
-    → (round : ℕ) × Holds m k (Opened round) (comes_up p who arp (untouched t))
+    → (round : ℕ) × Holds m k t.audit (Opened round) (comes_up p who arp (untouched t))
 came_up m k p (Member n) arp s t many has =
-    opened_member m k n (end_first (Member n) (untouched t))
-    (first_holds m k Done (Member n) (untouched t) (many.0, many.1, refl))
+    opened_member m k t.audit n (end_first (Member n) (untouched t))
+    (first_holds m k t.audit Done (Member n) (untouched t) (many.0, many.1, refl, refl))
 came_up m k p (Switch n) arp s t many has =
-    let o = opened_switch m k n (end_first (Switch n) (untouched t))
-    (first_holds m k Done (Switch n) (untouched t) (many.0, many.1, refl)) in
-    (o.0, noted m k (Opened o.0) p n arp (begin_switch n (end_first (Switch n) (untouched t))) o.1)
-came_up m k p Audit arp s t many has = absurd (cc has)
+    let o = opened_switch m k t.audit n (end_first (Switch n) (untouched t))
+    (first_holds m k t.audit Done (Switch n) (untouched t) (many.0, many.1, refl, refl)) in
+    (o.0, noted m k t.audit (Opened o.0) p n arp (begin_switch n (end_first (Switch n) (untouched t))) o.1)
+came_up m k p Audit arp s t many has = absurd (false≢true has)
 
 -- an expression is answered something
 replaced : (m k : ℕ) (p : PolicyOf) (v : ℕ) (text : List ℕ) (t : State) → AreMany m k t
-    → (r : Reply) × Holds m k r (replaces p v text (untouched t))
+    → (r : Reply) × Holds m k t.audit r (replaces p v text (untouched t))
 replaced m k p v text t many = by (reading_of_expression (names p.members v) text)
   where
     unless : (e : Policy) (o : Option PolicyRefusal)
-        → (r : Reply) × Holds m k r (replace_unless o p v e (untouched t))
-    unless e (Some refusal) = (Refused refusal, many.0, many.1, refl)
-    unless e None = (Replaced, many.0, many.1, refl)
+        → (r : Reply) × Holds m k t.audit r (replace_unless o p v e (untouched t))
+    unless e (Some refusal) = (Refused refusal, many.0, many.1, refl, refl)
+    unless e None = (Replaced, many.0, many.1, refl, refl)
 
-    by : (o : Result Policy ExprFault) → (r : Reply) × Holds m k r (replace_by p v o (untouched t))
+    by : (o : Result Policy ExprFault) → (r : Reply) × Holds m k t.audit r (replace_by p v o (untouched t))
     by (Ok e) = unless e (width_refusal (too_wide_in (plan p) p.members (exprs_with v e t.exprs) p.hops))
-    by (Err fault) = (Refused (Expr fault), many.0, many.1, refl)
+    by (Err fault) = (Refused (Expr fault), many.0, many.1, refl, refl)
 
 -- what comes up that isn't there is the audit, or has no number of the policy: nothing comes of it here
 came : (m k : ℕ) (p : PolicyOf) (who : Who) (arp : Bool) (t : State) → AreMany m k t
-    → (r : Reply) × Holds m k r (comes_up p who arp (untouched t))
+    → (r : Reply) × Holds m k t.audit r (comes_up p who arp (untouched t))
 came m k p (Member n) arp t many =
-    let o = opened_member m k n (end_first (Member n) (untouched t))
-    (first_holds m k Done (Member n) (untouched t) (many.0, many.1, refl)) in (Opened o.0, o.1)
+    let o = opened_member m k t.audit n (end_first (Member n) (untouched t))
+    (first_holds m k t.audit Done (Member n) (untouched t) (many.0, many.1, refl, refl)) in (Opened o.0, o.1)
 came m k p (Switch n) arp t many =
-    let o = opened_switch m k n (end_first (Switch n) (untouched t))
-    (first_holds m k Done (Switch n) (untouched t) (many.0, many.1, refl)) in
-    (Opened o.0, noted m k (Opened o.0) p n arp (begin_switch n (end_first (Switch n) (untouched t))) o.1)
-came m k p Audit arp t many = (Done, many.0, many.1, refl)
+    let o = opened_switch m k t.audit n (end_first (Switch n) (untouched t))
+    (first_holds m k t.audit Done (Switch n) (untouched t) (many.0, many.1, refl, refl)) in
+    (Opened o.0, noted m k t.audit (Opened o.0) p n arp (begin_switch n (end_first (Switch n) (untouched t))) o.1)
+came m k p Audit arp t many = (Done, many.0, many.1, refl, refl)
 
-acted : (m k : ℕ) (p : PolicyOf) (t : State) (e : Event) → AreMany m k t → (r : Reply) × Holds m k r (act p t e)
+pub acted : (m k : ℕ) (p : PolicyOf) (t : State) (e : Event) → AreMany m k t
+    → (r : Reply) × Holds m k t.audit r (act p t e)
 acted m k p t (events.Up who arp) many = came m k p who arp t many
 acted m k p t (events.Msg session frame) many =
-    (Done, sends_holds m k Done p session.who frame (untouched t) (many.0, many.1, refl))
+    (Done, sends_holds m k t.audit Done p session.who frame (untouched t) (many.0, many.1, refl, refl))
 acted m k p t (events.Gone session) many =
-    (Done, gone_holds m k Done session.who (untouched t) (many.0, many.1, refl))
-acted m k p t (events.Tick second) many = (Done, tick_holds m k Done p second (untouched t) (many.0, many.1, refl))
-acted m k p t (events.Take session) many = (Done, many.0, many.1, refl)
+    (Done, gone_holds m k t.audit Done session.who (untouched t) (many.0, many.1, refl, refl))
+acted m k p t (events.Tick second) many =
+    (Done, tick_holds m k t.audit Done p second (untouched t) (many.0, many.1, refl, refl))
+acted m k p t (events.Take session) many = (Done, many.0, many.1, refl, refl)
 acted m k p t (events.Policy v text) many = replaced m k p v text t many
 
 -- whole steps -------------------------------------------------------------------------------------------------------
 
 -- the reply of a draft is kept by the phases behind the event's own work
-replied : (m k : ℕ) (r : Reply) (p : PolicyOf) (s : State) (e : Event) → Holds m k r (act p (heard s e) e)
-    → (drafted p (heard s e) e).reply ≡ r
-replied m k r p s e h = (drafted_holds m k r p (heard s e) e (slow p (heard s e) e) h).2
+replied : (m k : ℕ) (a : List (List ℕ)) (r : Reply) (p : PolicyOf) (s : State) (e : Event)
+    → Holds m k a r (act p (heard s e) e) → (drafted p (heard s e) e).reply ≡ r
+replied m k a r p s e h = (drafted_holds m k a r p (heard s e) e (slow p (heard s e) e) h).3
 
 put_many : (m k : ℕ) (p : PolicyOf) (d : Draft) → AreMany m k d.state → AreMany m k (put p d)
 put_many m k p d h = (
@@ -129,7 +133,7 @@ put_many m k p d h = (
 went_on : (m k : ℕ) (p : PolicyOf) (s : State) (e : Event) → AreMany m k s → AreMany m k (put p (drafted p (heard s e) e))
 went_on m k p s e many =
     let o = acted m k p (heard s e) e (many.0, many.1) in
-    let t = drafted_holds m k o.0 p (heard s e) e (slow p (heard s e) e) o.1 in
+    let t = drafted_holds m k s.audit o.0 p (heard s e) e (slow p (heard s e) e) o.1 in
     put_many m k p (drafted p (heard s e) e) (t.0, t.1)
 
 left_many : (m k : ℕ) (who : Who) (round : ℕ) (s : State) → AreMany m k s → AreMany m k (left_by who round s)
@@ -201,13 +205,13 @@ at_opening p n = (
 
 -- an event that goes through the phases is answered as its own work says
 busy : (p : PolicyOf) (s : State) (e : Event) (r : Reply) → (proceed p s e).0 ≡ (drafted p (heard s e) e).reply
-    → Holds (length s.members) (length s.switches) r (act p (heard s e) e) → is_idle p s e ≡ false
+    → Holds (length s.members) (length s.switches) s.audit r (act p (heard s e) e) → is_idle p s e ≡ false
     → reply_in p s e ≡ r
 busy p s e r goes h = by (glance_of p s e)
   where
     by : (o : Option Reply) → is_some o ≡ false → (step_by o p s e).0 ≡ r
     by (Some reply) i = absurd (false≢true (sym i))
-    by None i = goes ∙ replied (length s.members) (length s.switches) r p s e h
+    by None i = goes ∙ replied (length s.members) (length s.switches) s.audit r p s e h
 
 -- and one that is closed unless a test holds is refused where it doesn't
 refused : (p : PolicyOf) (s : State) (e : Event) (b : Bool) → glance_of p s e ≡ closed_unless b → b ≡ false
@@ -251,8 +255,8 @@ pub heard_messages : MessagesAreHeard
 heard_messages p s session frame whole =
     let e = events.Msg session frame in (
       busy p s e Done refl
-          (sends_holds (length s.members) (length s.switches) Done p session.who frame (untouched (heard s e))
-          (refl, refl, refl)),
+          (sends_holds (length s.members) (length s.switches) s.audit Done p session.who frame (untouched (heard s e))
+          (refl, refl, refl, refl)),
       λ i.
           let no = idle_no (is_frame frame && is_present s session) i in
           (refused p s e (is_frame frame && is_present s session) refl no,
@@ -263,8 +267,8 @@ pub heard_goings : GoingsAreHeard
 heard_goings p s session =
     let e = events.Gone session in (
       busy p s e Done refl
-          (gone_holds (length s.members) (length s.switches) Done session.who (untouched (heard s e))
-          (refl, refl, refl)),
+          (gone_holds (length s.members) (length s.switches) s.audit Done session.who (untouched (heard s e))
+          (refl, refl, refl, refl)),
       λ i.
           let no = idle_no (is_present s session) i in
           (refused p s e (is_present s session) refl no, over p s session no),
@@ -274,4 +278,5 @@ pub done_seconds : SecondsAreDone
 done_seconds p s second =
     let e = events.Tick second in
     busy p s e Done refl
-    (tick_holds (length s.members) (length s.switches) Done p second (untouched (heard s e)) (refl, refl, refl))
+    (tick_holds (length s.members) (length s.switches) s.audit Done p second (untouched (heard s e))
+    (refl, refl, refl, refl))

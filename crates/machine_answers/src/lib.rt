@@ -1,6 +1,7 @@
 //! How the machine answers sessions. Each function's contract is a law.
 #![tactic(auto)]
 ghost use Rattle.machine_answers.specs.Answers.{GoingsAreHeard, MessagesAreHeard, OpeningHasSessions, SecondsAreDone};
+ghost use Rattle.machine_answers.specs.AuditLines.{AuditIsWhole};
 ghost use Rattle.machine_answers.specs.Answers.{SessionsOpen, SessionsStay, TakingsAreAnswered};
 
 /// As the machine is opened it has the members and the switches of the policy.
@@ -36,4 +37,9 @@ pub fn seconds_are_done()
 /// A taking finds a message; or nothing waits; or the session has ended.
 pub fn takings_are_answered()
     ensures { TakingsAreAnswered }
+{}
+
+/// Each line that events put to the audit is taken from it, in its turn and once, or waits.
+pub fn audit_is_whole()
+    ensures { AuditIsWhole }
 {}

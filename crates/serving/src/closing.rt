@@ -3,7 +3,6 @@ use cv_io::{Dial, Failed, List, Memory, Session, Sink, Who};
 use endpoint_works::{AuditEnd, Task, write_line};
 use events::{Event, Reply};
 use hyper_core::Hyper;
-use hyper_desk::Proxy;
 use policy_lock::{PolicyLock, Seat};
 use std::alloc::Global;
 
@@ -22,7 +21,7 @@ pub(crate) struct Gathered {
 /// Takes the works apart.
 pub(crate) fn gather<R, D: Dial + Drop, K, C>(
     alloc: Global,
-    tasks: List<Task<'_, '_, Proxy, R, D, K, C>>,
+    tasks: List<Task<'_, '_, '_, R, D, K, C>>,
 ) -> Result<Gathered, Memory>
 where
     D::Out: Drop,

@@ -3,7 +3,6 @@ use crate::dialling::Line;
 use cv_io::{Clock, Dial, List, Memory, Sink};
 use endpoint_works::{Audit, Handover, Others, Reader, Shared, SharedClock, Task, Writer};
 use hyper_core::Hyper;
-use hyper_desk::Proxy;
 use policy_lock::{PolicyLock, Seat};
 use std::alloc::Global;
 use std::sync::Wait;
@@ -21,12 +20,12 @@ pub(crate) struct Office<'a, 'b, R, K: Drop, C> {
 }
 
 /// The works: two for each line, and one for the audit.
-pub(crate) fn hire<'a, 'b, R: Wait + Threads + Sync, D: Dial + Drop, K: Sink, C: Clock>(
+pub(crate) fn hire<'a, 'b, 'c, R: Wait + Threads + Sync, D: Dial + Drop, K: Sink, C: Clock>(
     office: &Office<'a, 'b, R, D::Out, C>,
     lines: List<Line<D>>,
     seats: List<Seat<Hyper>>,
-    out: &'b mut K,
-) -> Result<List<Task<'a, 'b, Proxy, R, D, K, C>>, Memory>
+    out: &'c mut K,
+) -> Result<List<Task<'a, 'b, 'c, R, D, K, C>>, Memory>
 where
     D::In: Drop,
     D::Out: Drop,
