@@ -61,7 +61,8 @@ pub fn hear<H: Host, R: Wait + Threads + Sync>(
         session: *session,
         frame,
     };
-    Ok(heard(post(rt, lock, seat, event)?))
+    let receipt = post(rt, lock, seat, event)?;
+    Ok(heard(receipt))
 }
 
 /// A session went.
@@ -80,7 +81,8 @@ pub fn go<H: Host, R: Wait + Threads + Sync>(
     ensures memory { OnErr result (own_posts seat.new.pass ≡ own_posts seat.old.pass) }
 {
     let event = Event::Gone { session: *session };
-    Ok(heard(post(rt, lock, seat, event)?))
+    let receipt = post(rt, lock, seat, event)?;
+    Ok(heard(receipt))
 }
 
 /// The clock shows this second.
@@ -97,7 +99,7 @@ pub fn tick<H: Host, R: Wait + Threads + Sync>(
         (MayAdd (own_posts seat.old.pass) (own_posts seat.new.pass) (second_told second)) }
     ensures memory { OnErr result (own_posts seat.new.pass ≡ own_posts seat.old.pass) }
 {
-    post(rt, lock, seat, Event::Tick { second })?;
+    let _receipt = post(rt, lock, seat, Event::Tick { second })?;
     Ok(())
 }
 
@@ -118,5 +120,6 @@ pub fn take<H: Host, R: Wait + Threads + Sync>(
     ensures memory { OnErr result (own_posts seat.new.pass ≡ own_posts seat.old.pass) }
 {
     let event = Event::Take { session: *session };
-    Ok(taken(post(rt, lock, seat, event)?))
+    let receipt = post(rt, lock, seat, event)?;
+    Ok(taken(receipt))
 }
