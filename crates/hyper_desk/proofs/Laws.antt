@@ -11,7 +11,7 @@ use Rattle.machine_meaning.specs.States.{State}
 use Rattle.of10_frames.specs.Frames.{IsFrame}
 use Rattle.lock_desk.specs.Hosts.{IsDone, IsHeard, IsOpened, IsTaken}
 use Rattle.machine_answers.specs.Answers.{HasSession}
-use Rattle.machine_answers.proofs.Steps.{done_seconds, heard_goings, heard_messages, open, stay}
+use Rattle.machine_answers.proofs.Steps.{done_seconds, heard_goings, heard_messages, opens as comes, stay}
 use Rattle.machine_answers.proofs.Takings.{answers}
 use Rattle.hyper_desk.specs.Proxies.{HasOne}
 
@@ -23,7 +23,7 @@ stays d e who has =
 
 pub opens : (d : StateData) (who : Who) (arp : Bool) → HasOne d who → IsOpened is_idle reply_to d who arp
 unfolding is_idle reply_to HasOne
-opens d who arp has = open d.plan (state_in d) who arp has
+opens d who arp has = comes d.plan (state_in d) who arp has
 
 pub hears : (d : StateData) (session : Session) (frame : List ℕ) → IsFrame frame
     → IsHeard is_idle reply_to d session (Msg session frame)

@@ -97,8 +97,8 @@ module _ {M S : Type 0} (g : Ghosts M Event Reply S) (start : S) (v w : Pass Eve
       → (round : ℕ) × (r ≡ Opened round) × (own_posts w ≡ own_posts v ++ answered e (Opened round) ∷ [])
   opened_by who arp is o =
       let busy : g.idle s e ≡ false = ap (g.idle s) is ∙ o.0 in
-      let open : r ≡ Opened o.1.0 = p.replied ∙ (ap (g.reply s) is ∙ o.1.1) in
-      (o.1.0, open, adds g start v w e place r a b p same starts busy ∙ ap (λ q. own_posts v ++ answered e q ∷ []) open)
+      let answer : r ≡ Opened o.1.0 = p.replied ∙ (ap (g.reply s) is ∙ o.1.1) in
+      (o.1.0, answer, adds g start v w e place r a b p same starts busy ∙ ap (λ q. own_posts v ++ answered e q ∷ []) answer)
 
   abbrev Over : Session → S → Type 0
   Over session t = IsOver g.reply t session

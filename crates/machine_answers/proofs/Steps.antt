@@ -240,8 +240,8 @@ over p s session no = (
   refused p s (events.Gone session) (is_present s session) refl no,
 )
 
-pub open : SessionsOpen
-open p s who arp has =
+pub opens : SessionsOpen
+opens p s who arp has =
     let e = events.Up who arp in
     let o = came_up (length s.members) (length s.switches) p who arp s (heard s e) (refl, refl) has in
     let awake : is_idle p s e ≡ false = ap (λ b. is_some (closed_unless b)) has in

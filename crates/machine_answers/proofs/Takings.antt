@@ -34,15 +34,15 @@ found_first (message ∷ later) present = inl (message, refl)
 found_in : (o : OutboxOf) (round : ℕ) → Found (reply_of (taking o round)) (is_open o round)
 found_in o round = by (nat_lt o.round round)
   where
-    open : (b : Bool) → Found (reply_of (if b then first o.waiting else takings.Closed)) b
-    open true = found_first o.waiting true
-    open false = inr (inr (refl, refl))
+    is_up : (b : Bool) → Found (reply_of (if b then first o.waiting else takings.Closed)) b
+    is_up true = found_first o.waiting true
+    is_up false = inr (inr (refl, refl))
 
     by : (b : Bool)
         → Found (reply_of (if b then takings.Empty else (if is_open o round then first o.waiting else takings.Closed)))
         (is_open o round)
     by true = inr (inl refl)
-    by false = open (is_open o round)
+    by false = is_up (is_open o round)
 
 found_by : (s : State) (who : Who) (round : ℕ)
     → Found (takes_by s who round) (is_present s (record { who = who; round = round }))

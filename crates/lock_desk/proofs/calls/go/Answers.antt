@@ -10,11 +10,11 @@ returns-clause-posted g c =
     subst (AddsHeard (own_posts c.args.seat.now.pass) (own_posts c.post.new.seat.pass) (going c.args.session.now))
     (sym c.heard.ensures)
     (heard_posts g.H.Machine.Machine _ _ _ _ _ _ _ _ p c.post.ensures.seat.2 (c.post.ensures.seat.1 ∙ c.requires.1)
-    c.args.session.now (g.met.H.Host.goes _ _)).0
+    c.args.session.now (g.H.Host.goes _ _)).0
 
 pub returns-clause-closed : goal.returns-clause-closed
 returns-clause-closed g c =
     let p = c.in_ok-receipt.ensures.posted.1 in
     subst (IsRefusedWhere (HasEnded g.H.Machine.Machine c.post.new.seat.pass c.args.session.now)) (sym c.heard.ensures)
     (heard_posts g.H.Machine.Machine _ _ _ _ _ _ _ _ p c.post.ensures.seat.2 (c.post.ensures.seat.1 ∙ c.requires.1)
-    c.args.session.now (g.met.H.Host.goes _ _)).1
+    c.args.session.now (g.H.Host.goes _ _)).1

@@ -10,7 +10,7 @@ returns-clause-posted g c =
     subst (AddsTaken (own_posts c.args.seat.now.pass) (own_posts c.post.new.seat.pass) c.args.session.now)
     (sym c.taken.ensures)
     (taken_posts g.H.Machine.Machine _ _ _ _ _ _ _ _ p c.post.ensures.seat.2 (c.post.ensures.seat.1 ∙ c.requires.1)
-    c.args.session.now refl (g.met.H.Host.takes _ _)).0
+    c.args.session.now refl (g.H.Host.takes _ _)).0
 
 pub returns-clause-found : goal.returns-clause-found
 returns-clause-found g c =
@@ -18,4 +18,4 @@ returns-clause-found g c =
     subst (Finds (HasEnded g.H.Machine.Machine c.post.new.seat.pass c.args.session.now)
     (Waits g.H.Machine.Machine c.post.new.seat.pass c.args.session.now)) (sym c.taken.ensures)
     (taken_posts g.H.Machine.Machine _ _ _ _ _ _ _ _ p c.post.ensures.seat.2 (c.post.ensures.seat.1 ∙ c.requires.1)
-    c.args.session.now refl (g.met.H.Host.takes _ _)).1
+    c.args.session.now refl (g.H.Host.takes _ _)).1
