@@ -1,2 +1,3 @@
 pub mod Forms
-pub mod Matched
+pub mod Parser
+pub mod Meaning

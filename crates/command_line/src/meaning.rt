@@ -2,7 +2,7 @@
 ghost use Rattle.std.specs.Prelude.{◌≡◌, IfOk, IfSome, option_map};
 ghost use Rattle.cv_io.specs.Text.{IsAsciiText};
 ghost use Rattle.clap.specs.Words.{found_of, first_of, rows_of};
-ghost use Rattle.command_line.specs.Matched.{NamesAscii, meant_by, replaying};
+ghost use Rattle.command_line.specs.Meaning.{NamesAscii, meant_by, replaying};
 ghost use Rattle.command_line.specs.Forms.{count_in, making as making_of, seed_in};
 ghost use Rattle.std.specs.Prelude.{codes, option_and_then};
 
@@ -44,7 +44,7 @@ fn replaying(name: Option<Text>) -> Command
 
 /// `make`, of a seed and a number of messages.
 fn making(seed: Option<&str>, count: Option<&str>) -> Option<Command>
-    ensures { result ≡ making_of (option_and_then (λ s. seed_in s.now) seed) (option_and_then (λ s. count_in s.now) count) }
+    ensures { result ≡ making_of (option_and_then (λ s. seed_in s.now) seed.entry) (option_and_then (λ s. count_in s.now) count.entry) }
 {
     let seed = read_seed(seed?.as_bytes())?;
     let count = read_count(count?.as_bytes())?;
@@ -54,7 +54,7 @@ fn making(seed: Option<&str>, count: Option<&str>) -> Option<Command>
 /// A text that was matched, as a text of ASCII.
 fn text(alloc: Global, given: Option<&str>) -> Result<Option<Text>, Memory>
     requires { IfSome given (λ text. IsAsciiText text.now) }
-    ensures { IfOk result (λ text. text ≡ option_map (λ text. text.now) given) }
+    ensures { IfOk result (λ text. text ≡ option_map (λ text. text.now) given.entry) }
 {
     match given {
         Some(given) => Ok(Some(Text::from_slice(alloc, given.as_bytes())?)),

@@ -1,10 +1,10 @@
 //! The forms as `clap` knows them, and the words as it matches them.
 ghost use Rattle.std.specs.Prelude.{◌≡◌, IfOk, IsSome, false, map};
 ghost use Rattle.std.specs.String.{string_bytes};
-ghost use Rattle.clap.specs.Words.{app_of, fields_of, kind_of, rule_of, subcommand_of, subcommand_rows_of};
+ghost use Rattle.clap.specs.Words.{app_of, kind_of, rule_of, subcommand_of, subcommand_rows_of};
 ghost use Rattle.command_line.specs.Forms.{command_of};
-ghost use Rattle.command_line.specs.Matched.{explain_form, forms as forms_of, make_form, replay_form};
-ghost use Rattle.command_line.specs.Matched.{optional_text as optional_text_of, wanted_text as wanted_text_of};
+ghost use Rattle.command_line.specs.Parser.{explain_form, forms as forms_of, make_form, replay_form};
+ghost use Rattle.command_line.specs.Parser.{optional_text as optional_text_of, wanted_text as wanted_text_of};
 
 use clap::error::ErrorKind;
 use clap::{Arg, ArgMatches, Command, Error};
@@ -43,21 +43,21 @@ fn forms<'a>(alloc: Global) -> Result<Command<'a>, AllocError>
 
 /// `replay`, `replay POLICY`
 fn replay<'a>(alloc: Global) -> Result<Command<'a>, AllocError>
-    ensures { IfOk result (λ command. (app_of command ≡ replay_form) × ((fields_of command).has_globals ≡ false)) }
+    ensures { IfOk result (λ command. app_of command ≡ replay_form) }
 {
     Command::new(alloc, "replay").arg(optional_text(alloc, "POLICY"))
 }
 
 /// `explain POLICY`
 fn explain<'a>(alloc: Global) -> Result<Command<'a>, AllocError>
-    ensures { IfOk result (λ command. (app_of command ≡ explain_form) × ((fields_of command).has_globals ≡ false)) }
+    ensures { IfOk result (λ command. app_of command ≡ explain_form) }
 {
     Command::new(alloc, "explain").arg(wanted_text(alloc, "POLICY"))
 }
 
 /// `make SEED N`
 fn make<'a>(alloc: Global) -> Result<Command<'a>, AllocError>
-    ensures { IfOk result (λ command. (app_of command ≡ make_form) × ((fields_of command).has_globals ≡ false)) }
+    ensures { IfOk result (λ command. app_of command ≡ make_form) }
 {
     Command::new(alloc, "make")
         .arg(wanted_text(alloc, "SEED"))?
