@@ -1,7 +1,7 @@
 -- What `clap` matches of words of a form tells the form.
-use Rattle.std.proofs.Common.{◌≡◌, ◌∙◌, ◌<◌, ◌≤◌, ℕ, zero, suc, Bool, true, false, cond, List, [], ◌∷◌, length, Option, Some, None, is_some, map, tt, refl, sym, subst, ap, arith, codes}
+use Rattle.std.proofs.Common.{◌≡◌, ◌∙◌, ◌<◌, ◌≤◌, ℕ, zero, suc, Bool, true, false, cond, List, [], ◌∷◌, length, Option, Some, None, is_some, map, refl, sym, subst, ap, arith, codes}
 use Rattle.std.specs.Prelude.{◌==◌, ◌&&◌, IfSome, not, nat_le}
-use Rattle.std.specs.List.{All, list_all}
+use Rattle.std.specs.List.{list_all, slice_index_or}
 use Rattle.std.specs.Str.{bytes_eq}
 use Rattle.std.proofs.lemmas.Slice.Eq.{bytes_eq-Decides}
 use Rattle.std.proofs.lemmas.Bool.{leb-true}
@@ -36,12 +36,14 @@ abbrev IsPlain : Text → Type 0
 IsPlain word = (x : ℕ) × (xs : Text) × (word ≡ (x ∷ xs)) × ((x == 45) ≡ false) × IsAsciiText word
 
 pub printable_is_ascii : (word : Text) → list_all is_printable word ≡ true → IsAsciiText word
-printable_is_ascii word e = λ k d lt. omega (arith, leb-true _ _ (both _ _ (AllPass-from_list_all is_printable word e k d lt)).1)
+printable_is_ascii word e = λ k d lt.
+    let c = slice_index_or word k d in
+    omega (arith, leb-true c 126 (both (nat_le 32 c) (nat_le c 126) (AllPass-from_list_all is_printable word e k d lt)).1)
 
 pub plain_word : (word : Text) → is_plain word ≡ true → IsPlain word
 plain_word [] e = absurd cc
 plain_word (x ∷ xs) e =
-    let p = both _ _ e in
+    let p = both (not (x == 45)) (list_all is_printable (x ∷ xs)) e in
     (x, xs, refl, is_false (x == 45) p.0, printable_is_ascii (x ∷ xs) p.1)
 
 -- ---- what is told
@@ -59,21 +61,21 @@ by_rows : (words : List Text) (p : Text × List Row) → takes forms words ≡ t
 by_rows words p taken given tells = (taken, subst (Tells words) (sym given) tells)
 
 told_alone : IsTold (codes "replay" ∷ [])
-told_alone = by_rows _ _ taken_alone given_alone (refl, tt)
+told_alone = by_rows (codes "replay" ∷ []) _ taken_alone given_alone (refl, tt)
 
 told_replay : (name : Text) → IsPlain name → IsTold (codes "replay" ∷ name ∷ [])
 told_replay name p = subst (λ name. IsTold (codes "replay" ∷ name ∷ [])) (sym p.2)
-    (by_rows _ _ (taken_replay p.0 p.1 p.3) (given_replay p.0 p.1 p.3) (refl, subst IsAsciiText p.2 p.4))
+    (by_rows (codes "replay" ∷ (p.0 ∷ p.1) ∷ []) _ (taken_replay p.0 p.1 p.3) (given_replay p.0 p.1 p.3) (refl, subst IsAsciiText p.2 p.4))
 
 told_explain : (name : Text) → IsPlain name → IsTold (codes "explain" ∷ name ∷ [])
 told_explain name p = subst (λ name. IsTold (codes "explain" ∷ name ∷ [])) (sym p.2)
-    (by_rows _ _ (taken_explain p.0 p.1 p.3) (given_explain p.0 p.1 p.3) (refl, subst IsAsciiText p.2 p.4))
+    (by_rows (codes "explain" ∷ (p.0 ∷ p.1) ∷ []) _ (taken_explain p.0 p.1 p.3) (given_explain p.0 p.1 p.3) (refl, subst IsAsciiText p.2 p.4))
 
 told_make : (seed count : Text) → IsPlain seed → IsPlain count → IsTold (codes "make" ∷ seed ∷ count ∷ [])
 told_make seed count p q =
     subst (λ seed. IsTold (codes "make" ∷ seed ∷ count ∷ [])) (sym p.2)
     (subst (λ count. IsTold (codes "make" ∷ (p.0 ∷ p.1) ∷ count ∷ [])) (sym q.2)
-    (by_rows _ _ (taken_make p.0 q.0 p.1 q.1 p.3 q.3) (given_make p.0 q.0 p.1 q.1 p.3 q.3) (refl, tt)))
+    (by_rows (codes "make" ∷ (p.0 ∷ p.1) ∷ (q.0 ∷ q.1) ∷ []) _ (taken_make p.0 q.0 p.1 q.1 p.3 q.3) (given_make p.0 q.0 p.1 q.1 p.3 q.3) (refl, tt)))
 
 -- ---- by the words
 

@@ -102,10 +102,10 @@ taken_make x y xs ys n m =
     ap (λ b. b && true) (two_passes s (next s.rules nothing_held 1 (x ∷ xs)).held x y xs ys n m refl)
 
 -- the rows of a verb's one text, and of its two
-abbrev text_rows : App → Text → List Row
+abbrev pub text_rows : App → Text → List Row
 text_rows a word = finished (leaf a).rules (next (leaf a).rules nothing_held 1 word).held
 
-abbrev texts_rows : App → Text → Text → List Row
+abbrev pub texts_rows : App → Text → Text → List Row
 texts_rows a word second = finished (leaf a).rules (next (leaf a).rules (next (leaf a).rules nothing_held 1 word).held 2 second).held
 
 pub given_alone : subcommand_of forms (codes "replay" ∷ []) ≡ Some (codes "replay", [])

@@ -12,10 +12,17 @@ use script_text::form::is_text;
 const MOST_MADE: u64 = 2_000;
 
 /// Whether the words are of a form.
+#[tactic(auto, using(crate::proofs::Plain::listed_of_plain, crate::proofs::Plain::none_of_other))]
 pub(crate) fn is_of_form(words: &[String]) -> bool
     ensures { result ≡ is_some (command_of words.now) }
 {
-    words.iter().all(|word| is_plain(word.as_bytes())) && is_listed(words)
+    all_plain(words) && is_listed(words)
+}
+
+fn all_plain(words: &[String]) -> bool
+    ensures { result ≡ list_all (λ word. is_plain_of (string_bytes word)) words.now }
+{
+    words.iter().all(|word| is_plain(word.as_bytes()))
 }
 
 /// Whether plain words are of a form.

@@ -4,7 +4,8 @@ ghost use Rattle.cv_io.specs.Text.{IsAsciiText};
 ghost use Rattle.clap.specs.Words.{found_of, first_of, rows_of};
 ghost use Rattle.command_line.specs.Meaning.{NamesAscii, meant_by, replaying};
 ghost use Rattle.command_line.specs.Forms.{count_in, making as making_of, seed_in};
-ghost use Rattle.std.specs.Prelude.{codes, option_and_then};
+ghost use Rattle.std.specs.Prelude.{option_and_then};
+ghost use Rattle.command_line.specs.declared.command.Command.TheVariants.{ExplainPolicy};
 
 use crate::command::Command;
 use crate::forms::{read_count, read_seed};
@@ -24,7 +25,7 @@ pub(crate) fn meant(alloc: Global, verb: &str, given: &ArgMatches<'_>) -> Result
         Ok(Some(replaying(name)))
     } else if is_text(verb, "explain") {
         let name = text(alloc, given.get_str("POLICY"))?;
-        Ok(name.map(|name| Command::ExplainPolicy { name }))
+        Ok(explaining(name))
     } else if is_text(verb, "make") {
         Ok(making(given.get_str("SEED"), given.get_str("N")))
     } else {
@@ -39,6 +40,16 @@ fn replaying(name: Option<Text>) -> Command
     match name {
         Some(name) => Command::ReplayPolicy { name },
         None => Command::Replay,
+    }
+}
+
+/// `explain`, over the policy of a file.
+fn explaining(name: Option<Text>) -> Option<Command>
+    ensures { result ≡ option_map (λ name. ExplainPolicy name) name }
+{
+    match name {
+        Some(name) => Some(Command::ExplainPolicy { name }),
+        None => None,
     }
 }
 

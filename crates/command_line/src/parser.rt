@@ -1,5 +1,5 @@
 //! The forms as `clap` knows them, and the words as it matches them.
-ghost use Rattle.std.specs.Prelude.{◌≡◌, IfOk, IsSome, false, map};
+ghost use Rattle.std.specs.Prelude.{◌≡◌, IfOk, false, is_some, map, true};
 ghost use Rattle.std.specs.String.{string_bytes};
 ghost use Rattle.clap.specs.Words.{app_of, kind_of, rule_of, subcommand_of, subcommand_rows_of};
 ghost use Rattle.command_line.specs.Forms.{command_of};
@@ -13,7 +13,7 @@ use std::alloc::{AllocError, Global};
 
 /// What `clap` matches of words that are of a form. It refuses them only for want of memory.
 pub(crate) fn matched<'a>(alloc: Global, words: &'a [String]) -> Result<ArgMatches<'a>, Memory>
-    requires { IsSome (command_of words.now) }
+    requires { is_some (command_of words.now) ≡ true }
     ensures { IfOk result (λ matches. subcommand_rows_of matches ≡ subcommand_of forms_of (map string_bytes words.now)) }
 {
     match forms(alloc)?.try_get_matches_from(words) {
