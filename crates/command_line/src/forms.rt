@@ -32,7 +32,8 @@ fn is_listed(words: &[String]) -> bool
     match words {
         [verb] => is_text(verb.as_bytes(), "replay"),
         [verb, _] => is_text(verb.as_bytes(), "replay") || is_text(verb.as_bytes(), "explain"),
-        [verb, seed, count] => is_text(verb.as_bytes(), "make") && is_making(seed.as_bytes(), count.as_bytes()),
+        [verb, seed, count] => is_text(verb.as_bytes(), "make")
+            && is_making(seed.as_bytes(), count.as_bytes()),
         _ => false,
     }
 }

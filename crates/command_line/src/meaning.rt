@@ -15,7 +15,11 @@ use script_text::form::is_text;
 use std::alloc::Global;
 
 /// What a verb asks for with its texts.
-pub(crate) fn meant(alloc: Global, verb: &str, given: &ArgMatches<'_>) -> Result<Option<Command>, Memory>
+pub(crate) fn meant(
+    alloc: Global,
+    verb: &str,
+    given: &ArgMatches<'_>,
+) -> Result<Option<Command>, Memory>
     requires { NamesAscii (rows_of (found_of given.now)) }
     ensures { IfOk result (λ command. command ≡ meant_by verb.now (rows_of (found_of given.now))) }
 {

@@ -32,7 +32,10 @@ const LINES: [(&str, &str); 22] = [
     ("explain", "no form"),
     ("explain a.policy", "explain a.policy"),
     ("make 0 1", "make 0 1"),
-    ("make 18446744073709551615 2000", "make 18446744073709551615 2000"),
+    (
+        "make 18446744073709551615 2000",
+        "make 18446744073709551615 2000",
+    ),
     ("make 18446744073709551616 1", "no form"),
     ("make 1 0", "no form"),
     ("make 1 2001", "no form"),
