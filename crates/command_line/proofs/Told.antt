@@ -1,6 +1,6 @@
 -- What `clap` matches of words of a form tells the form.
-use Rattle.std.proofs.Common.{◌≡◌, ◌∙◌, ◌<◌, ◌≤◌, ℕ, zero, suc, Bool, true, false, cond, List, [], ◌∷◌, length, Option, Some, None, is_some, map, refl, sym, subst, ap, arith, codes}
-use Rattle.std.specs.Prelude.{◌==◌, ◌&&◌, IfSome, not, nat_le}
+use Rattle.std.proofs.Common.{◌≡◌, ℕ, Bool, true, false, cond, List, [], ◌∷◌, length, Option, Some, None, is_some, map, refl, sym, subst, arith, codes}
+use Rattle.std.specs.Prelude.{◌==◌, ◌&&◌, not, nat_le}
 use Rattle.std.specs.List.{list_all, slice_index_or}
 use Rattle.std.specs.Str.{bytes_eq}
 use Rattle.std.proofs.lemmas.Slice.Eq.{bytes_eq-Decides}
@@ -15,8 +15,8 @@ use Rattle.command_line.specs.Forms.{command_of, count_in, form_of, is_plain, is
 use Rattle.command_line.specs.declared.command.Command.{Command}
 use Rattle.command_line.specs.declared.command.Command.TheVariants.{Replay, ReplayPolicy, ExplainPolicy}
 use Rattle.command_line.specs.Meaning.{NamesAscii, meant_by}
-use Rattle.command_line.specs.Parser.{explain_form, forms, make_form, replay_form}
-use Rattle.command_line.proofs.Walks.{given_alone, given_explain, given_make, given_replay, taken_alone, taken_explain, taken_make, taken_replay, text_rows, texts_rows}
+use Rattle.command_line.specs.Parser.{forms}
+use Rattle.command_line.proofs.Walks.{given_alone, given_explain, given_make, given_replay, taken_alone, taken_explain, taken_make, taken_replay}
 
 both : (a b : Bool) → (a && b) ≡ true → (a ≡ true) × (b ≡ true)
 both true b e = (refl, e)
@@ -43,7 +43,8 @@ printable_is_ascii word e = λ k d lt.
 pub plain_word : (word : Text) → is_plain word ≡ true → IsPlain word
 plain_word [] e = absurd cc
 plain_word (x ∷ xs) e =
-    let p = both (not (x == 45)) (list_all is_printable (x ∷ xs)) e in
+    let q = both (not (length (x ∷ xs) == 0)) (not (x == 45) && list_all is_printable (x ∷ xs)) e in
+    let p = both (not (x == 45)) (list_all is_printable (x ∷ xs)) q.1 in
     (x, xs, refl, is_false (x == 45) p.0, printable_is_ascii (x ∷ xs) p.1)
 
 -- ---- what is told

@@ -1,4 +1,4 @@
-use Rattle.std.proofs.Common.{◌≡◌, ◌∙◌, Some, true, false, ap, ap₂, codes, sym}
+use Rattle.std.proofs.Common.{◌≡◌, ◌∙◌, Some, true, false, ap, ap₂, codes, rules}
 use Rattle.std.specs.Str.{bytes_eq}
 use Rattle.clap.specs.Words.{Text, found_of, rows_of}
 use Rattle.clap.proofs.WalkLemmas.{first_value-rows}
