@@ -17,8 +17,8 @@ use Rattle.covisor_proxy.specs.Asked.{over, over_built_in, over_file, report_for
 use Rattle.covisor_proxy.specs.Chunks.{Gave, IsAtEnd}
 use Rattle.covisor_proxy.specs.Opening.{AnswersTo, Holds}
 use Rattle.covisor_proxy.specs.Runs.{Ended, EndsOver}
-use Rattle.covisor_proxy.specs.declared.words.Command.{Command}
-use Rattle.covisor_proxy.specs.declared.words.Command.TheVariants as commands
+use Rattle.command_line.specs.declared.command.Command.{Command}
+use Rattle.command_line.specs.declared.command.Command.TheVariants as commands
 use Rattle.covisor_proxy.specs.Following.{Alone, Breaks, Comes, EndsWith, Reaches, StopsWith, Writes}
 use Rattle.covisor_proxy.specs.Outcomes.{Begins, BreaksOff, Ends, Finishes, IsScript, Moment, Settles, Tells, bytes_of, code_of}
 use Rattle.covisor_proxy.specs.Written.{Appends, AppendsSome}

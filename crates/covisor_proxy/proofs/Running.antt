@@ -18,8 +18,8 @@ use Rattle.covisor_proxy.specs.Outcomes.{BreaksOff, Ends, IsScript, Moment, Sett
 use Rattle.covisor_proxy.specs.Runs.{IsAbsent, IsComplete, IsQuiet, IsRefused, Runs, name_in}
 use Rattle.covisor_proxy.specs.declared.status.Status.{Status}
 use Rattle.covisor_proxy.specs.declared.status.Status.TheVariants as statuses
-use Rattle.covisor_proxy.specs.declared.words.Command.{Command}
-use Rattle.covisor_proxy.specs.declared.words.Command.TheVariants as commands
+use Rattle.command_line.specs.declared.command.Command.{Command}
+use Rattle.command_line.specs.declared.command.Command.TheVariants as commands
 use Rattle.covisor_proxy.proofs.Statuses.{IsEither, either_report}
 
 -- a status is known by its code

@@ -12,8 +12,8 @@ use Rattle.replay_report.specs.Reports.{Report, cut_report_of, lone, report_of}
 use Rattle.script_text.specs.declared.form.Form.{Form}
 use Rattle.script_text.specs.declared.form.Form.TheVariants as forms
 use Rattle.covisor_proxy.specs.BuiltIn.{built_in_read}
-use Rattle.covisor_proxy.specs.declared.words.Command.{Command}
-use Rattle.covisor_proxy.specs.declared.words.Command.TheVariants.{Replay, ReplayPolicy, ExplainPolicy, Make}
+use Rattle.command_line.specs.declared.command.Command.{Command}
+use Rattle.command_line.specs.declared.command.Command.TheVariants.{Replay, ReplayPolicy, ExplainPolicy, Make}
 
 -- the policy that the bytes of a file state, or the first fault of them
 unfoldable pub stated : List ℕ → Result PolicyOf PolicyFault

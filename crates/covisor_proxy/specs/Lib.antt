@@ -1,4 +1,3 @@
-pub mod Words
 pub mod Written
 pub mod Chunks
 pub mod BuiltIn

@@ -9,8 +9,8 @@ use Rattle.policy_file.specs.Policies.{PolicyOf}
 use Rattle.covisor_proxy.specs.Asked.{stated}
 use Rattle.covisor_proxy.specs.declared.opening.NoPolicy.{NoPolicy}
 use Rattle.covisor_proxy.specs.declared.opening.NoPolicy.TheVariants as none
-use Rattle.covisor_proxy.specs.declared.words.Command.{Command}
-use Rattle.covisor_proxy.specs.declared.words.Command.TheVariants.{Replay, ReplayPolicy, ExplainPolicy, Make}
+use Rattle.command_line.specs.declared.command.Command.{Command}
+use Rattle.command_line.specs.declared.command.Command.TheVariants.{Replay, ReplayPolicy, ExplainPolicy, Make}
 
 -- the files hold this under a name, where they tell what they hold
 abbrev pub Holds : Option (List MemFile) → List ℕ → Option (List ℕ) → Type 0

@@ -11,8 +11,8 @@ use Rattle.covisor_proxy.specs.Asked.{cut_report_for, over_file, report_for, sta
 use Rattle.covisor_proxy.specs.Opening.{Answers, AnswersTo, Holds}
 use Rattle.covisor_proxy.specs.Outcomes.{Ends, IsScript, Moment, code_of}
 use Rattle.covisor_proxy.specs.declared.status.Status.{Status}
-use Rattle.covisor_proxy.specs.declared.words.Command.{Command}
-use Rattle.covisor_proxy.specs.declared.words.Command.TheVariants.{Replay, ReplayPolicy, ExplainPolicy, Make}
+use Rattle.command_line.specs.declared.command.Command.{Command}
+use Rattle.command_line.specs.declared.command.Command.TheVariants.{Replay, ReplayPolicy, ExplainPolicy, Make}
 
 -- the name of the policy file, if the command has one
 abbrev pub name_in : Option Command → Option (List ℕ)

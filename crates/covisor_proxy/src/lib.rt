@@ -10,7 +10,6 @@ mod replay;
 mod status;
 mod stop;
 mod telling;
-mod words;
 mod writing;
 
 pub use program::{MEMORY, run};

@@ -4,12 +4,12 @@ ghost use Rattle.cv_io.specs.Outside.{Rose};
 ghost use Rattle.covisor_proxy.specs.Chunks.{IsAtEnd};
 ghost use Rattle.covisor_proxy.specs.Outcomes.{moment};
 ghost use Rattle.covisor_proxy.specs.Runs.{Ended, IsAbsent, IsComplete, IsRefused, Runs, has_script};
-ghost use Rattle.covisor_proxy.specs.Words.{command_of};
+ghost use Rattle.command_line.specs.Forms.{command_of};
 
 use crate::ending::write_fault;
 use crate::forms::{make, replay_built_in, replay_file};
 use crate::status::Status;
-use crate::words::{Command, asked};
+use command_line::{Command, asked};
 use cv_io::{Files, Sink, Source, Steps};
 use script_text::Form;
 use std::alloc::Global;

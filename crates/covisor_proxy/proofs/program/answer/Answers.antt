@@ -1,6 +1,6 @@
 use Rattle.std.proofs.Common.{refl}
 use Rattle.covisor_proxy.specs.Outcomes.{moment}
-use Rattle.covisor_proxy.specs.Words.{command_of}
+use Rattle.command_line.specs.Forms.{command_of}
 use Rattle.covisor_proxy.proofs.Finishing.{ended-wanted}
 use Rattle.covisor_proxy.proofs.program.answer.Goals as goal
 

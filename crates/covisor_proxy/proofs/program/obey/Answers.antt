@@ -5,8 +5,8 @@ use Rattle.make_report.specs.Making.{made_of}
 use Rattle.covisor_proxy.specs.Asked.{cut_report_for, report_for}
 use Rattle.covisor_proxy.specs.Outcomes.{moment}
 use Rattle.covisor_proxy.specs.Runs.{Ended}
-use Rattle.covisor_proxy.specs.declared.words.Command.{Command}
-use Rattle.covisor_proxy.specs.declared.words.Command.TheVariants.{Make}
+use Rattle.command_line.specs.declared.command.Command.{Command}
+use Rattle.command_line.specs.declared.command.Command.TheVariants.{Make}
 use Rattle.covisor_proxy.proofs.Finishing.{ends-made}
 use Rattle.covisor_proxy.proofs.program.obey.Goals as goal
 

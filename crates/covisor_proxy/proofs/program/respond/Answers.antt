@@ -2,7 +2,7 @@ use Rattle.std.proofs.Common.{None, Option, subst, sym}
 use Rattle.covisor_proxy.specs.Outcomes.{moment}
 use Rattle.covisor_proxy.specs.Runs.{Ended}
 use Rattle.covisor_proxy.specs.declared.status.Status.{Status}
-use Rattle.covisor_proxy.specs.declared.words.Command.{Command}
+use Rattle.command_line.specs.declared.command.Command.{Command}
 use Rattle.covisor_proxy.proofs.Finishing.{ended-usage}
 use Rattle.covisor_proxy.proofs.program.respond.Goals as goal
 

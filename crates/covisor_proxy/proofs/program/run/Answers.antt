@@ -1,7 +1,7 @@
 use Rattle.std.proofs.Common.{◌∙◌, sym}
 use Rattle.covisor_proxy.specs.Outcomes.{moment}
 use Rattle.covisor_proxy.specs.Runs.{IsComplete}
-use Rattle.covisor_proxy.specs.Words.{command_of}
+use Rattle.command_line.specs.Forms.{command_of}
 use Rattle.std.proofs.Common.{ℕ, subst}
 use Rattle.covisor_proxy.proofs.Running.{absent-run, complete-run, read-run, refused-run}
 use Rattle.covisor_proxy.proofs.program.run.Goals as goal
