@@ -1,7 +1,7 @@
 //! Works that run beside one another.
 ghost use Rattle.std.specs.Prelude.{◌≡◌, ◌≤◌, ℕ, OnOk, OnErr};
 ghost use Rattle.cv_io.specs.Outside.{Rose};
-ghost use Rattle.cv_io.specs.Works.{AllChanged};
+ghost use Rattle.cv_io.specs.Works.{AllChanged, AllReady};
 
 use crate::calls::Failed;
 use crate::list::List;
@@ -10,10 +10,14 @@ use std::thread::Threads;
 
 /// A piece of work.
 pub trait Work: Send {
+    // What holds of the work before it is done.
+    ghost ready: { Self → Type 0 };
+
     // How the work is after it, from how it was before.
     ghost changes: { Self → Self → Type 0 };
 
     fn work(&mut self)
+        requires { ready self.old }
         ensures { changes self.old self.new };
 }
 
@@ -34,6 +38,7 @@ pub trait Spawner {
         rt: &R,
         works: &mut List<W>,
     ) -> Result<(), Failed>
+        requires { AllReady W.ready works.old }
         ensures done { OnOk result (AllChanged W.changes works.old works.new) }
         ensures none { OnErr result (works.new ≡ works.old) }
         ensures quiet { OnOk result (faults self.new ≡ faults self.old) }
@@ -67,8 +72,13 @@ impl Spawner for ScopeSpawner {
 /// Runs each work in a thread of its own, and joins them all. Where no thread can be had the caller
 /// does the work itself.
 fn run_all<R: Threads + Sync, W: Work + Send>(rt: &R, works: &mut [W])
+    requires { AllReady W.ready works.old }
     ensures { AllChanged W.changes works.old works.new }
 {
     let threads = works.len().max(1);
-    thread::for_each_mut(rt, works, threads, &|_, work| work.work());
+    let done = |_: usize, work: &mut W|
+        requires { W.ready work.now }
+        ensures { W.changes work.entry.now work.exit.now }
+    { work.work() };
+    thread::for_each_mut(rt, works, threads, &done);
 }

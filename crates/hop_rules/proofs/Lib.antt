@@ -25,3 +25,14 @@ pub mod Settled
 pub mod Changing
 pub mod Noted
 pub mod Stage
+pub mod Numbering
+pub mod Stages
+pub mod Costs
+pub mod Changes
+pub mod Climbs
+pub mod Deltas
+pub mod Keeping
+pub mod Levelling
+pub mod Empties
+pub mod Risings
+pub mod Through

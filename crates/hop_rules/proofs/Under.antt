@@ -9,7 +9,7 @@ use Rattle.std.proofs.lemmas.List.{append-nil, take_all, take_more}
 use Rattle.std.proofs.lemmas.List.Sorted.{IsPermutation-append_left, IsPermutation-trans}
 use Rattle.list_change.proofs.Permute.{by-equation, permuted-flat_map}
 use Rattle.policy_meaning.proofs.Rising.{all-permuted}
-use Rattle.rule_ancestry.specs.Holding.{Held, id_of, item_at}
+use Rattle.rule_ancestry.specs.Holding.{Held, id_of, item_at, item_of}
 use Rattle.rule_ancestry.proofs.Lists.{found-all}
 use Rattle.hop_rules.proofs.Names.{is-same}
 use Rattle.hop_rules.specs.Under.{AreFound, held_under, one_held, under}
@@ -45,6 +45,17 @@ module _ {R : Type 0} where
   pub under-ids : (held hs : List (Held R)) → AreFound held hs → under held (map id_of hs) ≡ hs
   under-ids held [] a = refl
   under-ids held (h ∷ hs) a = ap (λ z. z ++ under held (map id_of hs)) (held-some held h.id h.item a.0) ∙ ap (λ z. h ∷ z) (under-ids held hs a.1)
+
+  -- all that is held
+  pub under-itself : (held : List (Held R)) → IsStrictlySortedBy nat_cmp (map id_of held) → under held (map id_of held) ≡ held
+  under-itself held up = under-ids held held (found-all held up)
+
+  -- the item of an id, if there is one
+  pub item-added : (held : List (Held R)) (id : ℕ) (r : R) (old : List R) → item_at held id ≡ Some r → old ++ r ∷ [] ≡ old ++ map item_of (held_under held id)
+  item-added held id r old e = ap (λ z. old ++ map item_of z) (sym (held-some held id r e))
+
+  pub none-added : (held : List (Held R)) (id : ℕ) (old : List R) → item_at held id ≡ None → old ≡ old ++ map item_of (held_under held id)
+  none-added held id old e = sym (append-nil old) ∙ ap (λ z. old ++ map item_of z) (sym (held-none held id e))
 
   pub under-permuted : (held : List (Held R)) (ids js : List ℕ) → IsPermutation ids js → IsPermutation (under held ids) (under held js)
   under-permuted held ids js p = permuted-flat_map (held_under held) ids js p

@@ -5,3 +5,10 @@ pub mod Items
 pub mod Handed
 pub mod Nodes
 pub mod Turns
+pub mod Levels
+pub mod Tables
+pub mod Counts
+pub mod Kept
+pub mod Building
+pub mod Telling
+pub mod Climbing

@@ -1,6 +1,6 @@
 -- Where the links of a topology lead from its virtual switches.
 use Rattle.std.specs.Prelude.{ℕ, ◌==◌, Option, Some, None, List, if◌then◌else◌, filter_map, flat_map, map}
-use Rattle.std.specs.Prelude.{option_map, slice_get, []}
+use Rattle.std.specs.Prelude.{option_map, slice_get, slice_index_or, []}
 use Rattle.std.specs.List.{enumerate_from}
 use Rattle.std.specs.Option.{option_map_or}
 use Rattle.policy_meaning.specs.declared.network.Link.{Link}
@@ -27,6 +27,16 @@ port_ends plan (v, x) = filter_map (end plan v) x.ports
 -- the ends of all links, by virtual switch
 abbrev pub ends : TopologyPlan → List LinkEnd
 ends plan = flat_map (port_ends plan) (enumerate_from 0 plan.virtuals)
+
+-- where the link of an end leads, by the place of the end among all
+abbrev pub no_place : Place
+no_place = record { v = 0; port = 0 }
+
+abbrev pub no_end : LinkEnd
+no_end = record { v = 0; port = 0; peer = no_place }
+
+abbrev pub peer_at : List LinkEnd → ℕ → Place
+peer_at es k = (slice_index_or es k no_end).peer
 
 -- an end of this virtual switch, with its place among all
 abbrev pub exit_at : ℕ → ℕ × LinkEnd → Option Exit

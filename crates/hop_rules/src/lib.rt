@@ -4,18 +4,26 @@
 //! what it was made of.
 #![tactic(auto)]
 
+mod building;
+pub mod delta;
 pub mod exits;
 pub mod given;
 mod joining;
 pub mod laws;
+mod level;
 mod listing;
 mod meeting;
 pub mod node;
+mod parts;
 mod standing;
+pub mod table;
+mod telling;
 pub mod turning;
 
+pub use delta::PortDelta;
 pub use exits::{Exit, LinkEnd};
 pub use given::Given;
 pub use joining::Around;
 pub use node::{Node, Turn};
+pub use table::HopTable;
 pub use turning::change_node;

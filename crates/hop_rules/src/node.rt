@@ -175,8 +175,11 @@ impl Node {
 
     /// The ids of the rules, rising.
     pub fn ids(&self) -> Result<Vec<usize>, Memory>
-        ensures { IfOk result (λ ids. ids.items ≡ map id_of (rules_in self.now.held)) }
+        ensures ids { IfOk result (λ ids. ids.items ≡ map id_of (rules_in self.now.held)) }
+        ensures rising { Rises (rules_in self.now.held) }
     {
+        // That no two are held under one id.
+        let _count = self.store.len();
         self.store.ids()
     }
 

@@ -170,8 +170,11 @@ virtual_sound = record {
       let d = done (found s (codes "ports") (read_at virtual_ports (codes "ports") ms)) _ x c.second in
       let same : record { name = c.value; dpid = a.value; ports = d.value; expr = b.value } ≡ x = cc d.second in
       let read = found_some s (codes "ports") _ d.value d.first in
-      subst IsSoundVirtual same
-      (record { ports = virtual_ports_within (get_member (codes "ports") ms) d.value read });
+      let named : is_name c.value ≡ true = read_passes is_name (codes "name") ms c.value (new_among (name_is_taken (λ (s : VirtualItem). s.name) earlier) (read_at name (codes "name") ms) c.value (found_some s (codes "name") _ c.value c.first)) in
+      subst IsSoundVirtual same (record {
+        name = named;
+        ports = virtual_ports_within (get_member (codes "ports") ms) d.value read;
+      });
 }
 
 switches_unlike : IsReadApart switch AreUnlikeSwitches

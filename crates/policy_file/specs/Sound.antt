@@ -84,6 +84,7 @@ pub record IsSoundSwitch (s : SwitchItem) : Type 0 where
 
 -- and so have those of a virtual switch
 pub record IsSoundVirtual (v : VirtualItem) : Type 0 where
+  pub name : is_name v.name ≡ true
   pub ports : AllByRecursion (λ (q : VirtualPort). IsPortNumber q.port) v.ports
 
 -- two switches have neither one name nor one datapath id

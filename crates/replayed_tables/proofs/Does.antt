@@ -36,7 +36,6 @@ use Rattle.written_tables.specs.Laws.{WhatIsPutWaits}
 use Rattle.written_tables.specs.Making.{Makes, brings_up, made_by}
 use Rattle.written_tables.proofs.InOrder.{made_both}
 use Rattle.written_tables.proofs.Reported.{made_same, names_are_words}
-use Rattle.replayed_tables.specs.Since.{HasNames}
 use Rattle.replayed_tables.proofs.Emptied.{IsBare, IsGood, all_good, all_make, all_silent, switches_bare, taken_good}
 use Rattle.replayed_tables.proofs.Names.{members_apart, same_self, session_words, unlike}
 use Rattle.replayed_tables.proofs.Numbers.{does_after}
@@ -95,7 +94,7 @@ pub record AreLaws : Type 0 where
   pub reads : MessagesAreReadBack
   pub reports : ReportsAreReadBack
 
-module _ (l : AreLaws) (p : PolicyOf) (policy : IsSound p) (names : HasNames p) where
+module _ (l : AreLaws) (p : PolicyOf) (policy : IsSound p) where
   -- the report of an event is made of these lines
   does_text : (e : Event) (s : State) → (does p e s).text ≡ report_with (lines_of p (after p s e))
   unfolding does
@@ -114,9 +113,9 @@ module _ (l : AreLaws) (p : PolicyOf) (policy : IsSound p) (names : HasNames p) 
   does_plain e s silent =
       let t = after p s e in
       all_joined IsPlain (map Other t.audit) (told_of (sessions_of p) (emptied Audit t))
-      (lines_plain p policy names t.audit
+      (lines_plain p policy t.audit
       (l.audit p s e (subst (AllByRecursion (IsAuditLine p)) (sym silent) tt)))
-      (told_plain (sessions_of p) (session_words p policy names) (emptied Audit t))
+      (told_plain (sessions_of p) (session_words p policy) (emptied Audit t))
 
   -- of the lines to a switch, the messages are those that wait for it
   does_said : (t : State) (n : ℕ) (item : SwitchItem) → slice_get p.switches n ≡ Some item

@@ -49,7 +49,7 @@ use Rattle.replay_report.specs.declared.sessions.Named.{Named}
 use Rattle.replay_report.specs.declared.streams.Stream.{Stream}
 use Rattle.written_tables.specs.Making.{Makes, brings_up}
 use Rattle.written_tables.proofs.Reported.{names_are_words}
-use Rattle.replayed_tables.specs.Since.{HasNames, IsLine, brings}
+use Rattle.replayed_tables.specs.Since.{HasFewVirtuals, IsLine, brings}
 use Rattle.replayed_tables.proofs.Does.{AreLaws, IsDone, IsIdle, IsTold, event_done}
 use Rattle.replayed_tables.proofs.Emptied.{round_fits}
 use Rattle.replayed_tables.proofs.Frames.{EachByte, each_both, each_rest, frames_bytes}
@@ -108,7 +108,7 @@ virtual_below v name (x ∷ xs) k e = by (pointwise nat_eq x.name name) e (virtu
     by true i f = let same : v ≡ k = cc i in omega (arith, same)
     by false i f = let lt = f i in omega (arith, lt)
 
-module _ (l : AreLaws) (p : PolicyOf) (policy : IsSound p) (names : HasNames p) where
+module _ (l : AreLaws) (p : PolicyOf) (policy : IsSound p) (few : HasFewVirtuals p) where
   -- lines that are no messages
   said_plain : (s : State) → IsIdle p s → (lines : List (List ℕ)) → AllByRecursion IsPlain (map Other lines)
       → IsDone p s s none (report_with (map Other lines))
@@ -137,7 +137,7 @@ module _ (l : AreLaws) (p : PolicyOf) (policy : IsSound p) (names : HasNames p) 
   plain_event : (e : Event) (s : State) → ((n : ℕ) → brings_up n e ≡ false) → IsIdle p s → IsEvent e
       → HasNumbers (does p e s).state → IsDone p s (does p e s).state none (does p e s).text
   plain_event e s quiet idle given left =
-      let d = event_done l p policy names e s idle given left in
+      let d = event_done l p policy e s idle given left in
       record {
         idle = d.idle;
         told = λ n report h.
@@ -259,7 +259,7 @@ module _ (l : AreLaws) (p : PolicyOf) (policy : IsSound p) (names : HasNames p) 
       → IsPlayed (λ n. is_switch n (Some x.who)) stand (comes_up p noarp stand x)
   up_done noarp stand going x left =
       let e = events.Up x.who (tells_arp x.who noarp) in
-      let d = event_done l p policy names e stand.state going.0 tt left in (
+      let d = event_done l p policy e stand.state going.0 tt left in (
         record {
           idle = d.idle;
           told = λ n report h.
@@ -313,7 +313,7 @@ module _ (l : AreLaws) (p : PolicyOf) (policy : IsSound p) (names : HasNames p) 
       let found = explained (plan p) net p.hops (standing at.switch) at bytes in (
         subst (IsDone p stand.state stand.state none) (answer_text_is bytes found)
             (said_plain stand.state going.0 (map (finding_text p bytes) found)
-            (findings_plain p policy names bytes found)),
+            (findings_plain p policy bytes found)),
         going.1,
       )
 
@@ -337,7 +337,7 @@ module _ (l : AreLaws) (p : PolicyOf) (policy : IsSound p) (names : HasNames p) 
       → session_named p name ≡ o → Plays none stand (option_map (sent p name bytes stand) o)
   from_plays name bytes given stand going None at = tt
   from_plays name bytes given stand going (Some x) at = λ left.
-      from_done name (found_word 0 name (sessions_of p) (session_words p policy names) x at) bytes given stand going x
+      from_done name (found_word 0 name (sessions_of p) (session_words p policy) x at) bytes given stand going x
       (slice_get stand.streams x.at) refl left
 
   gone_plays : (stand : Stand) → IsGoing stand → (o : Option Found) → Plays none stand (option_map (leaves p stand) o)
@@ -349,7 +349,6 @@ module _ (l : AreLaws) (p : PolicyOf) (policy : IsSound p) (names : HasNames p) 
   expr_plays name text given stand going None at = tt
   expr_plays name text given stand going (Some v) at = λ left.
       let lt = virtual_below 0 name p.virtuals v at in
-      let few = names.few in
       expr_done text given stand going v (omega (arith, lt, few)) left
 
   pub line_plays : (line : Line) → IsLine line → (stand : Stand) → IsGoing stand

@@ -21,7 +21,6 @@ use Rattle.machine_meaning.specs.Names.{switch_name}
 use Rattle.replay_report.specs.Sessions.{named_member, named_switch, sessions_of}
 use Rattle.replay_report.specs.declared.sessions.Named.{Named}
 use Rattle.written_tables.proofs.Reported.{name_word}
-use Rattle.replayed_tables.specs.Since.{HasNames}
 use Rattle.replayed_tables.proofs.Plain.{controller_word, vsw_word}
 
 -- a name is itself, and names differ whichever is named first
@@ -125,13 +124,13 @@ switch_words : (j : ℕ) (items : List SwitchItem) → AllByRecursion IsSoundSwi
 switch_words j [] h = tt
 switch_words j (x ∷ items) h = (name_word x.name h.0.name, switch_words (j + 1) items h.1)
 
-module _ (p : PolicyOf) (policy : IsSound p) (names : HasNames p) where
+module _ (p : PolicyOf) (policy : IsSound p) where
   member_words : (j : ℕ) (ms : List MemberItem) → AllByRecursion (IsSoundMember p.virtuals) ms
       → AllByRecursion (λ (x : Named). is_word x.name ≡ true) (map named_member (enumerate_from j ms))
   member_words j [] h = tt
   member_words j (m ∷ ms) h = (
     word_both (m.controller ++ 64 ∷ []) m.vsw
-        (word_both m.controller (64 ∷ []) (controller_word p policy names m h.0) refl) (vsw_word p policy names m h.0),
+        (word_both m.controller (64 ∷ []) (controller_word p policy m h.0) refl) (vsw_word p policy m h.0),
     member_words (j + 1) ms h.1,
   )
 

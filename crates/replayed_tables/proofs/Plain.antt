@@ -28,7 +28,7 @@ use Rattle.member_replies.specs.Audit.{session_name}
 use Rattle.member_replies.specs.Refusals.{deny_line, detail_text, name_of, reason_text, rule_text}
 use Rattle.policy_expr.specs.declared.fault.ExprFault.TheVariants as expr
 use Rattle.policy_file.specs.Policies.{PolicyOf}
-use Rattle.policy_file.specs.Sound.{IsSound, IsSoundMember}
+use Rattle.policy_file.specs.Sound.{IsSound, IsSoundMember, IsSoundVirtual}
 use Rattle.policy_file.specs.declared.policy.MemberItem.{MemberItem}
 use Rattle.policy_meaning.proofs.Booleans.{some_injective}
 use Rattle.pkt_bytes.specs.Rewritten.{rewritten}
@@ -44,7 +44,6 @@ use Rattle.machine_meaning.specs.Names.{switch_name, virtual_name}
 use Rattle.machine_meaning.specs.Replacing.{refusal_kind}
 use Rattle.written_tables.specs.AuditLines.{IsAuditLine, is_denied, is_down, is_noted, is_replaced, is_slow}
 use Rattle.written_tables.proofs.Reported.{name_word, names_are_words}
-use Rattle.replayed_tables.specs.Since.{HasNames}
 
 abbrev pub IsLineOf : List ℕ → Type 0
 IsLineOf text = is_line text ≡ true
@@ -187,18 +186,18 @@ there_is [] n lt e = omega (arith, lt)
 there_is (x ∷ xs) zero lt e = cc e
 there_is (x ∷ xs) (suc n) lt e = there_is xs n (omega (arith, lt)) e
 
-module _ (p : PolicyOf) (policy : IsSound p) (names : HasNames p) where
+module _ (p : PolicyOf) (policy : IsSound p) where
   switch_line : (n : ℕ) → IsLineOf (switch_name p n)
   switch_line n = word_line (switch_name p n) (names_are_words p policy n)
 
-  virtual_word : (xs : List VirtualItem) → AllByRecursion (λ (x : VirtualItem). is_word x.name ≡ true) xs → (i : ℕ)
+  virtual_word : (xs : List VirtualItem) → AllByRecursion IsSoundVirtual xs → (i : ℕ)
       → is_word (option_map_or (λ (x : VirtualItem). x.name) (slice_get xs i) []) ≡ true
   virtual_word [] h i = refl
-  virtual_word (x ∷ xs) h zero = h.0
+  virtual_word (x ∷ xs) h zero = name_word x.name h.0.name
   virtual_word (x ∷ xs) h (suc i) = virtual_word xs h.1 i
 
   virtual_line : (v : ℕ) → IsLineOf (virtual_name p v)
-  virtual_line v = word_line (virtual_name p v) (virtual_word p.virtuals names.words v)
+  virtual_line v = word_line (virtual_name p v) (virtual_word p.virtuals policy.limits.virtuals v)
 
   member_at : (ms : List MemberItem) → AllByRecursion (IsSoundMember p.virtuals) ms → (n : ℕ) (m : MemberItem)
       → slice_get ms n ≡ Some m → IsSoundMember p.virtuals m
@@ -219,7 +218,7 @@ module _ (p : PolicyOf) (policy : IsSound p) (names : HasNames p) where
       by (Some v) at e =
           subst (λ (name : List ℕ). is_word name ≡ true) e
           (subst (λ (o : Option VirtualItem). is_word (option_map_or (λ (x : VirtualItem). x.name) o []) ≡ true) at
-          (virtual_word p.virtuals names.words m.grant.ports.v))
+          (virtual_word p.virtuals policy.limits.virtuals m.grant.ports.v))
 
   -- controller and virtual switch, with words about them
   session_line : (m : MemberItem) → IsSoundMember p.virtuals m → IsLineOf (session_name m.controller m.vsw)

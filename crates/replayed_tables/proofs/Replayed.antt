@@ -30,7 +30,7 @@ use Rattle.replay_report.specs.declared.sessions.Found.{Found}
 use Rattle.replay_report.specs.declared.sessions.Named.{Named}
 use Rattle.replay_report.specs.declared.streams.Stream.{Stream}
 use Rattle.written_tables.specs.Laws.{MadeTablesAgree}
-use Rattle.replayed_tables.specs.Since.{HasNames, IsLine, ReplayedTablesAgree, after_line, brings, report_after}
+use Rattle.replayed_tables.specs.Since.{HasFewVirtuals, IsLine, ReplayedTablesAgree, after_line, brings, report_after}
 use Rattle.replayed_tables.specs.Since.{report_from, report_more, reported_since, stand_of}
 use Rattle.replayed_tables.proofs.Does.{AreLaws, IsTold}
 use Rattle.replayed_tables.proofs.Frames.{EachByte}
@@ -130,9 +130,9 @@ module _ (p : PolicyOf) where
 
 -- lines --------------------------------------------------------------------------------------------------------------
 
-module _ (l : AreLaws) (p : PolicyOf) (policy : IsSound p) (names : HasNames p) where
+module _ (l : AreLaws) (p : PolicyOf) (policy : IsSound p) (few : HasFewVirtuals p) where
   abbrev Goes : Stand → Type 0
-  Goes stand = IsGoing l p policy names stand
+  Goes stand = IsGoing l p policy few stand
 
   -- a line keeps what holds, and what is told
   record GoesOn (line : Line) (stand : Stand) (next : Stand) (after : ℕ → List ℕ → List ℕ) : Type 0 where
@@ -140,7 +140,7 @@ module _ (l : AreLaws) (p : PolicyOf) (policy : IsSound p) (names : HasNames p) 
     told : (n : ℕ) (report : List ℕ) → IsTold p stand.state n report → IsTold p next.state n (after n report)
 
   on_by : (line : Line) (stand : Stand) → Goes stand → (o : Option Played)
-      → Plays l p policy names (λ n. brings p n line) stand o
+      → Plays l p policy few (λ n. brings p n line) stand o
       → HasNumbers (option_map_or (λ (x : Played). x.stand) o stand).state
       → GoesOn line stand (option_map_or (λ (x : Played). x.stand) o stand)
       (λ n report. option_map_or (report_more p n line report) o report)
@@ -152,7 +152,7 @@ module _ (l : AreLaws) (p : PolicyOf) (policy : IsSound p) (names : HasNames p) 
   on_line : (line : Line) → IsLine line → (stand : Stand) → Goes stand → HasNumbers (after_line p stand line).state
       → GoesOn line stand (after_line p stand line) (λ n report. report_after p n stand report line)
   on_line line given stand going left =
-      on_by line stand going (line_does p line stand) (line_plays l p policy names line given stand going) left
+      on_by line stand going (line_does p line stand) (line_plays l p policy few line given stand going) left
 
   -- lines keep it
   going_on : (all : List Line) → AllByRecursion IsLine all → (stand : Stand) → Goes stand
@@ -189,7 +189,7 @@ opening_bare (item ∷ items) zero x at =
 opening_bare (item ∷ items) (suc n) x at = opening_bare items n x at
 
 pub replayed_agree : OpeningIsSound → AreLaws → MadeTablesAgree → ReplayedTablesAgree
-replayed_agree opens l agree p policy names all given left tables =
+replayed_agree opens l agree p policy few all given left tables =
     agree p policy (stand_of p all).state last.0.good.sound
     (λ n. messages_to (switch_name p n) (reported_since p n all)) (λ n. (told n).makes) tables
   where
@@ -199,7 +199,7 @@ replayed_agree opens l agree p policy names all given left tables =
     sound : IsSoundState p (opening p)
     sound = opens p policy
 
-    going : IsGoing l p policy names first
+    going : IsGoing l p policy few first
     going = (
       record {
         good = record {
@@ -213,12 +213,12 @@ replayed_agree opens l agree p policy names all given left tables =
       fresh_streams (sessions_of p),
     )
 
-    last : IsGoing l p policy names (stand_of p all)
-    last = going_on l p policy names all given first going left
+    last : IsGoing l p policy few (stand_of p all)
+    last = going_on l p policy few all given first going left
 
     told : (n : ℕ) → IsTold p (stand_of p all).state n (reported_since p n all)
     told n =
-        telling_on l p policy names n all given first going left []
+        telling_on l p policy few n all given first going left []
         (record {
           told = [];
           plain = tt;

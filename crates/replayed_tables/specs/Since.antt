@@ -6,11 +6,9 @@ use Rattle.std.specs.Option.{option_map_or}
 use Rattle.agreement.specs.Agree.{Agree}
 use Rattle.policy_file.specs.Policies.{PolicyOf}
 use Rattle.policy_file.specs.Sound.{IsSound}
-use Rattle.report_lines.specs.Lines.{is_word}
 use Rattle.script_text.specs.declared.line.Line.{Line}
 use Rattle.script_text.specs.declared.line.Line.TheVariants as lines
 use Rattle.switch_meaning.specs.declared.entry.FlowEntry.{FlowEntry}
-use Rattle.virtual_topology.specs.declared.plan.VirtualItem.{VirtualItem}
 use Rattle.machine_meaning.specs.Events.{AreBytes}
 use Rattle.machine_meaning.specs.Sessions.{is_switch}
 use Rattle.machine_meaning.specs.Settings.{setting_of}
@@ -56,16 +54,14 @@ IsLine (lines.Tick second) = second < 2 ^ 64
 IsLine (lines.Expr name text) = AreBytes text
 IsLine line = Unit {0}
 
--- what a policy that is read from a file has beside what holds of each: the names of its virtual switches are words,
--- and these are fewer than 2^32
-pub record HasNames (p : PolicyOf) : Type 0 where
-  pub words : AllByRecursion (λ (v : VirtualItem). is_word v.name ≡ true) p.virtuals
-  pub few : length p.virtuals < 2 ^ 32
+-- events number its virtual switches by 32 bits
+abbrev pub HasFewVirtuals : PolicyOf → Type 0
+HasFewVirtuals p = length p.virtuals < 2 ^ 32
 
 -- after any lines of a script, switches with the tables that their `to` lines since they came up make, read of the
 -- report's text, do with each packet what the policy says over the members' tables, whatever they had before
 abbrev pub ReplayedTablesAgree : Type 0
 ReplayedTablesAgree =
-    (p : PolicyOf) → IsSound p → HasNames p → (lines : List Line) → AllByRecursion IsLine lines
+    (p : PolicyOf) → IsSound p → HasFewVirtuals p → (lines : List Line) → AllByRecursion IsLine lines
     → HasNumbers (stand_of p lines).state → (tables : ℕ → List FlowEntry)
     → Agree (setting_of p (stand_of p lines).state) (λ n. made_of_report p n (reported_since p n lines) (tables n))

@@ -1,0 +1,16 @@
+pub mod Moving
+pub mod Entering
+pub mod Nodes
+pub mod Trees
+pub mod Finding
+pub mod Cancelling
+pub mod Kept
+pub mod Exact
+pub mod After
+pub mod Standing
+pub mod Applied
+pub mod Porting
+pub mod Building
+pub mod Pushing
+pub mod Changing
+pub mod Built

@@ -1,0 +1,33 @@
+use Rattle.std.proofs.Common.{List, length, ap, sym, subst, ◌∙◌, arith}
+use Rattle.std.specs.List.{insert}
+use Rattle.std.proofs.lemmas.List.Edits.{length-remove}
+use Rattle.incr_compile.specs.Trees.{IsTree, tree_of}
+use Rattle.incr_compile.specs.declared.tree.Tree.{Tree}
+use Rattle.composed_tables.specs.Rules.{IsChangedAt}
+use Rattle.composed_tables.proofs.Changing.{changed-at}
+use Rattle.composed_tables.proofs.Pushing.{put-back}
+use Rattle.composed_tables.proofs.rules.change_tree.Goals as goal
+
+pub insert-requires : goal.insert-requires
+insert-requires g c =
+    let there = c.requires.there in
+    let long = length-remove c.args.trees.now c.args.v there in
+    let items = ap (λ (z : List Tree). length z) c.remove-tree.ensures.items in
+    omega (arith, long, items)
+
+pub returns : goal.returns
+returns g c =
+    let trees = c.args.trees.now in
+    let v = c.args.v in
+    let changed = c.apply.new.self in
+    let told = c.in_ok-told.told in
+    let e = c.in_ok-told.ensures in
+    let same = c.in_ok-insert.ensures.inserted ∙ (ap (λ (z : List Tree). insert z v changed) c.remove-tree.ensures.items ∙ put-back trees v changed c.requires.there) in
+    subst (λ (z : List Tree). IsChangedAt v c.args.delta trees z told) (sym same)
+    (changed-at v c.args.delta trees c.remove-tree.result changed told c.remove-tree.ensures.item
+    (record {
+      sound = subst (λ (z : Tree). IsTree (tree_of z)) c.tree.view_is c.tree.invariant.0;
+      policy = e.policy;
+      members = e.members;
+      rules = e.told;
+    }))

@@ -1,0 +1,10 @@
+use Rattle.std.proofs.Common.{◌≡◌, length}
+use Rattle.composed_tables.specs.Rules.{AreSound, AreTreesOf}
+use Rattle.composed_tables.proofs.rules.compile_all.Given as goal
+
+abbrev pub invariant-loop-v : goal.invariant-loop-v
+invariant-loop-v g l = record {
+  count : length l.trees ≡ l.v;
+  trees_are : AreTreesOf l.network l.trees;
+  sound : AreSound l.trees;
+}

@@ -1,0 +1,4 @@
+pub mod Placing
+pub mod Rules
+pub mod Composing
+pub mod ComposedLaw

@@ -1,0 +1,4 @@
+pub mod Rounds
+pub mod Chains
+pub mod Sendings
+pub mod Audits

@@ -1,0 +1,212 @@
+//! The works, as a spawner runs them.
+ghost use Rattle.std.specs.Prelude.{◌≡◌, Result, Some};
+ghost use Rattle.cv_io.specs.declared.memory.Memory.{Memory};
+ghost use Rattle.endpoint_works.specs.Sendings.{HasSent};
+ghost use Rattle.endpoint_works.specs.Sides.{IsServedSide};
+ghost use Rattle.endpoint_works.specs.Tasks.{HasReceived, HasWrittenAudit};
+ghost use Rattle.endpoint_works.specs.declared.audit.AuditEnd.{AuditEnd};
+ghost use Rattle.endpoint_works.specs.declared.receiving.Received.{Received};
+ghost use Rattle.endpoint_works.specs.declared.sending.Sent.{Sent};
+
+use crate::arrivals::Arrivals;
+use crate::audit::{AuditEnd, write_audit};
+use crate::handover::Handover;
+use crate::later::LaterDesk;
+use crate::others::Others;
+use crate::receiving::{Received, receive};
+use crate::sending::{Sent, send};
+use crate::shared_clock::SharedClock;
+use crate::side::Side;
+use cv_io::{Clock, Memory, Sink, Work};
+use std::alloc::Global;
+use std::sync::Wait;
+
+/// Takes the connections of an endpoint, and reads from them.
+#[derive(Drop)]
+pub struct Reader<'a, R, D: LaterDesk, A: Arrivals> {
+    pub rt: &'a R,
+    pub alloc: Global,
+    pub others: &'a Others,
+    pub handover: &'a Handover<A::Out>,
+    pub desk: D,
+    pub pass: D::Pass,
+    pub side: Side,
+    pub arrivals: A,
+    /// Whether it has ended, and how.
+    pub end: Option<Received>,
+}
+
+/// Writes to the connections of an endpoint.
+#[derive(Drop)]
+pub struct Writer<'a, 'b, R, D: LaterDesk, K, C> {
+    pub rt: &'a R,
+    pub others: &'a Others,
+    pub handover: &'a Handover<K>,
+    pub desk: D,
+    pub pass: D::Pass,
+    pub clock: SharedClock<'a, 'b, R, C>,
+    pub end: Option<Sent>,
+}
+
+/// Writes the audit.
+#[derive(Drop)]
+pub struct Audit<'a, 'b, 'c, R, D: LaterDesk, K, C> {
+    pub rt: &'a R,
+    pub others: &'a Others,
+    pub desk: D,
+    pub pass: D::Pass,
+    pub out: &'c mut K,
+    pub clock: SharedClock<'a, 'b, R, C>,
+    pub end: Option<Result<AuditEnd, Memory>>,
+}
+
+/// One of the works.
+#[derive(Drop)]
+pub enum Task<'a, 'b, 'c, R, D: LaterDesk, A: Arrivals, K, C> {
+    Reader {
+        reader: Reader<'a, R, D, A>,
+    },
+    Writer {
+        writer: Writer<'a, 'b, R, D, A::Out, C>,
+    },
+    Audit {
+        audit: Audit<'a, 'b, 'c, R, D, K, C>,
+    },
+}
+
+impl<R: Wait, D: LaterDesk, A: Arrivals> Reader<'_, R, D, A>
+where
+    A::In: Drop,
+    A::Out: Drop,
+{
+    fn run(&mut self)
+        requires pass { D.admits self.old.desk self.old.pass }
+        requires side { IsServedSide (D.serves self.old.desk) self.old.side }
+        ensures pass { D.admits self.old.desk self.new.pass }
+        ensures later { D.later self.old.pass self.new.pass }
+        ensures received { (end : Received) × (self.new.end ≡ Some end) × HasReceived D.posts D.ended D.later
+            self.old.side (A.is_reliable self.old.arrivals)
+            (A.left self.old.arrivals) (A.left self.new.arrivals) self.old.pass self.new.pass end }
+    {
+        let desk = self.desk.from_here(&self.pass);
+        let end = receive(
+            self.rt,
+            self.alloc,
+            &desk,
+            &mut self.pass,
+            &self.side,
+            &mut self.arrivals,
+            self.handover,
+        );
+        self.handover.close(self.rt);
+        self.others.end_one();
+        self.end = Some(end);
+    }
+}
+
+impl<R: Wait, D: LaterDesk, K: Sink + Drop, C: Clock> Writer<'_, '_, R, D, K, C> {
+    fn run(&mut self)
+        requires { D.admits self.old.desk self.old.pass }
+        ensures pass { D.admits self.old.desk self.new.pass }
+        ensures later { D.later self.old.pass self.new.pass }
+        ensures sent { (end : Sent) × (self.new.end ≡ Some end)
+            × HasSent end.cut (D.posts self.old.pass) (D.posts self.new.pass) }
+    {
+        let desk = self.desk.from_here(&self.pass);
+        let end = send(
+            self.rt,
+            &desk,
+            &mut self.pass,
+            self.handover,
+            &mut self.clock,
+        );
+        self.others.end_one();
+        self.end = Some(end);
+    }
+}
+
+impl<R: Wait, D: LaterDesk, K: Sink, C: Clock> Audit<'_, '_, '_, R, D, K, C> {
+    fn run(&mut self)
+        requires { D.admits self.old.desk self.old.pass }
+        ensures pass { D.admits self.old.desk self.new.pass }
+        ensures later { D.later self.old.pass self.new.pass }
+        ensures out { self.new.out.ghost_name ≡ self.old.out.ghost_name }
+        ensures written { (end : Result AuditEnd Memory) × (self.new.end ≡ Some end)
+            × HasWrittenAudit (D.posts self.old.pass) (K.held self.old.out.now) (K.held self.new.out.now)
+            (K.faults self.old.out.now) (K.faults self.new.out.now)
+            (D.posts self.new.pass) end }
+    {
+        let desk = self.desk.from_here(&self.pass);
+        let end = write_audit(
+            self.rt,
+            &desk,
+            &mut self.pass,
+            self.out,
+            self.others,
+            &mut self.clock,
+        );
+        self.end = Some(end);
+    }
+}
+
+impl<R: Wait + Sync, D: LaterDesk + Send, A: Arrivals + Send, K: Sink + Send, C: Clock + Send> Work
+    for Task<'_, '_, '_, R, D, A, K, C>
+where
+    D::Pass: Send,
+    A::In: Drop,
+    A::Out: Drop + Send,
+{
+    ghost use Rattle.std.specs.Prelude.{◌≡◌, Result, Some};
+    ghost use Rattle.cv_io.specs.declared.memory.Memory.{Memory};
+    ghost use Rattle.endpoint_works.specs.Sendings.{HasSent};
+    ghost use Rattle.endpoint_works.specs.Sides.{IsServedSide};
+    ghost use Rattle.endpoint_works.specs.Tasks.{HasReceived, HasWrittenAudit};
+    ghost use Rattle.endpoint_works.specs.declared.audit.AuditEnd.{AuditEnd};
+    ghost use Rattle.endpoint_works.specs.declared.receiving.Received.{Received};
+    ghost use Rattle.endpoint_works.specs.declared.sending.Sent.{Sent};
+    ghost use Rattle.endpoint_works.specs.declared.works.Task.TheVariants as tasks;
+
+    ghost ready = { elim [
+      | tasks.Reader reader ↦
+          D.admits reader.desk reader.pass × IsServedSide (D.serves reader.desk) reader.side
+      | tasks.Writer writer ↦ D.admits writer.desk writer.pass
+      | tasks.Audit audit ↦ D.admits audit.desk audit.pass
+    ] };
+
+    // The pass is the one that it was, later, and the work has done what its kind does.
+    ghost changes = { elim [
+      | tasks.Reader old ↦ elim [
+        | tasks.Reader new ↦ D.admits old.desk new.pass × D.later old.pass new.pass
+            × ((end : Received) × (new.end ≡ Some end) × HasReceived D.posts D.ended D.later
+            old.side (A.is_reliable old.arrivals)
+            (A.left old.arrivals) (A.left new.arrivals) old.pass new.pass end)
+        | tasks.Writer new ↦ ⊥
+        | tasks.Audit new ↦ ⊥
+      ]
+      | tasks.Writer old ↦ elim [
+        | tasks.Reader new ↦ ⊥
+        | tasks.Writer new ↦ D.admits old.desk new.pass × D.later old.pass new.pass
+            × ((end : Sent) × (new.end ≡ Some end)
+            × HasSent end.cut (D.posts old.pass) (D.posts new.pass))
+        | tasks.Audit new ↦ ⊥
+      ]
+      | tasks.Audit old ↦ elim [
+        | tasks.Reader new ↦ ⊥
+        | tasks.Writer new ↦ ⊥
+        | tasks.Audit new ↦ D.admits old.desk new.pass × D.later old.pass new.pass
+            × (new.out.ghost_name ≡ old.out.ghost_name)
+            × ((end : Result AuditEnd Memory) × (new.end ≡ Some end)
+            × HasWrittenAudit (D.posts old.pass) (K.held old.out.now) (K.held new.out.now)
+            (K.faults old.out.now) (K.faults new.out.now)
+            (D.posts new.pass) end)
+      ]
+    ] };
+
+    fn work(&mut self) {
+        match self {
+            Task::Reader { reader } => reader.run(),
+            Task::Writer { writer } => writer.run(),
+            Task::Audit { audit } => audit.run(),
+        }
+    }
+}

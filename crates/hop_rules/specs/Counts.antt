@@ -1,0 +1,69 @@
+-- The steps of a change of the rules of a virtual switch: at the node of each port, for each number of hops, one for
+-- each rule that came to the virtual switch, and one for each pair that could meet of a rule of the virtual switch and
+-- one of a node to which its links lead, of which one came.
+use Rattle.std.specs.Prelude.{◌≡◌, ℕ, Bool, ◌+◌, ◌<◌, ◌≤◌, List, [], ◌∷◌, count_by, length, map, suc}
+use Rattle.std.specs.Prelude.{sum_by}
+use Rattle.rule_ancestry.specs.Holding.{Held}
+use Rattle.policy_meaning.specs.Hops.{Fabric, node}
+use Rattle.policy_meaning.specs.declared.network.Place.{Place}
+use Rattle.policy_meaning.specs.declared.rule.Rule.{Rule}
+use Rattle.hop_rules.specs.Links.{exits, peer_at}
+use Rattle.hop_rules.specs.Nodes.{arrival, could}
+use Rattle.hop_rules.specs.Tables.{ChangesBy}
+use Rattle.hop_rules.specs.declared.exits.Exit.{Exit}
+use Rattle.hop_rules.specs.declared.exits.LinkEnd.{LinkEnd}
+
+-- a rule whatever its id
+abbrev pub any_id : Rule → Held Rule
+any_id r = record { id = 0; item = r }
+
+-- a rule of a virtual switch, as it stands at a port, could meet one where the link of a place leads
+abbrev pub could_meet : Place → List Exit → ℕ → Rule → Rule → Bool
+could_meet at exits place a b = could at exits (any_id a) (arrival place (any_id b))
+
+-- how many rules of the nodes to which links lead, for n hops, a rule of a virtual switch could meet
+abbrev pub meets_there : Fabric → ℕ → Place → List Exit → Rule → ℕ
+meets_there f n at exits a =
+    sum_by (λ (e : Exit). count_by (could_meet at exits e.place a) (node f n e.peer.v e.peer.port)) exits
+
+-- how many rules of a virtual switch one could meet that the link of a place leads to
+abbrev pub meets_here : Fabric → Place → List Exit → ℕ → Rule → ℕ
+meets_here f at exits place b = count_by (λ a. could_meet at exits place a b) (f.rules at.v)
+
+-- the steps at the node of a port, for one hop more than n: `come` came to the virtual switch, and to each place where
+-- links lead those of `came`
+abbrev pub node_steps : Fabric → ℕ → List Exit → Place → List Rule → (ℕ → List Rule) → ℕ
+node_steps f n exits at come came =
+    sum_by (λ (a : Rule). 1 + meets_there f n at exits a) come
+    + sum_by (λ (e : Exit). sum_by (meets_here f at exits e.place) (came e.place)) exits
+
+-- those at some ports
+abbrev pub row_steps : Fabric → List LinkEnd → (ℕ → List Rule) → ℕ → (ℕ → List Rule) → List Place → ℕ
+row_steps f es come n came places = sum_by (λ (p : Place). node_steps f n (exits es p.v) p (come p.v) came) places
+
+-- those of all hops, from n on: the last is that of the outside ports
+abbrev pub all_steps : Fabric → List LinkEnd → (ℕ → List Rule) → List Place → ℕ → List (ℕ → List Rule)
+    → (ℕ → List Rule) → ℕ
+all_steps f es come outside n [] last = row_steps f es come n last outside
+all_steps f es come outside n (came ∷ rest) last =
+    row_steps f es come n came (map (λ (e : LinkEnd). e.peer) es) + all_steps f es come outside (suc n) rest last
+
+-- these rules came to the nodes where links lead, for n hops
+abbrev pub CameThere : Fabric → Fabric → List LinkEnd → ℕ → (ℕ → List Rule) → Type 0
+CameThere f g es n came = (k : ℕ) → k < length es
+    → ((gone : List Rule) × ChangesBy (node f n (peer_at es k).v (peer_at es k).port)
+    (node g n (peer_at es k).v (peer_at es k).port) gone (came k))
+
+-- and for each number of hops from n on
+abbrev pub AllCameThere : Fabric → Fabric → List LinkEnd → ℕ → List (ℕ → List Rule) → (ℕ → List Rule) → Type 0
+AllCameThere f g es n [] last = CameThere f g es n last
+AllCameThere f g es n (came ∷ rest) last = CameThere f g es n came × AllCameThere f g es (suc n) rest last
+
+-- The steps are at most those, where these rules came to the virtual switches.
+pub record AreCounted (f g : Fabric) (es : List LinkEnd) (come : ℕ → List Rule) (outside : List Place) (n hops : ℕ)
+    (before after : ℕ) : Type 0 where
+  pub came : List (ℕ → List Rule)
+  pub last : ℕ → List Rule
+  pub hop_by_hop : suc (n + length came) ≡ hops
+  pub are : AllCameThere f g es n came last
+  pub bound : after ≤ before + all_steps g es come outside n came last

@@ -1,0 +1,3 @@
+pub mod Proxies
+pub mod Laws
+pub mod Histories

@@ -1,0 +1,4 @@
+pub mod Phases
+pub mod Steps
+pub mod Takings
+pub mod AuditTakings
