@@ -1,4 +1,8 @@
 //! The dials of the endpoints.
+ghost use Rattle.std.specs.Prelude.{◌≡◌, ◌≤◌, IfOk, true};
+ghost use Rattle.cv_io.specs.Outside.{Rose};
+ghost use Rattle.serving.specs.Lines.{AreLinesOf};
+
 use crate::place::Place;
 use cv_io::{Links, List, Memory};
 use endpoint_works::Side;
@@ -26,6 +30,10 @@ pub(crate) fn dial_all<L: Links>(
 ) -> Result<Lines<L::Dial>, Memory>
 where
     L::Dial: Drop,
+    ensures lines { IfOk result (λ all. AreLinesOf (L.told links.old) (L.is_reliable links.old)
+        L.Dial.left L.Dial.is_reliable all.failed places all.lines) }
+    ensures fault { IfOk result (λ all. all.failed ≡ true → Rose (L.faults links.old) (L.faults links.new)) }
+    ensures never_falls { L.faults links.old ≤ L.faults links.new }
 {
     let mut lines = List::with_capacity(alloc, places.len())?;
     let mut failed = false;

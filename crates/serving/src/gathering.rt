@@ -1,6 +1,11 @@
 //! What the works came to.
+ghost use Rattle.std.specs.Prelude.{◌≡◌, ◌≤◌, ⊤, [], false, length, map, vec_capacity};
+ghost use Rattle.std.specs.List.{list_any};
+ghost use Rattle.endpoint_works.specs.declared.works.Task.TheVariants as works;
+ghost use Rattle.serving.specs.Works.{HasLast, has_failed, has_wanted, wanted_to_send};
+
 use crate::staff::Job;
-use cv_io::{Clock, Dial, List, Sink};
+use cv_io::{Clock, Dial, List, Memory, Sink};
 use endpoint_works::{AuditEnd, Task};
 use lock_desk::Host;
 use policy_lock::Seat;
@@ -9,27 +14,52 @@ use std::thread::Threads;
 
 /// What the works came to.
 #[derive(Drop)]
-pub(crate) struct Gathered<H: Host> {
+pub(crate) struct Gathered<'c, H: Host, K> {
     /// Their seats, in their order.
     pub seats: List<Seat<H::Machine>>,
     /// A dial failed.
     pub failed: bool,
-    /// Memory was wanted.
+    /// Memory was wanted for a connection.
     pub wanted: bool,
-    /// A line of the audit could not be written.
-    pub unwritten: bool,
+    /// Where the audit is written.
+    pub out: &'c mut K,
+    /// How the writing of the audit ended.
+    pub audit: Option<Result<AuditEnd, Memory>>,
 }
 
-/// Takes the works apart. There is room for as many seats in `seats`.
-pub(crate) fn gather<R: Wait + Threads + Sync, H: Host, D: Dial + Drop, K: Sink, C: Clock>(
-    tasks: List<Job<'_, '_, '_, R, H, D, K, C>>,
+/// Takes the works apart, of which the last is that of the audit.
+pub(crate) fn gather<'c, R: Wait + Threads + Sync, H: Host, D: Dial + Drop, K: Sink, C: Clock>(
+    mut tasks: List<Job<'_, '_, 'c, R, H, D, K, C>>,
     mut seats: Vec<Seat<H::Machine>>,
-) -> Gathered<H>
+) -> Gathered<'c, H, K>
 where
     D::In: Drop,
     D::Out: Drop,
+    requires last { HasLast works.Audit (λ _. ⊤) tasks }
+    requires empty { seats.items ≡ [] }
+    requires room { length tasks ≤ vec_capacity seats }
+    ensures seats { result.seats ≡ map (elim [
+          | works.Reader r ↦ r.pass
+          | works.Writer w ↦ w.pass
+          | works.Audit a ↦ a.pass
+        ]) tasks }
+    ensures failed { result.failed ≡ list_any (elim [
+          | works.Reader r ↦ has_failed r.end
+          | works.Writer w ↦ false
+          | works.Audit a ↦ false
+        ]) tasks }
+    ensures wanted { result.wanted ≡ list_any (elim [
+          | works.Reader r ↦ has_wanted r.end
+          | works.Writer w ↦ wanted_to_send w.end
+          | works.Audit a ↦ false
+        ]) tasks }
+    ensures audit { HasLast works.Audit (λ a. (result.audit ≡ a.end) × (result.out.ghost_name ≡ a.out.ghost_name)
+        × (result.out.now ≡ a.out.now)) tasks }
 {
-    let (mut failed, mut wanted, mut unwritten) = (false, false, false);
+    let Some(Task::Audit { audit }) = tasks.pop() else {
+        unreachable!()
+    };
+    let (mut failed, mut wanted) = (false, false);
     for task in tasks.into_vec() {
         match task {
             Task::Reader { reader } => {
@@ -45,20 +75,15 @@ where
                 }
                 seats.push_reserved(writer.pass);
             }
-            Task::Audit { audit } => {
-                match audit.end {
-                    Some(Ok(AuditEnd::WriteFault)) => unwritten = true,
-                    Some(Err(_)) => wanted = true,
-                    _ => {}
-                }
-                seats.push_reserved(audit.pass);
-            }
+            Task::Audit { audit } => seats.push_reserved(audit.pass),
         }
     }
+    seats.push_reserved(audit.pass);
     Gathered {
         seats: List::from_vec(seats),
         failed,
         wanted,
-        unwritten,
+        out: audit.out,
+        audit: audit.end,
     }
 }

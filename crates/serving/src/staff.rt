@@ -1,4 +1,11 @@
 //! The works of a run.
+ghost use Rattle.std.specs.Prelude.{◌≡◌, ◌<◌, ◌+◌, ◌*◌, All, IfOk, length};
+ghost use Rattle.std.specs.Thread.{IsSync};
+ghost use Rattle.endpoint_works.specs.Sides.{IsServedSide};
+ghost use Rattle.endpoint_works.specs.declared.works.Task.TheVariants as tasks;
+ghost use Rattle.policy_lock.specs.Seat.{IsSeatOf};
+ghost use Rattle.serving.specs.Works.{AreWorks};
+
 use crate::dialling::Line;
 use cv_io::{Clock, Dial, List, Memory, Sink};
 use endpoint_works::{Audit, Dialled, Handover, Others, Reader, Shared, SharedClock, Task, Writer};
@@ -25,9 +32,14 @@ pub(crate) struct Office<'a, 'b, R, H: Host, K: Drop, C> {
     pub handovers: &'a [Handover<K>],
 }
 
-impl<'a, 'b, R: Wait + Threads + Sync, H: Host, K: Sink + Drop, C: Clock> Office<'a, 'b, R, H, K, C> {
+impl<'a, 'b, R: Wait + Threads + Sync, H: Host, K: Sink + Drop, C: Clock>
+    Office<'a, 'b, R, H, K, C>
+{
     /// The lock as a desk that admits the seat.
-    fn desk(&self, seat: &Seat<H::Machine>) -> LockDesk<'a, R, H> {
+    fn desk(&self, seat: &Seat<H::Machine>) -> LockDesk<'a, R, H>
+        ensures lock { result.lock.now ≡ self.now.lock.now }
+        ensures since { result.since.value ≡ seat.now }
+    {
         LockDesk {
             rt: self.rt,
             lock: self.lock,
@@ -40,7 +52,7 @@ impl<'a, 'b, R: Wait + Threads + Sync, H: Host, K: Sink + Drop, C: Clock> Office
     }
 }
 
-/// The work that takes the connections of the line of this number.
+/// The work that takes the connections of the line of this number, and reads from them.
 fn reader<'a, 'b, R: Wait + Threads + Sync, H: Host, D: Dial + Drop, C: Clock>(
     office: &Office<'a, 'b, R, H, D::Out, C>,
     number: usize,
@@ -50,6 +62,12 @@ fn reader<'a, 'b, R: Wait + Threads + Sync, H: Host, D: Dial + Drop, C: Clock>(
 where
     D::In: Drop,
     D::Out: Drop,
+    requires { number < length office.now.handovers.now }
+    ensures pass { result.pass ≡ seat }
+    ensures lock { result.desk.lock.now ≡ office.now.lock.now }
+    ensures since { result.desk.since.value ≡ seat }
+    ensures side { result.side ≡ line.side }
+    ensures dial { result.arrivals.dial ≡ line.dial }
 {
     let Line { side, dial } = line;
     Reader {
@@ -70,7 +88,12 @@ fn writer<'a, 'b, R: Wait + Threads + Sync, H: Host, K: Sink + Drop, C: Clock>(
     office: &Office<'a, 'b, R, H, K, C>,
     number: usize,
     seat: Seat<H::Machine>,
-) -> Writer<'a, 'b, R, LockDesk<'a, R, H>, K, C> {
+) -> Writer<'a, 'b, R, LockDesk<'a, R, H>, K, C>
+    requires { number < length office.now.handovers.now }
+    ensures pass { result.pass ≡ seat }
+    ensures lock { result.desk.lock.now ≡ office.now.lock.now }
+    ensures since { result.desk.since.value ≡ seat }
+{
     Writer {
         rt: office.rt,
         others: office.others,
@@ -87,7 +110,13 @@ fn audit<'a, 'b, 'c, R: Wait + Threads + Sync, H: Host, J: Sink + Drop, K: Sink,
     office: &Office<'a, 'b, R, H, J, C>,
     seat: Seat<H::Machine>,
     out: &'c mut K,
-) -> Audit<'a, 'b, 'c, R, LockDesk<'a, R, H>, K, C> {
+) -> Audit<'a, 'b, 'c, R, LockDesk<'a, R, H>, K, C>
+    ensures pass { result.pass ≡ seat }
+    ensures lock { result.desk.lock.now ≡ office.now.lock.now }
+    ensures since { result.desk.since.value ≡ seat }
+    ensures same_out { result.out.ghost_name ≡ out.entry.ghost_name }
+    ensures out { result.out.now ≡ out.old }
+{
     Audit {
         rt: office.rt,
         others: office.others,
@@ -109,6 +138,27 @@ pub(crate) fn hire<'a, 'b, 'c, R: Wait + Threads + Sync, H: Host, D: Dial + Drop
 where
     D::In: Drop,
     D::Out: Drop,
+    requires handovers { length office.now.handovers.now ≡ length lines }
+    requires seats { length seats ≡ 2 * length lines + 1 }
+    ensures works { IfOk result (AreWorks
+        (λ line seat. elim [
+          | tasks.Reader r ↦ (r.pass ≡ seat) × (r.desk.lock.now ≡ office.now.lock.now) × (r.desk.since.value ≡ seat)
+              × (r.side ≡ line.side) × (r.arrivals.dial ≡ line.dial)
+          | tasks.Writer w ↦ ⊥
+          | tasks.Audit a ↦ ⊥
+        ])
+        (λ seat. elim [
+          | tasks.Reader r ↦ ⊥
+          | tasks.Writer w ↦ (w.pass ≡ seat) × (w.desk.lock.now ≡ office.now.lock.now) × (w.desk.since.value ≡ seat)
+          | tasks.Audit a ↦ ⊥
+        ])
+        (λ seat. elim [
+          | tasks.Reader r ↦ ⊥
+          | tasks.Writer w ↦ ⊥
+          | tasks.Audit a ↦ (a.pass ≡ seat) × (a.desk.lock.now ≡ office.now.lock.now) × (a.desk.since.value ≡ seat)
+              × (a.out.ghost_name ≡ out.entry.ghost_name) × (a.out.now ≡ out.old)
+        ])
+        lines seats) }
 {
     let mut tasks = List::with_capacity(office.alloc, seats.len())?;
     let mut seats = VecDeque::from(seats.into_vec());
