@@ -1,6 +1,8 @@
 mod Lines
 mod Works
 mod Posts
-mod Served
+mod Endpoints
 mod Audits
 mod Endings
+mod Ends
+mod Seats

@@ -6,8 +6,9 @@ mod closing;
 mod dialling;
 mod gathering;
 mod place;
-mod serve;
+mod run;
 mod staff;
+mod working;
 
 pub use place::Place;
-pub use serve::{Served, serve};
+pub use run::{Served, serve};
