@@ -6,3 +6,4 @@ mod Audits
 mod Endings
 mod Ends
 mod Seats
+mod Crossing

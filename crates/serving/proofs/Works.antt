@@ -1,5 +1,5 @@
 -- The works of a run, each in its place.
-use Rattle.std.proofs.Common.{◌≡◌, ◌<◌, ◌+◌, ◌*◌, ℕ, zero, suc, List, [], ◌∷◌, ◌++◌, ◌||◌, Bool, true, false, All, length, map, refl, sym, ap, ◌∙◌, subst, arith}
+use Rattle.std.proofs.Common.{◌≡◌, ◌<◌, ◌+◌, ◌*◌, ℕ, zero, suc, List, [], ◌∷◌, ◌++◌, ◌||◌, Bool, true, false, All, drop, length, map, refl, sym, ap, ◌∙◌, subst, arith}
 use Rattle.std.specs.List.{list_any}
 use Rattle.std.proofs.lemmas.List.Elements.{All-cons, All-head, All-nil, All-tail}
 use Rattle.cv_io.specs.Works.{AllChanged}
@@ -75,12 +75,21 @@ or_true false = refl
 All-weaker : {X : Type 0} {P Q : X → Type 0} (xs : List X) → All P xs → ((x : X) → P x → Q x) → All Q xs
 All-weaker xs all f = λ k d lt. f _ (all k d lt)
 
+-- a list that is what is left of it behind the first is empty, and so is one of no length
+pub nothing-left : {X : Type 0} (l : List X) → l ≡ drop 1 l → l ≡ []
+nothing-left [] e = refl
+nothing-left (x ∷ l) e = absurd (let n = ap length e in grind arith)
+
+pub nothing-long : {X : Type 0} (l : List X) → length l ≡ 0 → l ≡ []
+nothing-long [] e = refl
+nothing-long (x ∷ l) e = absurd (grind arith)
+
 -- what any of these is, each that is makes known
 pub any-known : {T : Type 0} (f : T → Bool) (b : Bool) (works : List T) → list_any f works ≡ b → All (λ t. f t ≡ true → b ≡ true) works
 any-known f b [] e = All-nil (λ t. f t ≡ true → b ≡ true)
 any-known f b (t ∷ works) e =
     All-cons (λ u. f u ≡ true → b ≡ true) t works (λ yes. sym e ∙ ap (λ x. x || list_any f works) yes)
-    (All-weaker works (any-known f (list_any f works) works refl) (λ u h yes. sym e ∙ (ap (λ x. f t || x) (h yes) ∙ or_true (f t))))
+    (All-weaker {P = λ u. f u ≡ true → list_any f works ≡ true} {Q = λ u. f u ≡ true → b ≡ true} works (any-known f (list_any f works) works refl) (λ u h yes. sym e ∙ (ap (λ x. f t || x) (h yes) ∙ or_true (f t))))
 
 -- works that have changed, of which more is known
 pub changed-and : {T : Type 0} (changes : T → T → Type 0) (X : T → Type 0) (works others : List T)
@@ -88,6 +97,13 @@ pub changed-and : {T : Type 0} (changes : T → T → Type 0) (X : T → Type 0)
 changed-and changes X works others c all = (c.0, λ i d lt. (c.1 i d lt, all i d (let n = c.0 in grind arith)))
 
 module _ {L S T : Type 0} (IsReader : L → S → T → Type 0) (IsWriter : S → T → Type 0) where
+  -- the same lines and seats
+  pub teams-at : (lines same : List L) (seats now : List S) (works : List T) → AreTeams IsReader IsWriter lines seats works
+      → same ≡ lines → now ≡ seats → AreTeams IsReader IsWriter same now works
+  teams-at lines same seats now works is l s =
+      subst (λ (x : List L). AreTeams IsReader IsWriter x now works) (sym l)
+      (subst (λ (x : List S). AreTeams IsReader IsWriter lines x works) (sym s) is)
+
   -- what is known of lines and of seats
   pub teams-known : (X : L → Type 0) (Y : S → Type 0) (lines : List L) (seats : List S) (works : List T)
       → AreTeams IsReader IsWriter lines seats works → All X lines → All Y seats
@@ -124,11 +140,7 @@ module _ {L S T : Type 0} (IsReader : L → S → T → Type 0) (IsWriter : S �
         → ((s : S) (t u : T) → IsWriter s t → changes t u → Writes s u)
         → (lines : List L) (seats : List S) (works others : List T) → AreTeams IsReader IsWriter lines seats works
         → AllChanged changes works others → AreTeams Reads Writes lines seats others
-    teams-changed r w [] seats works others is c = (is.0, nothing others (c.0 ∙ ap length is.1))
-      where
-        nothing : (l : List T) → length l ≡ 0 → l ≡ []
-        nothing [] e = refl
-        nothing (x ∷ l) e = absurd (grind arith)
+    teams-changed r w [] seats works others is c = (is.0, nothing-long others (c.0 ∙ ap length is.1))
     teams-changed r w (line ∷ lines) seats works others is c =
         let n = changed-next is.reader (is.writer ∷ is.other_works) others (subst (λ (l : List T). AllChanged changes l others) is.are_works c) in
         let m = changed-next is.writer is.other_works n.1.0 n.1.3 in
