@@ -7,3 +7,4 @@ mod Endings
 mod Ends
 mod Seats
 mod Crossing
+mod Worked

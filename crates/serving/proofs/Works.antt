@@ -91,6 +91,12 @@ any-known f b (t ∷ works) e =
     All-cons (λ u. f u ≡ true → b ≡ true) t works (λ yes. sym e ∙ ap (λ x. x || list_any f works) yes)
     (All-weaker {P = λ u. f u ≡ true → list_any f works ≡ true} {Q = λ u. f u ≡ true → b ≡ true} works (any-known f (list_any f works) works refl) (λ u h yes. sym e ∙ (ap (λ x. f t || x) (h yes) ∙ or_true (f t))))
 
+pub any-none : {T : Type 0} (f : T → Bool) (works : List T) → All (λ t. f t ≡ false) works → list_any f works ≡ false
+any-none f [] all = refl
+any-none f (t ∷ works) all =
+    ap (λ x. x || list_any f works) (All-head (λ u. f u ≡ false) t works all)
+    ∙ any-none f works (All-tail (λ u. f u ≡ false) t works all)
+
 -- works that have changed, of which more is known
 pub changed-and : {T : Type 0} (changes : T → T → Type 0) (X : T → Type 0) (works others : List T)
     → AllChanged changes works others → All X others → AllChanged (λ t u. changes t u × X u) works others
@@ -103,6 +109,25 @@ module _ {L S T : Type 0} (IsReader : L → S → T → Type 0) (IsWriter : S �
   teams-at lines same seats now works is l s =
       subst (λ (x : List L). AreTeams IsReader IsWriter x now works) (sym l)
       (subst (λ (x : List S). AreTeams IsReader IsWriter lines x works) (sym s) is)
+
+  -- what is known of lines
+  pub teams-lines : (X : L → Type 0) (lines : List L) (seats : List S) (works : List T)
+      → AreTeams IsReader IsWriter lines seats works → All X lines
+      → AreTeams (λ line s t. X line × IsReader line s t) IsWriter lines seats works
+  teams-lines X [] seats works is x = is
+  teams-lines X (line ∷ lines) seats works is x = record {
+    first = is.first;
+    second = is.second;
+    other_seats = is.other_seats;
+    reader = is.reader;
+    writer = is.writer;
+    other_works = is.other_works;
+    are_seats = is.are_seats;
+    are_works = is.are_works;
+    reads = (All-head X line lines x, is.reads);
+    writes = is.writes;
+    rest = teams-lines X lines is.other_seats is.other_works is.rest (All-tail X line lines x);
+  }
 
   -- what is known of lines and of seats
   pub teams-known : (X : L → Type 0) (Y : S → Type 0) (lines : List L) (seats : List S) (works : List T)
@@ -136,12 +161,13 @@ module _ {L S T : Type 0} (IsReader : L → S → T → Type 0) (IsWriter : S �
         (y, (ys, refl, c.1 0 x (grind arith), ((let n = c.0 in grind arith), λ i d lt. c.1 (suc i) d (grind arith))))
 
     -- each work has changed in its place
-    pub teams-changed : ((line : L) (s : S) (t u : T) → IsReader line s t → changes t u → Reads line s u)
+    pub teams-changed : (lines : List L) (seats : List S) (works others : List T) → AreTeams IsReader IsWriter lines seats works
+        → AllChanged changes works others
+        → ((line : L) (s : S) (t u : T) → IsReader line s t → changes t u → Reads line s u)
         → ((s : S) (t u : T) → IsWriter s t → changes t u → Writes s u)
-        → (lines : List L) (seats : List S) (works others : List T) → AreTeams IsReader IsWriter lines seats works
-        → AllChanged changes works others → AreTeams Reads Writes lines seats others
-    teams-changed r w [] seats works others is c = (is.0, nothing-long others (c.0 ∙ ap length is.1))
-    teams-changed r w (line ∷ lines) seats works others is c =
+        → AreTeams Reads Writes lines seats others
+    teams-changed [] seats works others is c r w = (is.0, nothing-long others (c.0 ∙ ap length is.1))
+    teams-changed (line ∷ lines) seats works others is c r w =
         let n = changed-next is.reader (is.writer ∷ is.other_works) others (subst (λ (l : List T). AllChanged changes l others) is.are_works c) in
         let m = changed-next is.writer is.other_works n.1.0 n.1.3 in
         record {
@@ -155,9 +181,10 @@ module _ {L S T : Type 0} (IsReader : L → S → T → Type 0) (IsWriter : S �
           are_works = n.1.1 ∙ ap (λ (l : List T). n.0 ∷ l) m.1.1;
           reads = r line is.first is.reader n.0 is.reads n.1.2;
           writes = w is.second is.writer m.0 is.writes m.1.2;
-          rest = teams-changed r w lines is.other_seats is.other_works m.1.0 is.rest m.1.3;
+          rest = teams-changed lines is.other_seats is.other_works m.1.0 is.rest m.1.3 r w;
         }
 
+module _ {L S T : Type 0} (IsReader : L → S → T → Type 0) (IsWriter : S → T → Type 0) where
   -- what is known of each work is known of what is read of it
   pub teams-map : {U : Type 0} (h : T → U) (P : L → S → U → Type 0) (Q : S → U → Type 0)
       → ((line : L) (s : S) (t : T) → IsReader line s t → P line s (h t)) → ((s : S) (t : T) → IsWriter s t → Q s (h t))

@@ -1,8 +1,7 @@
 //! What the works came to.
-ghost use Rattle.std.specs.Prelude.{◌≡◌, ◌<◌, [], ◌∷◌, false, length, map, vec_capacity, vec_len};
+ghost use Rattle.std.specs.Prelude.{◌≡◌, ◌<◌, [], length, map, vec_capacity, vec_len};
 ghost use Rattle.std.specs.List.{list_any};
-ghost use Rattle.endpoint_works.specs.declared.works.Task.TheVariants as works;
-ghost use Rattle.serving.specs.Works.{has_failed, has_wanted, wanted_to_send};
+ghost use Rattle.serving.specs.Works.{failed_of, has_failed, has_wanted, pass_of, wanted_of};
 
 use crate::staff::Job;
 use cv_io::{Clock, Dial, List};
@@ -42,19 +41,10 @@ where
     D::Out: Drop,
     requires empty { room.items ≡ [] }
     requires room { length tasks < vec_capacity room }
-    ensures seats { result.seats.items ≡ map (elim [
-          | works.Reader r ↦ r.pass
-          | works.Writer w ↦ w.pass
-        ]) tasks.entry }
+    ensures seats { result.seats.items ≡ map pass_of tasks.entry }
     ensures room { vec_len result.seats < vec_capacity result.seats }
-    ensures failed { result.failed ≡ list_any (elim [
-          | works.Reader r ↦ has_failed r.end
-          | works.Writer w ↦ false
-        ]) tasks.entry }
-    ensures wanted { result.wanted ≡ list_any (elim [
-          | works.Reader r ↦ has_wanted r.end
-          | works.Writer w ↦ wanted_to_send w.end
-        ]) tasks.entry }
+    ensures failed { result.failed ≡ list_any failed_of tasks.entry }
+    ensures wanted { result.wanted ≡ list_any wanted_of tasks.entry }
 {
     let mut seats = room;
     let (mut failed, mut wanted) = (false, false);
@@ -79,18 +69,9 @@ fn take_apart<R: Wait + Threads + Sync, H: Host, D: Dial + Drop, C: Clock>(
 where
     D::In: Drop,
     D::Out: Drop,
-    ensures seat { result.seat ∷ [] ≡ map (elim [
-          | works.Reader r ↦ r.pass
-          | works.Writer w ↦ w.pass
-        ]) (task.entry ∷ []) }
-    ensures failed { result.failed ∷ [] ≡ map (elim [
-          | works.Reader r ↦ has_failed r.end
-          | works.Writer w ↦ false
-        ]) (task.entry ∷ []) }
-    ensures wanted { result.wanted ∷ [] ≡ map (elim [
-          | works.Reader r ↦ has_wanted r.end
-          | works.Writer w ↦ wanted_to_send w.end
-        ]) (task.entry ∷ []) }
+    ensures seat { result.seat ≡ pass_of task.entry }
+    ensures failed { result.failed ≡ failed_of task.entry }
+    ensures wanted { result.wanted ≡ wanted_of task.entry }
 {
     match task {
         Task::Reader { reader } => Ended {

@@ -1,8 +1,6 @@
 //! The works of a run.
 ghost use Rattle.std.specs.Prelude.{◌≡◌, ◌<◌, ◌*◌, IfOk, length};
-ghost use Rattle.endpoint_works.specs.declared.works.Task.TheVariants as works;
-ghost use Rattle.serving.specs.Works.{AreTeams};
-ghost use Rattle.serving.specs.declared.dialling.Line.{Line};
+ghost use Rattle.serving.specs.Works.{AreTeams, IsReaderFor, IsWriterFor};
 
 use crate::dialling::Line;
 use cv_io::{Clock, Dial, List, Memory, Sink};
@@ -142,17 +140,7 @@ where
     D::Out: Drop,
     requires handovers { length office.now.handovers.now ≡ length lines }
     requires seats { length seats ≡ 2 * length lines }
-    ensures { IfOk result (AreTeams {L = Line D}
-        (λ line seat. elim [
-          | works.Reader r ↦ (r.pass ≡ seat) × (r.desk.lock.now ≡ office.now.lock.now) × (r.desk.since.value ≡ seat)
-              × (r.side ≡ line.side) × (r.arrivals.dial ≡ line.dial)
-          | works.Writer w ↦ ⊥
-        ])
-        (λ seat. elim [
-          | works.Reader r ↦ ⊥
-          | works.Writer w ↦ (w.pass ≡ seat) × (w.desk.lock.now ≡ office.now.lock.now) × (w.desk.since.value ≡ seat)
-        ])
-        lines seats) }
+    ensures { IfOk result (AreTeams (IsReaderFor office.now.lock.now) (IsWriterFor office.now.lock.now) lines seats) }
 {
     let mut tasks = List::with_capacity(office.alloc, seats.len())?;
     let mut lines = VecDeque::from(lines.into_vec());

@@ -1,7 +1,7 @@
 use denote.Exit.{no}
 use denote.Param.{param}
 use denote.Param.Send.{IsSync, arg_send, arg_sync, param_send, param_sync, sendable}
-use Rattle.std.proofs.Common.{◌≡◌, ◌∙◌, ◌++◌, ◌∷◌, [], arith, rules, sym, subst, ap, refl, Some}
+use Rattle.std.proofs.Common.{true, ◌≡◌, ◌∙◌, ◌++◌, ◌∷◌, [], arith, rules, sym, subst, ap, refl, Some}
 use Rattle.std.proofs.lemmas.List.Elements.{All-pop}
 use Rattle.events.specs.contracts.event.Event as Event
 use Rattle.events.specs.contracts.event.Reply as Reply
@@ -10,14 +10,17 @@ use Rattle.events.proofs.event.Event.TheSendSync as event
 use Rattle.policy_lock.proofs.lock.Seat.TheSendSync as seat
 use Rattle.endpoint_works.proofs.arrivals.Dialled.TheSendSync as dialled
 use Rattle.endpoint_works.proofs.works.Task.TheSendSync as task
-use Rattle.policy_lock.specs.Seat.{IsSeatOf}
+use Rattle.policy_lock.specs.Seat.{IsSeatOf, SeatOf}
+use Rattle.endpoint_works.specs.Sendings.{HasSent}
+use Rattle.lock_desk.specs.Passes.{own_posts}
 use Rattle.serving.proofs.Crossing.{desk-send, desk-sync}
 use Rattle.endpoint_works.specs.Sides.{IsServedSide}
 use Rattle.endpoint_works.specs.declared.works.Task.TheVariants as works
 use Rattle.serving.specs.Working.{HasRead, HasWritten}
-use Rattle.serving.specs.Works.{AreTeams, has_failed, has_wanted}
+use Rattle.serving.specs.Works.{AreTeams}
 use Rattle.serving.proofs.Seats.{seat-of, since-same, since-seat}
-use Rattle.serving.proofs.Works.{any-known, changed-and, teams-all, teams-changed, teams-count, teams-known, teams-map}
+use Rattle.serving.proofs.Worked.{worked-teams, worked-well}
+use Rattle.serving.proofs.Works.{teams-all, teams-count, teams-known}
 use Rattle.serving.proofs.working.work.Goals as goal
 
 pub all_at_work-end-requires-sync-D : goal.all_at_work-end-requires-sync-D
@@ -78,61 +81,28 @@ pub returns-clause-worked : goal.returns-clause-worked
 returns-clause-worked g c =
     let lock = c.args.office.now.lock.now in
     let were : c.args.seats ≡ c.pop.new.self ++ c.in-Some.seat ∷ [] = search rules in
-    let both = All-pop (IsSeatOf lock) c.args.seats c.pop.new.self (Some c.in-Some.seat) c.in-Some.ensures.items c.requires.theirs in
-    let known = teams-known _ _ _ _ c.args.lines c.pop.new.self c.in_ok-tasks.tasks c.in_ok-tasks.ensures c.requires.sides both.0 in
     let gathered = c.gather-gathered.result in
-    let flags = any-known _ gathered.failed c.all_at_work-end.new.works (sym c.gather-gathered.ensures.failed) in
-    let wants = any-known _ gathered.wanted c.all_at_work-end.new.works (sym c.gather-gathered.ensures.wanted) in
+    let now = c.all_at_work-end.new.works in
+    let last = c.all_at_work-end.new.pass in
     record {
       front = c.pop.new.self;
       last = c.in-Some.seat;
       were = were;
       front_new = gathered.seats.items;
-      last_new = c.all_at_work-end.new.pass;
+      last_new = last;
       are = c.from_vec.ensures ∙ c.push_reserved.ensures.items;
-      teams = subst (AreTeams (HasRead {M = g.row.H-Machine.Denot} {S = g.row.H-Machine-State.Denot} {D = g.row.D.Denot} g.H.Machine.Machine lock g.D.Dial.left g.D.Dial.is_reliable gathered.failed gathered.wanted)
-          (HasWritten {M = g.row.H-Machine.Denot} {S = g.row.H-Machine-State.Denot} {D = g.row.D.Denot} g.H.Machine.Machine lock
-          g.D.Dial.left g.D.Dial.is_reliable) c.args.lines c.pop.new.self) (sym c.gather-gathered.ensures.seats)
-          (teams-map _ _ _ _ _ (λ line s t h. h) (λ s t h. h) c.args.lines c.pop.new.self c.all_at_work-end.new.works
-          (teams-changed _ _ _ _ _
-          (λ line s. elim [
-            | works.Reader r ↦ elim [
-              | works.Reader t ↦ λ h k. record {
-                later = record {
-                  of = seat-of _ lock t.pass t.pass (sym h.2.1) refl k.0.0.1;
-                  since = since-seat s r.pass t.pass h.2.0 k.0.1;
-                };
-                end = k.0.2.0;
-                fails = λ e. k.1 (ap has_failed k.0.2.1 ∙ e);
-                wants = λ e. k.2 (ap has_wanted k.0.2.1 ∙ e);
-                rest = g.D.Dial.left t.arrivals.dial;
-                received = ?;
-              }
-              | works.Writer t ↦ λ h k. absurd k.0
-            ]
-            | works.Writer r ↦ λ t h. absurd h.2
-          ])
-          (λ s. elim [
-            | works.Reader r ↦ λ t h. absurd h.1
-            | works.Writer r ↦ elim [
-              | works.Reader t ↦ λ h k. absurd k.0
-              | works.Writer t ↦ λ h k. record {
-                later = record {
-                  of = seat-of _ lock t.pass t.pass (sym h.1.1) refl k.0.0.1;
-                  since = since-seat s r.pass t.pass h.1.0 k.0.1;
-                };
-                cut = k.0.2.0.cut;
-                sent = ?;
-              }
-            ]
-          ])
-          c.args.lines c.pop.new.self c.in_ok-tasks.tasks c.all_at_work-end.new.works known
-          (changed-and _ _ c.in_ok-tasks.tasks c.all_at_work-end.new.works c.all_at_work-end.ensures.done ?)));
+      teams = subst (AreTeams (HasRead {M = g.row.H-Machine.Denot} {S = g.row.H-Machine-State.Denot} {D = g.row.D.Denot} g.H.Machine.Machine lock
+          g.D.Dial.left g.D.Dial.is_reliable gathered.failed gathered.wanted) (HasWritten lock) c.args.lines c.pop.new.self)
+          (sym c.gather-gathered.ensures.seats)
+          (worked-teams g.H.Machine.Machine lock g.D.Dial.left g.D.Dial.is_reliable _ gathered.failed gathered.wanted c.args.lines
+          c.pop.new.self c.in_ok-tasks.tasks now c.in_ok-tasks.ensures c.all_at_work-end.ensures.done
+          (sym c.gather-gathered.ensures.failed) (sym c.gather-gathered.ensures.wanted));
+      dials = worked-well g.H.Machine.Machine lock g.D.Dial.left g.D.Dial.is_reliable _ gathered.failed gathered.wanted c.args.lines
+          c.pop.new.self c.in_ok-tasks.tasks now c.in_ok-tasks.ensures c.all_at_work-end.ensures.done
+          (sym c.gather-gathered.ensures.failed);
       later = record {
-        of = seat-of c.desk-desk.result.lock.now lock c.all_at_work-end.new.pass c.all_at_work-end.new.pass (sym c.desk-desk.ensures.lock) refl
-            c.all_at_work-end.ensures.pass.1;
-        since = since-seat c.in-Some.seat c.desk-desk.result.since.value c.all_at_work-end.new.pass c.desk-desk.ensures.since
-            c.all_at_work-end.ensures.pass.2;
+        of = seat-of c.desk-desk.result.lock.now lock last last (sym c.desk-desk.ensures.lock) refl c.all_at_work-end.ensures.pass.1;
+        since = since-seat c.in-Some.seat c.desk-desk.result.since.value last c.desk-desk.ensures.since c.all_at_work-end.ensures.pass.2;
       };
       audit = c.all_at_work-end.ensures.written;
     }
