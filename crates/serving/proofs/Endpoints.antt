@@ -198,7 +198,7 @@ module _ {M S D : Type 0} (g : Ghosts M Event Reply S) (start : S) (told : Endpo
         (both (λ (x : Entry Event Reply). same_number x.by (last_or n all).0 ≡ true → IsAudits (post_of x))
         (λ (x : Entry Event Reply). IsOneOf all (last_or n all).0 x × IsTrue (has_number x.by all))
         (IsAuditsAlone (last_or n all).0)
-        (λ x p q. (p, λ no. other x no (q.0 q.1))) log
+        (λ x p q. (p, λ isnt. other x isnt (q.0 q.1))) log
         (of-number IsAudits (last_or n all).0 log (audits-last n places all is))
         (both (IsOneOf all (last_or n all).0) (λ (x : Entry Event Reply). IsTrue (has_number x.by all))
         (λ (x : Entry Event Reply). IsOneOf all (last_or n all).0 x × IsTrue (has_number x.by all)) (λ x p q. (p, q)) log
@@ -206,5 +206,5 @@ module _ {M S D : Type 0} (g : Ghosts M Event Reply S) (start : S) (told : Endpo
       where
         other : (x : Entry Event Reply) → same_number x.by (last_or n all).0 ≡ false
             → (same_number x.by (last_or n all).0 ≡ true) ⊎ TakesNone (post_of x) → TakesNone (post_of x)
-        other x no (inl yes) = absurd (cc)
-        other x no (inr none) = none
+        other x isnt (inl same) = absurd (cc)
+        other x isnt (inr takes) = takes

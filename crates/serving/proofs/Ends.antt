@@ -1,9 +1,10 @@
 -- How a run ends, once its lock is closed.
-use Rattle.std.proofs.Common.{◌≡◌, ◌+◌, ℕ, zero, suc, Bool, true, List, [], ◌∷◌, ◌++◌, Option, Result, All, IsTrue, map, take, length, refl, sym, ap, ◌∙◌, subst, append_assoc}
+use Rattle.std.proofs.Common.{◌≡◌, ◌+◌, ◌-◌, ◌||◌, ℕ, zero, suc, Bool, true, false, List, [], ◌∷◌, ◌++◌, Option, Result, Ok, Err, All, IsTrue, map, take, length, refl, sym, ap, ◌∙◌, subst, append_assoc, inl, inr, arith}
 use Rattle.std.proofs.Math.Seq.{take-append-add}
-use Rattle.std.proofs.lemmas.List.{append-nil, map-append, take_all}
+use Rattle.std.proofs.lemmas.List.{append-nil, length-append, map-append, take_all}
 use Rattle.std.proofs.lemmas.List.Elements.{All-append, All-cons, All-head, All-nil, All-tail}
 use Rattle.cv_io.specs.Connections.{Connection}
+use Rattle.cv_io.specs.Outside.{Rose}
 use Rattle.cv_io.specs.declared.links.Endpoint.{Endpoint}
 use Rattle.cv_io.specs.declared.memory.Memory.{Memory}
 use Rattle.endpoint_works.specs.declared.audit.AuditEnd.{AuditEnd}
@@ -23,32 +24,62 @@ use Rattle.sessions.specs.Writing.{taken_in}
 use Rattle.sessions.specs.declared.desk.Post.{Post}
 use Rattle.sessions.proofs.Bytes.{appends-more}
 use Rattle.endpoint_works.specs.Audits.{IsAudits, audit, lines}
+use Rattle.endpoint_works.specs.Tasks.{HasWrittenAudit}
 use Rattle.lock_desk.specs.Passes.{own_posts, post_of, posts_by}
-use Rattle.serving.specs.Endings.{WroteRest, WroteRestUpTo}
+use Rattle.endpoint_works.specs.Audits.{HasAudited, HasAuditedUpTo}
+use Rattle.endpoint_works.specs.declared.audit.AuditEnd.TheVariants as ends
+use Rattle.serving.specs.Attending.{IsSilent, is_cut_off, settled}
+use Rattle.serving.specs.Endings.{EndsRest, WroteRest, WroteRestUpTo}
 use Rattle.serving.specs.Histories.{TakesLine, lines_taken}
 use Rattle.serving.specs.Lines.{AreLinesOf}
-use Rattle.serving.specs.Runs.{AreServed, IsRun, WritesAll, WritesSome}
+use Rattle.serving.specs.Runs.{AreServed, IsRun, Serves, WritesAll, WritesSome}
 use Rattle.serving.specs.Working.{HasRead, HasWritten, HaveWorked, IsLaterSeat}
+use Rattle.serving.specs.declared.closing.Rest.{Rest}
+use Rattle.serving.specs.declared.closing.Rest.TheVariants as rests
 use Rattle.serving.specs.declared.dialling.Line.{Line}
+use Rattle.serving.specs.declared.run.Served.TheVariants as serveds
 use Rattle.serving.specs.declared.place.Place.{Place}
 use Rattle.serving.proofs.Audits.{taken-both, taken-by}
 use Rattle.serving.proofs.Endings.{lines-both}
 use Rattle.serving.proofs.Endpoints.{audits-alone, served-all}
 use Rattle.serving.proofs.Works.{teams-all, teams-same}
 
--- a seat that has posted nothing
-abbrev pub IsSilent : {S : Type 0} → SeatOf Event Reply S → Type 0
-IsSilent seat = own_posts seat.pass ≡ []
-
 -- the seats that a new lock begins with have posted nothing
-children-silent : {S : Type 0} (lock : LockOf S) (k : ℕ) → All IsSilent (children_of_first {Event} {Reply} lock k)
+children-silent : {S : Type 0} (lock : LockOf S) (k : ℕ) → All IsSilent (children_of_first {E = Event} {R = Reply} lock k)
 children-silent lock zero = All-nil IsSilent
 children-silent lock (suc k) =
     All-append IsSilent (children_of_first lock k) (new_seat lock (k ∷ []) 0 ∷ []) (children-silent lock k)
     (All-cons IsSilent (new_seat lock (k ∷ []) 0) [] refl (All-nil IsSilent))
 
-pub opening-silent : {S : Type 0} (lock : LockOf S) (n : ℕ) → All IsSilent (opening_seats {Event} {Reply} lock n)
-opening-silent lock n = All-cons IsSilent (new_seat lock [] _) _ refl (children-silent lock _)
+pub opening-silent : {S : Type 0} (lock : LockOf S) (n : ℕ) → All IsSilent (opening_seats {E = Event} {R = Reply} lock n)
+opening-silent lock n = All-cons IsSilent (new_seat lock [] (n - 1)) (children_of_first lock (n - 1)) refl (children-silent lock (n - 1))
+
+-- what is written up to where memory was wanted is a beginning of what is to be written
+pub up-to-here : {M S : Type 0} (g : Ghosts M Event Reply S) (s t : S) (mid written : Option (List ℕ))
+    → WroteRest g s t mid written → WroteRestUpTo g s t mid written
+up-to-here g s t mid written r = record {
+  rest = r.rest;
+  takings = r.takings;
+  legal = r.legal;
+  count = length (lines (lines_taken r.rest));
+  wrote = subst (Appends mid written) (sym (take_all (length (lines (lines_taken r.rest))) (lines (lines_taken r.rest)) (grind arith))) r.wrote;
+}
+
+-- whichever of two failed
+neither : (u f : Bool) → (u || f) ≡ false → (u ≡ false) × (f ≡ false)
+neither false false e = (refl, refl)
+neither false true e = absurd (cc)
+neither true f e = absurd (cc)
+
+-- so many seats
+children-count : {S : Type 0} (lock : LockOf S) (k : ℕ) → length (children_of_first {E = Event} {R = Reply} lock k) ≡ k
+children-count lock zero = refl
+children-count lock (suc k) =
+    length-append (children_of_first {E = Event} {R = Reply} lock k) (new_seat lock (k ∷ []) 0 ∷ [])
+    ∙ (let n = children-count lock k in grind arith)
+
+pub opening-count : {S : Type 0} (lock : LockOf S) (k : ℕ) → length (opening_seats {E = Event} {R = Reply} lock (k + 1)) ≡ k + 1
+opening-count lock k = let n = children-count lock k in grind arith
 
 module _ {M S D : Type 0} (g : Ghosts M Event Reply S) (lock : LockOf S) (told : Endpoint → Option (List Connection))
     (reliable : Endpoint → Bool) (left : D → Option (List Connection)) (never_fails : D → Bool) (failed wanted : Bool)
@@ -84,6 +115,18 @@ module _ {M S D : Type 0} (g : Ghosts M Event Reply S) (lock : LockOf S) (told :
         (λ line s t h. same-number s t h.later) (λ s t h. same-number s t h.later) line_list w.front w.front_new w.teams)
         ∙ (ap (λ n. numbers w.front ++ n ∷ []) (same-number w.last w.last_new w.later)
         ∙ (sym (map-append (λ (seat : Seated). numbered seat.pass) w.front (w.last ∷ [])) ∙ ap numbers (sym w.were)))))
+
+    -- a dial failed only where one is not known never to
+    pub link-fails : (undialled lost : Bool) (rest : Rest) → settled rest (undialled || failed) (wanted || lost) ≡ serveds.Link → undialled ≡ false
+        → All (λ (line : Line D). never_fails line.dial ≡ true) line_list → ⊥
+    link-fails undialled lost rest is none well = by rest (undialled || failed) (wanted || lost) is (ap (λ (x : Bool). x || failed) none ∙ w.dials well)
+      where
+        by : (r : Rest) (x y : Bool) → settled r x y ≡ serveds.Link → x ≡ false → ⊥
+        by rests.WriteFault x y e f = absurd (cc)
+        by rests.Memory x y e f = absurd (cc)
+        by rests.Written true y e f = absurd (cc)
+        by rests.Written false true e f = absurd (cc)
+        by rests.Written false false e f = absurd (cc)
 
     module _ (undialled : Bool) (places : List Place) (are : AreLinesOf told reliable left never_fails undialled places line_list)
         (silent : All IsSilent old) (m : M) (c : IsClosed g lock.start new m) where
@@ -198,13 +241,94 @@ module _ {M S D : Type 0} (g : Ghosts M Event Reply S) (lock : LockOf S) (told :
           wrote = subst (λ l. Appends held mid (take count l)) (sym (all-lines [] ∙ append-nil (lines (taken_in more)))) wrote;
         }
 
--- what is written up to where memory was wanted is a beginning of what is to be written
-pub up-to-here : {M S : Type 0} (g : Ghosts M Event Reply S) (s t : S) (mid written : Option (List ℕ))
-    → WroteRest g s t mid written → WroteRestUpTo g s t mid written
-up-to-here g s t mid written r = record {
-  rest = r.rest;
-  takings = r.takings;
-  legal = r.legal;
-  count = length (lines (lines_taken r.rest));
-  wrote = subst (Appends mid written) (sym (take_all (length (lines (lines_taken r.rest))) (lines (lines_taken r.rest)) (grind arith))) r.wrote;
-}
+      -- a run whose audit could not be written
+      pub serves-cut : is_cut_off end ≡ true → Serves g lock.start told reliable lines_taken places held mid serveds.Write
+      serves-cut cut = by end cut w.audit
+        where
+          by : (e : Result AuditEnd Memory) → is_cut_off e ≡ true → HasWrittenAudit (own_posts w.last.pass) held mid faults risen (own_posts w.last_new.pass) e
+              → WritesSome g lock.start told reliable lines_taken places held mid
+          by (Ok ends.WriteFault) is h = writes-cut h.0.more h.0.each h.0.posted h.0.count h.0.wrote
+          by (Ok ends.Ended) is h = absurd (cc)
+          by (Err m) is h = absurd (cc)
+
+      -- else all that its work took is
+      audited : is_cut_off end ≡ false → HasAudited (own_posts w.last.pass) held mid (own_posts w.last_new.pass)
+      audited whole = by end whole w.audit
+        where
+          by : (e : Result AuditEnd Memory) → is_cut_off e ≡ false → HasWrittenAudit (own_posts w.last.pass) held mid faults risen (own_posts w.last_new.pass) e
+              → HasAudited (own_posts w.last.pass) held mid (own_posts w.last_new.pass)
+          by (Ok ends.WriteFault) is h = absurd (cc)
+          by (Ok ends.Ended) is h = h.0
+          by (Err m) is h = h.0
+
+      some-of : (written : Option (List ℕ)) → WritesAll g lock.start told reliable lines_taken places held written undialled failed wanted
+          → WritesSome g lock.start told reliable lines_taken places held written
+      some-of written a = record {
+        undialled = undialled;
+        failed = failed;
+        wanted = wanted;
+        log = a.log;
+        rest = a.rest;
+        run = a.run;
+        count = length (lines (lines_taken (a.log ++ a.rest)));
+        wrote = subst (Appends held written) (sym (take_all (length (lines (lines_taken (a.log ++ a.rest)))) (lines (lines_taken (a.log ++ a.rest))) (grind arith))) a.wrote;
+      }
+
+      -- and what waited, as far as is told
+      pub serves-rest : is_cut_off end ≡ false → (lost : Bool) (t : S) (written : Option (List ℕ)) (before after : ℕ) (rest : Rest)
+          → EndsRest g (g.meaning m) t mid written before after rest
+          → Serves g lock.start told reliable lines_taken places held written (settled rest (undialled || failed) (wanted || lost))
+      serves-rest whole lost t written before after rests.WriteFault h =
+          let a = audited whole in writes-some a.more a.each a.posted a.wrote written (g.meaning m) t refl h.0
+      serves-rest whole lost t written before after rests.Memory h =
+          let a = audited whole in
+          inr (writes-some a.more a.each a.posted a.wrote written (g.meaning m) t refl (up-to-here g (g.meaning m) t mid written h))
+      serves-rest whole lost t written before after rests.Written h =
+          let a = audited whole in
+          by (undialled || failed) (wanted || lost) refl refl (writes-all a.more a.each a.posted a.wrote written t h.0 h.1)
+        where
+          by : (x y : Bool) → (undialled || failed) ≡ x → (wanted || lost) ≡ y
+              → WritesAll g lock.start told reliable lines_taken places held written undialled failed wanted
+              → Serves g lock.start told reliable lines_taken places held written (settled rests.Written x y)
+          by true y e d a = (undialled, (failed, (wanted, a)))
+          by false true e d a = inr (some-of written a)
+          by false false e d a =
+              let u = neither undialled failed e in let v = neither wanted lost d in
+              subst (λ (x : Bool). WritesAll g lock.start told reliable lines_taken places held written x false false) u.0
+              (subst (λ (x : Bool). WritesAll g lock.start told reliable lines_taken places held written undialled x false) u.1
+              (subst (λ (x : Bool). WritesAll g lock.start told reliable lines_taken places held written undialled failed x) v.0 a))
+
+-- no run ends so for want of works
+pub never-spawns : (rest : Rest) (x y : Bool) → settled rest x y ≡ serveds.Spawn → ⊥
+never-spawns rests.WriteFault x y e = absurd (cc)
+never-spawns rests.Memory x y e = absurd (cc)
+never-spawns rests.Written true y e = absurd (cc)
+never-spawns rests.Written false true e = absurd (cc)
+never-spawns rests.Written false false e = absurd (cc)
+
+pub write-rises : {M S : Type 0} (g : Ghosts M Event Reply S) (s t : S) (mid written : Option (List ℕ)) (before after : ℕ) (rest : Rest) (x y : Bool)
+    → EndsRest g s t mid written before after rest → settled rest x y ≡ serveds.Write → Rose before after
+write-rises g s t mid written before after rests.WriteFault x y h e = h.1
+write-rises g s t mid written before after rests.Memory x y h e = absurd (cc)
+write-rises g s t mid written before after rests.Written true y h e = absurd (cc)
+write-rises g s t mid written before after rests.Written false true h e = absurd (cc)
+write-rises g s t mid written before after rests.Written false false h e = absurd (cc)
+
+-- an audit that is cut off met a sink that failed
+pub cut-rises : (end : Result AuditEnd Memory) (posts now : List Post) (held mid : Option (List ℕ)) (before after : ℕ) → is_cut_off end ≡ true
+    → HasWrittenAudit posts held mid before after now end → Rose before after
+cut-rises (Ok ends.WriteFault) posts now held mid before after is h = h.1
+cut-rises (Ok ends.Ended) posts now held mid before after is h = absurd (cc)
+cut-rises (Err m) posts now held mid before after is h = absurd (cc)
+
+-- one that isn't did not
+pub whole-quiet : (end : Result AuditEnd Memory) (posts now : List Post) (held mid : Option (List ℕ)) (before after : ℕ) → is_cut_off end ≡ false
+    → HasWrittenAudit posts held mid before after now end → after ≡ before
+whole-quiet (Ok ends.WriteFault) posts now held mid before after is h = absurd (cc)
+whole-quiet (Ok ends.Ended) posts now held mid before after is h = h.1
+whole-quiet (Err m) posts now held mid before after is h = h.1
+
+-- why a dial failed
+pub link-cause : (failed : Bool) {P : Type 0} → (failed ≡ true → P) → (failed ≡ false → ⊥) → P
+link-cause true f none = f refl
+link-cause false f none = absurd (none refl)

@@ -1,8 +1,11 @@
 -- The endpoints that have a dial, one more; and counts that rose.
-use Rattle.std.proofs.Common.{◌≡◌, ◌≤◌, ◌+◌, ◌⊎◌, ◌<◌, ℕ, nat_lt, Bool, true, false, List, [], ◌∷◌, ◌++◌, Option, length, refl, ap, ◌∙◌, inl, inr, arith}
+use Rattle.std.proofs.Common.{◌≡◌, ◌≤◌, ◌+◌, ◌⊎◌, ◌<◌, ℕ, nat_lt, Bool, true, false, List, [], ◌∷◌, ◌++◌, Option, length, All, refl, ap, sym, subst, ◌∙◌, inl, inr, arith}
+use Rattle.std.proofs.lemmas.List.Elements.{All-cons, All-head, All-nil, All-tail}
 use Rattle.cv_io.specs.Connections.{Connection}
 use Rattle.cv_io.specs.Outside.{Rose}
 use Rattle.cv_io.specs.declared.links.Endpoint.{Endpoint}
+use Rattle.cv_io.specs.declared.leaf.Who.{Who}
+use Rattle.endpoint_works.specs.Sides.{IsServedSide}
 use Rattle.serving.specs.Lines.{AreLinesOf, IsLineOf}
 use Rattle.serving.specs.declared.dialling.Line.{Line}
 use Rattle.serving.specs.declared.place.Place.{Place}
@@ -74,3 +77,30 @@ module _ {D : Type 0} (told now : Endpoint → Option (List Connection)) (reliab
     gives = is.gives ∙ t;
     dials = λ e. is.dials (r ∙ e);
   }
+
+-- what holds of the places holds of the lines
+module _ {D : Type 0} (told : Endpoint → Option (List Connection)) (reliable : Endpoint → Bool)
+    (left : D → Option (List Connection)) (never_fails : D → Bool) where
+  pub lines-all : (X : Place → Type 0) (Y : Line D → Type 0)
+      → ((place : Place) (line : Line D) → IsLineOf told reliable left never_fails place line → X place → Y line)
+      → (failed : Bool) (places : List Place) (lines : List (Line D))
+      → AreLinesOf told reliable left never_fails failed places lines → All X places → All Y lines
+  lines-all X Y f failed [] lines are all = subst (All Y) (sym are) (All-nil Y)
+  lines-all X Y f failed (p ∷ places) lines (inl are) all = lines-all X Y f failed places lines are.1 (All-tail X p places all)
+  lines-all X Y f failed (p ∷ places) lines (inr is) all =
+      subst (All Y) (sym is.are)
+      (All-cons Y is.line is.others (f p is.line is.is (All-head X p places all))
+      (lines-all X Y f failed places is.others is.rest (All-tail X p places all)))
+
+  pub lines-served : (serves : Who → Type 0) (failed : Bool) (places : List Place) (lines : List (Line D))
+      → AreLinesOf told reliable left never_fails failed places lines → All (λ (p : Place). IsServedSide serves p.side) places
+      → All (λ (l : Line D). IsServedSide serves l.side) lines
+  lines-served serves =
+      lines-all (λ (p : Place). IsServedSide serves p.side) (λ (l : Line D). IsServedSide serves l.side)
+      (λ p l is s. subst (IsServedSide serves) (sym is.side) s)
+
+  pub lines-reliable : (failed : Bool) (places : List Place) (lines : List (Line D))
+      → AreLinesOf told reliable left never_fails failed places lines → All (λ (p : Place). reliable p.end ≡ true) places
+      → All (λ (l : Line D). never_fails l.dial ≡ true) lines
+  lines-reliable =
+      lines-all (λ (p : Place). reliable p.end ≡ true) (λ (l : Line D). never_fails l.dial ≡ true) (λ p l is r. is.dials r)

@@ -3,4 +3,5 @@ pub mod Works
 pub mod Histories
 pub mod Working
 pub mod Endings
+pub mod Attending
 pub mod Runs

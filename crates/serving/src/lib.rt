@@ -2,6 +2,7 @@
 //! audit post to it beside one another, and all that the audit has is written.
 #![tactic(auto)]
 
+mod attending;
 mod closing;
 mod dialling;
 mod gathering;

@@ -5,13 +5,11 @@ ghost use Rattle.endpoint_works.specs.Sides.{IsServedSide};
 ghost use Rattle.serving.specs.Histories.{lines_taken};
 ghost use Rattle.serving.specs.Runs.{Serves};
 
-use crate::closing::{Rest, write_rest};
-use crate::dialling::{Lines, dial_all};
+use crate::attending::attend;
+use crate::dialling::dial_all;
 use crate::place::Place;
-use crate::staff::Office;
-use crate::working::{Worked, work};
 use cv_io::{Clock, Dial, Links, List, Memory, Sink, Spawner};
-use endpoint_works::{AuditEnd, Handover, Others, Shared};
+use endpoint_works::Handover;
 use lock_desk::Host;
 use policy_lock::{Machine, open};
 use std::alloc::Global;
@@ -109,37 +107,15 @@ where
     ensures write { IfOk result (λ served. served ≡ Served.Write → Rose (K.faults out.old) (K.faults out.new)) }
     ensures memory { OnErr result (K.held out.new ≡ K.held out.old) }
 {
-    let Lines { lines, failed } = dial_all(alloc, links, places)?;
-    let count = lines.len();
+    let lines = dial_all(alloc, links, places)?;
+    let count = lines.lines.len();
     let handovers = handovers(alloc, count)?;
     let room = Vec::with_capacity(alloc, 2 * count + 1)?;
     let (lock, seats) = open(alloc, machine, 2 * count as u32 + 1)?;
     if spawner.admit().is_err() {
         return Ok(Served::Spawn);
     }
-    let others = Others::new(2 * count as u64);
-    let shared = Shared::new(clock);
-    let office =
-        Office::<R, H, _, C>::new(rt, alloc, &lock, &others, &shared, handovers.as_slice());
-    let Worked {
-        seats,
-        failed: broken,
-        wanted,
-        end,
-    } = work(&office, lines, seats, room, out)?;
-    let Ok(mut machine) = lock.close(seats) else {
-        unreachable!()
-    };
-    if let Ok(AuditEnd::WriteFault) = end {
-        return Ok(Served::Write);
-    }
-    Ok(match write_rest::<H, R, K>(rt, &mut machine, out) {
-        Rest::WriteFault => Served::Write,
-        Rest::Memory => Served::Memory,
-        Rest::Written if failed || broken => Served::Link,
-        Rest::Written if wanted || end.is_err() => Served::Memory,
-        Rest::Written => Served::Done,
-    })
+    attend::<H, R, L::Dial, K, C>(rt, alloc, lock, seats, lines, handovers, room, out, clock)
 }
 
 /// A place between the two works of each endpoint.

@@ -7,7 +7,7 @@ use Rattle.serving.proofs.closing.write_rest.Goals as goal
 
 pub returns-then-is_err : goal.returns-then-is_err
 returns-then-is_err g c =
-    let t = c.in-Ok-Some.ensures.taken in
+    let t = rw c.in-Ok-Some.field-0-is at c.in-Ok-Some.ensures.taken in
     (
       wrote-part g.H.Machine.Machine (g.H.Machine.Machine.meaning c.args.machine.now) (g.H.Machine.Machine.meaning c.loop.machine)
           (g.H.Machine.Machine.meaning c.next_line.new.machine) (g.K.Sink.held c.args.out.now) (g.K.Sink.held c.loop.out)
@@ -20,7 +20,7 @@ returns-then-is_err g c =
 
 pub loop-preserved : goal.loop-preserved
 loop-preserved g c =
-    let t = c.in-Ok-Some.ensures.taken in
+    let t = rw c.in-Ok-Some.field-0-is at c.in-Ok-Some.ensures.taken in
     record {
       wrote = wrote-more g.H.Machine.Machine (g.H.Machine.Machine.meaning c.args.machine.now) (g.H.Machine.Machine.meaning c.loop.machine)
           (g.H.Machine.Machine.meaning c.next_line.new.machine) (g.K.Sink.held c.args.out.now) (g.K.Sink.held c.loop.out)
