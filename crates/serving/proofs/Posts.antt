@@ -111,6 +111,7 @@ senders-none cut (post ∷ posts) h =
     other : (b : Bool) (line : List ℕ) → b ≡ false → (if b then line ∷ [] else []) ≡ []
     other false line e = refl
     other true line e = absurd (cc)
+
     by : IsSenders cut post → TakesNone post
     by (inl t) = ap (λ (p : Post). line_of p.event p.reply) t.2.1 ∙ other (is_audit t.0.who) t.2.0 t.1
     by (inr (inl s)) = ap (λ (p : Post). line_of p.event p.reply) s.1

@@ -68,8 +68,14 @@ where
     let Lines { lines, failed } = lines;
     let others = Others::new(2 * lines.len() as u64);
     let shared = Shared::new(clock);
-    let office =
-        Office::<R, H, _, C>::new(rt, alloc, &lock, &others, &shared, handovers.as_slice());
+    let office = Office::<R, H, _, C>::new(
+        rt,
+        alloc,
+        &lock,
+        &others,
+        &shared,
+        handovers.as_slice(),
+    );
     let worked = work(&office, lines, seats, room, out)?;
     let Ok(mut machine) = lock.close(worked.seats) else {
         unreachable!()

@@ -28,9 +28,14 @@ pub(crate) struct Office<'a, 'b, R, H: Host, K: Drop, C> {
     pub handovers: &'a [Handover<K>],
 }
 
-impl<'a, 'b, R: Wait + Threads + Sync, H: Host, K: Sink + Drop, C: Clock>
-    Office<'a, 'b, R, H, K, C>
-{
+impl<'a, 'b, R: Wait + Threads + Sync, H: Host, K: Sink + Drop, C: Clock> Office<
+    'a,
+    'b,
+    R,
+    H,
+    K,
+    C,
+> {
     pub(crate) fn new(
         rt: &'a R,
         alloc: Global,

@@ -7,8 +7,7 @@ use Rattle.serving.proofs.closing.write_rest.Goals as goal
 
 pub returns-then-is_err : goal.returns-then-is_err
 returns-then-is_err g c =
-    let t = rw c.in-Ok-Some.field-0-is at c.in-Ok-Some.ensures.taken in
-    (
+    let t = rw c.in-Ok-Some.field-0-is at c.in-Ok-Some.ensures.taken in (
       wrote-part g.H.Machine.Machine (g.H.Machine.Machine.meaning c.args.machine.now) (g.H.Machine.Machine.meaning c.loop.machine)
           (g.H.Machine.Machine.meaning c.next_line.new.machine) (g.K.Sink.held c.args.out.now) (g.K.Sink.held c.loop.out)
           (g.K.Sink.held c.write_line.new.out) c.loop.invariant.wrote c.in-Ok-Some.line t.0 (sym t.1) t.2

@@ -30,8 +30,8 @@ loop-line-preserved g c =
     let two : c.pop_front-in-Some.new.self.items ≡ second ∷ c.pop_front-in-Some-2.new.self.items = search rules in
     let seats = one ∙ ap (λ l. first ∷ l) two in
     let tasks = c.in_ok-push-2.ensures.pushed
-        ∙ (ap (λ l. l ++ works.Writer c.writer.result ∷ []) c.in_ok-push.ensures.pushed
-        ∙ append_assoc c.loop-line.tasks (works.Reader c.reader.result ∷ []) (works.Writer c.writer.result ∷ [])) in
+    ∙ (ap (λ l. l ++ works.Writer c.writer.result ∷ []) c.in_ok-push.ensures.pushed
+    ∙ append_assoc c.loop-line.tasks (works.Reader c.reader.result ∷ []) (works.Writer c.writer.result ∷ [])) in
     record {
       done = i.done ++ line ∷ [];
       used = i.used ++ first ∷ second ∷ [];

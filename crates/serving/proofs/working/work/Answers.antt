@@ -31,20 +31,19 @@ pub all_at_work-end-requires-send-W : goal.all_at_work-end-requires-send-W
 all_at_work-end-requires-send-W g c κs within =
     let t = c.type_bounds in
     param_send _ _ (arg_send _ no _ (task.the_send _ _ _ _ _ _ _ (param 7 g.row.D-In) _
-    (desk-send _ (param 0 g.row.R) (param 1 g.row.H) (param 5 g.row.H-Machine) (param 6 g.row.H-Machine-State) g.H.Machine.Machine t.sync-R t.send-H-Machine) 
+    (desk-send _ (param 0 g.row.R) (param 1 g.row.H) (param 5 g.row.H-Machine) (param 6 g.row.H-Machine-State) g.H.Machine.Machine t.sync-R t.send-H-Machine)
     (dialled.the_send (param 2 g.row.D) t.send-D) t.send-C
     (seat.the_send (param 5 g.row.H-Machine) Event.the_row Reply.the_row (param 6 g.row.H-Machine-State) g.H.Machine.Machine
     t.send-H-Machine event.the_send)
     t.send-D-Out t.sync-R))
 
 pub all_at_work-end-requires-clause-pass : goal.all_at_work-end-requires-clause-pass
-all_at_work-end-requires-clause-pass g c κs within =
-    (
-      search (c.type_bounds.sync-R, sendable) depth 10,
-      seat-of c.args.office.now.lock.now _ c.in-Some.seat _ c.desk-desk.ensures.lock refl
+all_at_work-end-requires-clause-pass g c κs within = (
+  search (c.type_bounds.sync-R, sendable) depth 10,
+  seat-of c.args.office.now.lock.now _ c.in-Some.seat _ c.desk-desk.ensures.lock refl
       (All-pop (IsSeatOf c.args.office.now.lock.now) c.args.seats c.pop.new.self (Some c.in-Some.seat) c.in-Some.ensures.items c.requires.theirs).1,
-      since-same c.in-Some.seat _ _ c.desk-desk.ensures.since refl,
-    )
+  since-same c.in-Some.seat _ _ c.desk-desk.ensures.since refl,
+)
 
 pub all_at_work-end-requires-clause-ready : goal.all_at_work-end-requires-clause-ready
 all_at_work-end-requires-clause-ready g c κs within =
@@ -59,10 +58,10 @@ all_at_work-end-requires-clause-ready g c κs within =
     ])
     (λ line s. elim [
       | works.Reader r ↦ λ h. (
-          (param_sync _ _ (arg_sync _ no _ c.type_bounds.sync-R), seat-of lock _ s _ h.2.1 h.2.0 h.1, since-same s _ _ h.2.2 h.2.0),
-          subst (λ l. IsServedSide (g.H.Host.knows l.start) r.side) (sym h.2.1)
-              (subst (IsServedSide (g.H.Host.knows lock.start)) (sym h.2.3) h.0),
-        )
+        (param_sync _ _ (arg_sync _ no _ c.type_bounds.sync-R), seat-of lock _ s _ h.2.1 h.2.0 h.1, since-same s _ _ h.2.2 h.2.0),
+        subst (λ l. IsServedSide (g.H.Host.knows l.start) r.side) (sym h.2.1)
+            (subst (IsServedSide (g.H.Host.knows lock.start)) (sym h.2.3) h.0),
+      )
       | works.Writer w ↦ λ h. absurd h.2
     ])
     (λ s. elim [
