@@ -251,6 +251,7 @@ answers-wanted None files fails fails' = tt
 answers-wanted (Some commands.Replay) files fails fails' = tt
 answers-wanted (Some (commands.ReplayPolicy name)) files fails fails' = tt
 answers-wanted (Some (commands.ExplainPolicy name)) files fails fails' = tt
+answers-wanted (Some (commands.Serve name)) files fails fails' = tt
 answers-wanted (Some (commands.Make seed count)) files fails fails' = tt
 
 pub ended-wanted : (command : Option Command) (files : Option (List MemFile)) (fails fails' : ℕ) (old new : Moment) → new.held ≡ old.held

@@ -12,7 +12,7 @@ use Rattle.covisor_proxy.specs.Opening.{Answers, AnswersTo, Holds}
 use Rattle.covisor_proxy.specs.Outcomes.{Ends, IsScript, Moment, code_of}
 use Rattle.covisor_proxy.specs.declared.status.Status.{Status}
 use Rattle.command_line.specs.declared.command.Command.{Command}
-use Rattle.command_line.specs.declared.command.Command.TheVariants.{Replay, ReplayPolicy, ExplainPolicy, Make}
+use Rattle.command_line.specs.declared.command.Command.TheVariants.{Replay, ReplayPolicy, ExplainPolicy, Serve, Make}
 
 -- the name of the policy file, if the command has one
 abbrev pub name_in : Option Command → Option (List ℕ)
@@ -20,6 +20,7 @@ name_in None = None
 name_in (Some Replay) = None
 name_in (Some (ReplayPolicy name)) = Some name
 name_in (Some (ExplainPolicy name)) = Some name
+name_in (Some (Serve name)) = Some name
 name_in (Some (Make seed count)) = None
 
 -- the command has a script
@@ -28,6 +29,7 @@ has_script None = false
 has_script (Some Replay) = true
 has_script (Some (ReplayPolicy name)) = true
 has_script (Some (ExplainPolicy name)) = true
+has_script (Some (Serve name)) = false
 has_script (Some (Make seed count)) = false
 
 -- a run ended with a status: the files answered in some way, and so much was read and written

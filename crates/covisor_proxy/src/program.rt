@@ -122,6 +122,7 @@ fn obey<F: Files, S: Source, K: Sink>(
             input,
             out,
         ),
+        Command::Serve { .. } => write_fault(out, b"fault usage\n", Status::Usage),
         Command::Make { seed, count } => make(alloc, seed, count, out),
     }
 }
