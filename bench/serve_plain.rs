@@ -187,14 +187,47 @@ struct Load {
     longest: Duration,
 }
 
-/// A request, and the kind of its answer.
-fn request(load: Load, controller: u32, xid: u32) -> (Vec<u8>, u8) {
-    if load.adds {
-        let mut bytes = add(controller, xid);
-        bytes.extend(message(BARRIER_REQUEST, xid, &[]));
-        (bytes, BARRIER_REPLY)
-    } else {
-        (message(ECHO_REQUEST, xid, &xid.to_be_bytes()), ECHO_REPLY)
+/// What a controller asks: what was sent and isn't answered stands with the kind of its answer, and since when.
+struct Asking {
+    load: Load,
+    number: u32,
+    next: u32,
+    sent: VecDeque<(u32, u8, Instant)>,
+}
+
+impl Asking {
+    /// A request, and the kind of its answer.
+    fn request(&self) -> (Vec<u8>, u8) {
+        if self.load.adds {
+            let mut bytes = add(self.number, self.next);
+            bytes.extend(message(BARRIER_REQUEST, self.next, &[]));
+            (bytes, BARRIER_REPLY)
+        } else {
+            (message(ECHO_REQUEST, self.next, &self.next.to_be_bytes()), ECHO_REPLY)
+        }
+    }
+
+    /// As many further requests as may be sent.
+    fn further(&mut self) -> Vec<u8> {
+        let mut out = Vec::new();
+        while self.next <= self.load.count && self.sent.len() < self.load.window {
+            let (bytes, answer) = self.request();
+            out.extend(bytes);
+            self.sent.push_back((self.next, answer, Instant::now()));
+            self.next += 1;
+        }
+        out
+    }
+
+    /// How long the first request took, if this is its answer. None of what isn't one.
+    fn answered(&mut self, frame: &[u8]) -> io::Result<Option<Duration>> {
+        if !matches!(kind(frame), ERROR | ECHO_REPLY | BARRIER_REPLY) {
+            return Ok(None);
+        }
+        match self.sent.pop_front() {
+            Some((next, wanted, since)) if is_answer(frame, wanted, next) => Ok(Some(since.elapsed())),
+            first => Err(io::Error::other(format!("controller {} is told {frame:02x?} for {first:?}", self.number))),
+        }
     }
 }
 
@@ -213,43 +246,35 @@ fn is_late(fault: &io::Error) -> bool {
     matches!(fault.kind(), ErrorKind::WouldBlock | ErrorKind::TimedOut)
 }
 
-fn controller(listener: &TcpListener, number: u32, load: Load, ready: &Barrier) -> io::Result<Answered> {
+/// The connection that the proxy makes, once both have greeted.
+fn called(listener: &TcpListener) -> io::Result<(BufReader<TcpStream>, TcpStream)> {
     let (mut source, mut sink) = both(listener.accept()?.0)?;
     sink.write_all(&message(HELLO, 0, &[]))?;
     while kind(&frame(&mut source)?) != HELLO {}
+    Ok((source, sink))
+}
+
+fn controller(listener: &TcpListener, number: u32, load: Load, ready: &Barrier) -> io::Result<Answered> {
+    let (mut source, mut sink) = called(listener)?;
     sink.set_read_timeout(Some(load.longest))?;
     ready.wait();
     let begun = Instant::now();
-    let mut sent = VecDeque::new();
-    let mut next = 1;
+    let mut asking = Asking { load, number, next: 1, sent: VecDeque::new() };
     let mut answered = Answered::default();
     while begun.elapsed() < load.longest {
-        let mut out = Vec::new();
-        while next <= load.count && sent.len() < load.window {
-            let (bytes, answer) = request(load, number, next);
-            out.extend(bytes);
-            sent.push_back((next, answer, Instant::now()));
-            next += 1;
-        }
-        sink.write_all(&out)?;
-        let Some((xid, answer, since)) = sent.front().copied() else {
+        sink.write_all(&asking.further())?;
+        if asking.sent.is_empty() {
             break;
-        };
+        }
         let frame = match frame(&mut source) {
             Err(fault) if is_late(&fault) => break,
             frame => frame?,
         };
-        match kind(&frame) {
-            ECHO_REQUEST => sink.write_all(&message(ECHO_REPLY, self::xid(&frame), &frame[8..]))?,
-            ERROR | ECHO_REPLY | BARRIER_REPLY if !is_answer(&frame, answer, xid) => {
-                return Err(io::Error::other(format!("controller {number} is told {frame:02x?} for xid {xid}")));
-            }
-            kind if kind == answer => {
-                answered.spent.push(since.elapsed());
-                answered.last = begun.elapsed();
-                sent.pop_front();
-            }
-            _ => {}
+        if kind(&frame) == ECHO_REQUEST {
+            sink.write_all(&message(ECHO_REPLY, xid(&frame), &frame[8..]))?;
+        } else if let Some(spent) = asking.answered(&frame)? {
+            answered.spent.push(spent);
+            answered.last = begun.elapsed();
         }
     }
     Ok(answered)
