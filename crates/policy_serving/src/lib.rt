@@ -1,0 +1,12 @@
+//! The endpoints of a policy: one for each member, where the proxy connects to its controller, and one for each switch,
+//! where switches connect to it.
+#![tactic(auto)]
+
+mod endpoints;
+mod laws;
+
+pub use endpoints::places;
+pub use laws::{places_are_counted, places_are_few, places_are_served};
+
+#[cfg(test)]
+mod tests;
