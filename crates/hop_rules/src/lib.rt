@@ -27,3 +27,6 @@ pub use joining::Around;
 pub use node::{Node, Turn};
 pub use table::HopTable;
 pub use turning::change_node;
+
+#[cfg(test)]
+mod tests;
