@@ -36,3 +36,5 @@ pub mod Levelling
 pub mod Empties
 pub mod Risings
 pub mod Through
+pub mod Cancelling
+pub mod Holding

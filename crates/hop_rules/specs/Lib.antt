@@ -12,3 +12,4 @@ pub mod Kept
 pub mod Building
 pub mod Telling
 pub mod Climbing
+pub mod Holding

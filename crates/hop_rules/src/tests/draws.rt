@@ -1,8 +1,10 @@
 //! Entries, and changes of entries by a fixed generator.
-use cv_io::List;
+use crate::tests::turns::Change;
+use cv_io::{Duplicate, Leaf, List};
 use of10_actions::{Dest, Effects, Out, Rewrite, Tail};
 use of10_match::{Match, Prefix};
-use policy_meaning::LeafEntry;
+use op_compose::leaf;
+use policy_meaning::{LeafEntry, LeafTable, Rule};
 use std::alloc::Global;
 use std::test::Fail;
 
@@ -15,13 +17,9 @@ pub(crate) fn entry(
     dest: Option<Dest>,
     tail: Tail,
 ) -> Result<LeafEntry, Fail> {
+    let rewrite = Rewrite::new();
     let mut outs = List::new(alloc);
-    if let Some(dest) = dest {
-        outs.push(Out {
-            rewrite: Rewrite::new(),
-            dest,
-        })?;
-    }
+    outs.push_some(dest.map(|dest| Out { rewrite, dest }))?;
     Ok(LeafEntry {
         serial,
         rank: 100,
@@ -29,6 +27,30 @@ pub(crate) fn entry(
         level,
         effects: Effects { outs, tail },
     })
+}
+
+/// The rule of an entry of a member that sees all ports.
+pub(crate) fn rule_of(alloc: Global, member: u32, entry: &LeafEntry) -> Result<Rule, Fail> {
+    let kind = entry.serial.wrapping_add(2);
+    let effects = entry.effects.copy()?;
+    Ok(leaf(
+        alloc,
+        entry.m,
+        entry.level,
+        true,
+        effects,
+        Leaf { member, kind },
+    )?)
+}
+
+/// The rule of what no entry of a member holds.
+pub(crate) fn miss(alloc: Global, member: u32) -> Result<Rule, Fail> {
+    let effects = Effects {
+        outs: List::new(alloc),
+        tail: Tail::Nothing,
+    };
+    let leaf_of = Leaf { member, kind: 1 };
+    Ok(leaf(alloc, Match::everything(), 1, false, effects, leaf_of)?)
 }
 
 /// Packets to the addresses that begin with so many bits of 10.0.0.0.
@@ -109,23 +131,20 @@ impl Draws {
         }
     }
 
-    /// An entry of a virtual switch goes, or one comes.
-    pub(crate) fn change(
-        &mut self,
-        alloc: Global,
-        v: u32,
-        entries: &mut List<LeafEntry>,
-    ) -> Result<(), Fail> {
+    /// An entry of a member goes, or one comes; what that changes of its rules, the first of which is the miss.
+    pub(crate) fn change(&mut self, alloc: Global, table: &mut LeafTable) -> Result<Change, Fail> {
         let serial = 1 + self.next() % 5;
-        let held = entries.as_slice();
+        let held = table.entries.as_slice();
         if let Some(place) = held.iter().position(|entry| entry.serial == serial) {
-            entries.remove(place);
-            return Ok(());
+            table.entries.remove(place);
+            return Ok(Change::Goes(place.wrapping_add(1)));
         }
         let m = self.packets();
         let level = 2 + self.next() % 6;
-        let dest = self.dest(v);
-        entries.push(entry(alloc, serial, m, level, dest, self.tail())?)?;
-        Ok(())
+        let dest = self.dest(table.member);
+        let entry = entry(alloc, serial, m, level, dest, self.tail())?;
+        let rule = rule_of(alloc, table.member, &entry)?;
+        table.entries.push(entry)?;
+        Ok(Change::Comes(rule))
     }
 }

@@ -1,13 +1,14 @@
 //! A switch that two virtual switches split, joined by two links; its rules from scratch.
-ghost use Rattle.std.specs.Prelude.{◌≡◌, ◌∷◌, [], IfOk, false};
+ghost use Rattle.std.specs.Prelude.{◌≡◌, IfOk, false};
+ghost use Rattle.hop_rules.specs.Holding.{IsHolding};
 
 use crate::HopTable;
-use cv_io::{Bytes, List, Text};
+use cv_io::{Bytes, List, Memory, Text};
 use of10_match::Match;
 use policy_expr::Expr;
 use policy_meaning::{
-    LeafEntry, LeafTable, Link, Network, Place, Rule, VirtualSwitch, expression_size, hop_size,
-    listed, node_rules, switch_rules, tables_fit,
+    LeafTable, Link, Network, Place, Rule, VirtualSwitch, expression_size, hop_size, listed,
+    node_rules, switch_rules, tables_fit,
 };
 use std::alloc::Global;
 use std::test::Fail;
@@ -20,9 +21,6 @@ const SPLIT: [(&str, [u16; 2]); 2] = [("v1", [1, 2]), ("v2", [3, 4])];
 
 /// The ports at which links join the two.
 const LINKED: [u16; 2] = [8, 9];
-
-/// How often a packet is evaluated at most.
-const HOPS: u32 = 4;
 
 fn text(alloc: Global, word: &str) -> Result<Text, Fail> {
     Ok(Text::from_bytes(Bytes::from_slice(alloc, word.as_bytes())?)?)
@@ -84,11 +82,33 @@ fn topology(alloc: Global) -> Result<Topology, Fail> {
     Ok(Topology::make(alloc, &plan)?)
 }
 
-/// The table of the net, before any rule comes.
-pub(crate) fn empty_table(alloc: Global) -> Result<HopTable, Fail> {
+/// The table of a net, and the rules of its two virtual switches.
+#[derive(Drop)]
+pub(crate) struct Net {
+    pub(crate) table: HopTable,
+    pub(crate) first: List<Rule>,
+    pub(crate) second: List<Rule>,
+}
+
+/// The net before any rule comes.
+pub(crate) fn empty_net(alloc: Global) -> Result<Net, Fail>
+    ensures first { IfOk result (λ net. IsHolding net.table 0 net.first) }
+    ensures second { IfOk result (λ net. IsHolding net.table 1 net.second) }
+{
+    let topology = topology(alloc)?;
+    if topology.plan().virtuals.len() != 2 {
+        return Err(Fail::from(Memory));
+    }
     let sizes = List::from_slice(alloc, &[8, 8])?;
     let whole = List::from_slice(alloc, &[false, false])?;
-    Ok(HopTable::new(alloc, topology(alloc)?, sizes, HOPS, whole)?)
+    let table = HopTable::new(alloc, topology, sizes, 4, whole)?;
+    let first = List::new(alloc);
+    let second = List::new(alloc);
+    Ok(Net {
+        table,
+        first,
+        second,
+    })
 }
 
 /// The virtual switch of a number, whose peer is the other one.
@@ -109,8 +129,8 @@ fn virtual_switch(alloc: Global, index: u32, peer: u32) -> Result<VirtualSwitch,
     })
 }
 
-/// A member that isn't told of misses.
-fn member_table(alloc: Global, member: u32, entries: List<LeafEntry>) -> Result<LeafTable, Fail> {
+/// A member without entries, which isn't told of misses.
+fn member_table(alloc: Global, member: u32) -> Result<LeafTable, Fail> {
     let mut region = List::new(alloc);
     region.push(Match::everything())?;
     Ok(LeafTable {
@@ -119,43 +139,27 @@ fn member_table(alloc: Global, member: u32, entries: List<LeafEntry>) -> Result<
         region,
         visible: List::from_slice(alloc, &[1, 2, 8, 9])?,
         misses: false,
-        entries,
+        entries: List::new(alloc),
     })
 }
 
-/// The net as rules from scratch see it, with these entries of its two members.
-pub(crate) fn network(
-    alloc: Global,
-    first: List<LeafEntry>,
-    second: List<LeafEntry>,
-) -> Result<Network, Fail> {
+/// The net as rules from scratch see it, before any entry comes.
+pub(crate) fn empty_network(alloc: Global) -> Result<Network, Fail> {
     let mut tables = List::new(alloc);
-    tables.push(member_table(alloc, 0, first)?)?;
-    tables.push(member_table(alloc, 1, second)?)?;
     let mut switches = List::new(alloc);
-    switches.push(virtual_switch(alloc, 0, 1)?)?;
-    switches.push(virtual_switch(alloc, 1, 0)?)?;
-    Ok(Network { tables, switches })
-}
-
-/// The rules of a virtual switch; none where levels don't fit.
-pub(crate) fn rules_of(alloc: Global, network: &Network, v: u32) -> Result<List<Rule>, Fail> {
-    let Some(switch) = network.switches.get(v as usize) else {
-        return Ok(List::new(alloc));
-    };
-    let tables = &network.tables;
-    if !tables_fit(tables) || expression_size(tables, &switch.expr) == u64::MAX {
-        return Ok(List::new(alloc));
+    for (v, peer) in [(0, 1), (1, 0)] {
+        tables.push(member_table(alloc, v)?)?;
+        switches.push(virtual_switch(alloc, v, peer)?)?;
     }
-    Ok(switch_rules(alloc, tables, switch)?)
+    Ok(Network { tables, switches })
 }
 
 /// The rules of a port from scratch, in their order; none where levels don't fit.
 fn scratch(alloc: Global, network: &Network, at: Place) -> Result<List<Rule>, Fail> {
-    if !tables_fit(&network.tables) || hop_size(network, HOPS, at.v) == u64::MAX {
+    if !tables_fit(&network.tables) || hop_size(network, 4, at.v) == u64::MAX {
         return Ok(List::new(alloc));
     }
-    let rules = node_rules(alloc, network, HOPS, at.v, at.port)?;
+    let rules = node_rules(alloc, network, 4, at.v, at.port)?;
     Ok(listed(rules)?)
 }
 
