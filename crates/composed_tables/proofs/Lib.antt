@@ -13,3 +13,4 @@ pub mod Building
 pub mod Pushing
 pub mod Changing
 pub mod Built
+pub mod WorkedRouted

@@ -1,15 +1,23 @@
 //! Changes of a router's table: what stands is what is installed from scratch, and what stood once it is taken
 //! back.
+ghost use Rattle.std.specs.Prelude.{◌≡◌, ◌<◌, Bool, IfOk, IsTrue};
+ghost use Rattle.std.specs.List.{AllByRecursion};
+ghost use Rattle.agreement.specs.Worked.{routed};
+ghost use Rattle.of10_match.specs.Normal.{IsNormal};
+ghost use Rattle.composed_tables.specs.Rules.{IsFitting};
+ghost use Rattle.composed_tables.specs.WorkedRouted.{routed_plan};
+
 mod settings;
 
 use crate::Composed;
-use crate::tests::settings::{alone, entry, sends, setting, to_net, topology};
+use crate::tests::settings::{alone, sends, setting, topology};
 use agreement::{Setting, entries_of};
-use cv_io::{Duplicate, Leaf, List, Steps};
+use cv_io::{Duplicate, Leaf, List, Memory, Steps};
 use incr_compile::LeafDelta;
 use install_plan::Written;
-use of10_match::Match;
+use of10_match::{Match, Prefix};
 use op_compose::leaf;
+use policy_meaning::{LeafEntry, Rule};
 use std::alloc::Global;
 use std::marker::Brand;
 use std::sync::ledger::{Blank, Ledger};
@@ -22,14 +30,14 @@ use virtual_topology::Topology;
 struct Vector {
     /// Whether its entry goes.
     goes: bool,
-    /// The net of an entry that comes, and the port to which it sends.
-    comes: Option<(u32, u8, u16)>,
+    /// The host of an entry that comes, and the port to which it sends.
+    comes: Option<(u32, u16)>,
 }
 
 const VECTORS: [Vector; 3] = [
     Vector {
         goes: false,
-        comes: Some((0x0200_0009, 32, 3)),
+        comes: Some((0x0200_0009, 3)),
     },
     Vector {
         goes: true,
@@ -37,12 +45,18 @@ const VECTORS: [Vector; 3] = [
     },
     Vector {
         goes: true,
-        comes: Some((0x0200_0000, 23, 2)),
+        comes: Some((0x0200_0001, 2)),
     },
 ];
 
-/// The level of an entry that comes.
-const LEVEL: u64 = 6;
+/// IPv4 packets to a host.
+fn to_host(addr: u32) -> Match {
+    Match {
+        dl_type: Some(0x0800),
+        nw_dst: Some(Prefix::from(addr)),
+        ..Match::everything()
+    }
+}
 
 /// The leaf of the router's entry of a serial.
 fn leaf_of(serial: u64) -> Leaf {
@@ -52,17 +66,51 @@ fn leaf_of(serial: u64) -> Leaf {
     }
 }
 
+/// Whether a match is normal.
+fn is_normal(m: &Match) -> bool
+    ensures { IsTrue result → IsNormal m.now }
+{
+    m.normal() == *m
+}
+
+/// Whether a rule has one of 8 levels, and a normal match.
+fn is_fitting(rule: &Rule) -> bool
+    ensures { IsTrue result → IsFitting 8 rule.now }
+{
+    rule.level < 8 && is_normal(&rule.m)
+}
+
+/// The rules that come by a vector.
+fn come(alloc: Global, vector: &Vector) -> Result<List<Rule>, Fail>
+    ensures { IfOk result (AllByRecursion (IsFitting 8)) }
+{
+    let Some((addr, port)) = vector.comes else {
+        return Ok(List::new(alloc));
+    };
+    let rule = leaf(
+        alloc,
+        to_host(addr),
+        6,
+        true,
+        sends(alloc, port)?,
+        leaf_of(2),
+    )?;
+    if !is_fitting(&rule) {
+        return Err(Fail::from(Memory));
+    }
+    alone(alloc, rule)
+}
+
 /// What a vector changes of the router's rules.
-fn delta(alloc: Global, vector: &Vector) -> Result<LeafDelta, Fail> {
+fn delta(alloc: Global, vector: &Vector) -> Result<LeafDelta, Fail>
+    ensures member { IfOk result (λ delta. delta.member ≡ 0) }
+    ensures come { IfOk result (λ delta. AllByRecursion (IsFitting 8) delta.come) }
+{
     let mut gone = List::new(alloc);
     if vector.goes {
         gone.push(leaf_of(1))?;
     }
-    let mut come = List::new(alloc);
-    if let Some((addr, len, port)) = vector.comes {
-        let m = to_net(addr, len);
-        come.push(leaf(alloc, m, LEVEL, true, sends(alloc, port)?, leaf_of(2))?)?;
-    }
+    let come = come(alloc, vector)?;
     Ok(LeafDelta {
         member: 0,
         gone,
@@ -73,15 +121,20 @@ fn delta(alloc: Global, vector: &Vector) -> Result<LeafDelta, Fail> {
 /// The setting after a vector's change.
 fn changed(alloc: Global, setting: &Setting, vector: &Vector) -> Result<Setting, Fail> {
     let mut after = setting.copy()?;
-    if let Some(router) = after.network.tables.as_mut_slice().get_mut(0) {
-        if vector.goes {
-            router.entries.clear();
-        }
-        if let Some((addr, len, port)) = vector.comes {
-            router
-                .entries
-                .push(entry(alloc, 2, to_net(addr, len), LEVEL, port)?)?;
-        }
+    let Some(router) = after.network.tables.as_mut_slice().get_mut(0) else {
+        return Ok(after);
+    };
+    if vector.goes {
+        router.entries.clear();
+    }
+    if let Some((addr, port)) = vector.comes {
+        router.entries.push(LeafEntry {
+            serial: 2,
+            rank: 200,
+            m: to_host(addr),
+            level: 6,
+            effects: sends(alloc, port)?,
+        })?;
     }
     Ok(after)
 }
@@ -107,21 +160,25 @@ fn follows<G: Ledger>(
     setting: &Setting,
     vector: &Vector,
     steps: &mut Steps<G>,
-) -> Result<bool, Fail> {
+) -> Result<bool, Fail>
+    requires routed { (whole : Bool) × (setting.now ≡ routed whole) }
+    requires topology { topology.now ≡ routed_plan }
+{
     if !setting.fits() {
         return Ok(false);
     }
     let mut composed = Composed::build(alloc, topology, setting, steps)?;
     let before = composed.standing(0)?;
-    composed.apply(0, delta(alloc, vector)?, &[true], 7, steps)?;
+    let delta = delta(alloc, vector)?;
     let after = changed(alloc, setting, vector)?;
-    let applied = is_scratch(alloc, &after, &composed.standing(0)?)?;
+    composed.apply(0, delta, &[true], 7, steps)?;
+    let applied = composed.standing(0)?;
     let batch = composed.whole(0, 20)?;
-    let whole = is_scratch(alloc, &after, &batch.adds)?;
     composed.undo();
-    let undone = composed.standing(0)? == before;
+    let undone = composed.standing(0)?;
     composed.restore(topology, setting, steps)?;
-    Ok(applied && whole && undone && composed.is_compiled())
+    let stands = is_scratch(alloc, &after, &applied)? && is_scratch(alloc, &after, &batch.adds)?;
+    Ok(stands && undone == before && composed.is_compiled())
 }
 
 /// Whether all changes are followed, one entry standing for all ports or one for each.

@@ -53,14 +53,23 @@ pub(crate) fn miss(alloc: Global, member: u32) -> Result<Rule, Fail> {
     Ok(leaf(alloc, Match::everything(), 1, false, effects, leaf_of)?)
 }
 
-/// Packets to the addresses that begin with so many bits of 10.0.0.0.
-fn net(len: u8) -> Match {
+/// IPv4 packets to 10.0.0.0/8.
+fn to_net() -> Match {
     Match {
         dl_type: Some(0x0800),
         nw_dst: Some(Prefix {
             addr: 0x0a00_0000,
-            len,
+            len: 8,
         }),
+        ..Match::everything()
+    }
+}
+
+/// IPv4 packets to 10.0.0.7.
+fn to_host() -> Match {
+    Match {
+        dl_type: Some(0x0800),
+        nw_dst: Some(Prefix::from(0x0a00_0007)),
         ..Match::everything()
     }
 }
@@ -81,7 +90,7 @@ impl Draws {
         self.state >> 61
     }
 
-    /// Packets that come by one of the ports, or by any; to one of two nets, or to any.
+    /// Packets that come by one of the ports, or by any; to a net, to a host in it, or to any.
     fn packets(&mut self) -> Match {
         let in_port = match self.next() {
             0 => None,
@@ -91,8 +100,8 @@ impl Draws {
             _ => Some(9),
         };
         let packets = match self.next() {
-            0 | 1 => net(8),
-            2 => net(24),
+            0 | 1 => to_net(),
+            2 => to_host(),
             _ => Match::everything(),
         };
         Match { in_port, ..packets }
