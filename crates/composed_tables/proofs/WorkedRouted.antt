@@ -23,7 +23,9 @@ use Rattle.incr_compile.specs.Compiling.{IsMemberDelta, IsOf, composed_by, membe
 use Rattle.incr_compile.specs.Trees.{TreeOf, branch, has_member, leaf, tree_of}
 use Rattle.incr_compile.specs.declared.compiled.LeafDelta.{LeafDelta}
 use Rattle.incr_compile.specs.declared.tree.Tree.{Tree}
-use Rattle.composed_tables.specs.Composing.{IsGood}
+use Rattle.agreement.specs.declared.state.Setting.{Setting}
+use Rattle.virtual_topology.specs.declared.plan.TopologyPlan.{TopologyPlan}
+use Rattle.composed_tables.specs.Composing.{ComposedOf, IsGood, IsOf}
 use Rattle.composed_tables.specs.Rules.{AreRulesOf, CanTake, IsFitting, IsOutside, IsReadyFor, IsTreeOf, RulesOf}
 use Rattle.composed_tables.specs.WorkedRouted.{routed_plan}
 
@@ -121,3 +123,26 @@ module _ (whole : Bool) where
       known t at =
           let one : IsTreeOf (routed whole).network.tables _ t = of.trees_are 0 _ t refl at in
           lone (λ i. table_size (slice_get (routed whole).network.tables i)) _ (tree_of t) one.policy one.tables_are refl
+
+-- a router's setting, and its topology
+pub record IsRouted (plan : TopologyPlan) (s : Setting) : Type 0 where
+  pub whole : Bool
+  pub setting : s ≡ routed whole
+  pub plan_is : plan ≡ routed_plan
+  pub fits : IsFittingSetting s
+
+pub good-of : (plan : TopologyPlan) (s : Setting) → IsRouted plan s → IsGood s
+good-of plan s i = subst IsGood (sym i.setting) (is-good i.whole)
+
+pub ready-of : (plan : TopologyPlan) (s : Setting) → IsRouted plan s → IsReadyFor plan s
+ready-of plan s i =
+    subst (λ (p : TopologyPlan). IsReadyFor p s) (sym i.plan_is)
+    (subst (IsReadyFor routed_plan) (sym i.setting) (is-ready i.whole (subst IsFittingSetting i.setting i.fits)))
+
+pub take-of : (plan : TopologyPlan) (s : Setting) → IsRouted plan s → (c : ComposedOf) → IsOf s c → (delta : LeafDelta) → delta.member ≡ 0
+    → AllByRecursion (IsFitting 8) delta.come → (r : RulesOf) → c.rules ≡ Some r → CanTake r 0 delta
+take-of plan s i c o delta e a r at = can-take i.whole r delta (subst (λ (z : Setting). AreRulesOf z r) i.setting (o.rules r at)) e a
+
+-- it has one switch
+pub one-table : (plan : TopologyPlan) (s : Setting) → IsRouted plan s → length s.switches ≡ 1
+one-table plan s i = ap (λ (z : Setting). length z.switches) i.setting

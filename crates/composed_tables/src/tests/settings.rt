@@ -1,17 +1,15 @@
 //! One virtual switch that has the ports 1 to 4 of a switch with five, and one member, a router.
-ghost use Rattle.std.specs.Prelude.{◌≡◌, ◌∷◌, [], IfOk, IsTrue, false};
+ghost use Rattle.std.specs.Prelude.{◌≡◌, ◌∷◌, [], IfOk, false};
 ghost use Rattle.agreement.specs.Worked.{four_ports, routed};
 ghost use Rattle.composed_tables.specs.WorkedRouted.{routed_item, routed_plan};
 ghost use Rattle.of10_actions.specs.declared.effects.Tail.TheVariants.{Nothing};
 ghost use Rattle.policy_expr.specs.Policy.{member};
 ghost use Rattle.policy_meaning.specs.WorkedTables.{does, entry, server_router, to_net, to_port};
-ghost use Rattle.std.specs.Prelude.{list_all};
-ghost use Rattle.cv_io.specs.Text.{is_ascii};
 ghost use Rattle.virtual_topology.specs.Worked.{outside_at, s1, switch_of};
 ghost use Rattle.switch_meaning.specs.WorkedEntries.{one_switch, same_port};
 
 use agreement::{PhysicalSwitch, Setting};
-use cv_io::{List, Memory, Text};
+use cv_io::{List, Text};
 use of10_actions::{Dest, Effects, Out, Rewrite, Tail};
 use of10_match::{Match, Prefix};
 use policy_expr::Expr;
@@ -160,21 +158,11 @@ pub(crate) fn setting(alloc: Global, whole: bool) -> Result<Setting, Fail>
     })
 }
 
-/// A text of a word.
-fn text(alloc: Global, word: &str) -> Result<Text, Memory>
-    requires { IsTrue (list_all is_ascii word.now) }
-    ensures { IfOk result (λ text. text ≡ word.now) }
-{
-    let mut text = Text::new(alloc);
-    text.push_str(word)?;
-    Ok(text)
-}
-
 /// A port of the virtual switch.
 fn virtual_port(alloc: Global, port: u16) -> Result<VirtualPort, Fail>
     ensures { IfOk result (λ x. x ≡ outside_at port s1 port) }
 {
-    let name = text(alloc, "s1")?;
+    let name = Text::from_slice(alloc, b"s1")?;
     Ok(VirtualPort {
         port,
         at: Some(PortPlace { name, port }),
@@ -185,8 +173,8 @@ fn virtual_port(alloc: Global, port: u16) -> Result<VirtualPort, Fail>
 fn virtual_item(alloc: Global) -> Result<VirtualItem, Fail>
     ensures { IfOk result (λ x. x ≡ routed_item) }
 {
-    let name = text(alloc, "v1")?;
-    let expr = text(alloc, "app")?;
+    let name = Text::from_slice(alloc, b"v1")?;
+    let expr = Text::from_slice(alloc, b"app")?;
     let mut ports = List::new(alloc);
     ports.push(virtual_port(alloc, 1)?)?;
     ports.push(virtual_port(alloc, 2)?)?;
@@ -204,7 +192,7 @@ fn virtual_item(alloc: Global) -> Result<VirtualItem, Fail>
 fn switch_item(alloc: Global) -> Result<SwitchItem, Fail>
     ensures { IfOk result (λ x. x ≡ switch_of s1 1 (1 ∷ 2 ∷ 3 ∷ 4 ∷ 5 ∷ [])) }
 {
-    let name = text(alloc, "s1")?;
+    let name = Text::from_slice(alloc, b"s1")?;
     let ports = List::from_slice(alloc, &[1, 2, 3, 4, 5])?;
     Ok(SwitchItem {
         name,
