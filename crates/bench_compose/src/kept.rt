@@ -1,5 +1,6 @@
 //! A compiled expression of two members, and changes of their rules.
-ghost use Rattle.std.specs.Prelude.{◌≡◌, ◌<◌, ◌∷◌, [], IfOk, IsTrue};
+ghost use Rattle.std.specs.Prelude.{◌≡◌, ◌<◌, IfOk, IsTrue};
+ghost use Rattle.of10_match.specs.Normal.{IsNormal};
 ghost use Rattle.policy_expr.specs.Policy.{policy_of};
 ghost use Rattle.policy_meaning.specs.LeafFact.{IsSoundTable};
 ghost use Rattle.bench_compose.specs.Keeping.{AllCanCome, AreEmpty, CanCome, IsOfTwo};
@@ -17,11 +18,17 @@ use std::sync::ledger::Ledger;
 /// How many levels a member has.
 pub const SIZE: u64 = 0x2_0000;
 
+fn is_normal(m: &Match) -> bool
+    ensures { IsTrue result → IsNormal m.now }
+{
+    m.normal() == *m
+}
+
 /// Whether a rule can come to a member: it has one of its levels, and a normal match.
 pub fn can_come(rule: &Rule) -> bool
     ensures { IsTrue result → CanCome rule.now }
 {
-    rule.level < SIZE && rule.m.normal() == rule.m
+    rule.level < SIZE && is_normal(&rule.m)
 }
 
 /// A compiled expression of two members.
@@ -102,10 +109,5 @@ impl Kept {
         requires come { AllCanCome delta.come }
     {
         self.compiled.apply(delta, steps)
-    }
-
-    /// The rules, in their order.
-    pub fn rules(&self) -> Result<List<Rule>, Memory> {
-        self.compiled.rules()
     }
 }

@@ -1,11 +1,11 @@
 //! The rules of members, by the numbers of their entries.
-ghost use Rattle.std.specs.Prelude.{IfOk};
+ghost use Rattle.std.specs.Prelude.{◌<◌, ◌^◌, IfOk};
 ghost use Rattle.bench_compose.specs.Keeping.{AllCanCome};
 
 use crate::kept::{SIZE, can_come};
 use cv_io::{Leaf, List, Memory};
 use of10_actions::{Dest, Effects, Out, Rewrite, Tail};
-use of10_match::{Match, Prefix, TCP};
+use of10_match::{Match, OfpMatch, TCP, read};
 use op_compose::{Op, leaf};
 use policy_meaning::Rule;
 use std::alloc::Global;
@@ -15,29 +15,41 @@ use std::alloc::Global;
 pub enum Kind {
     /// One flow each.
     Exact,
-    /// Nets of mixed sizes.
+    /// Nets of 12 to 32 bits.
     Prefix,
     /// One address each, but for a few of the left member, which hold a protocol.
     Wild,
 }
 
-/// Two members with so many entries each.
+/// How two members are composed, and the kind of their entries.
 #[derive(Clone, Copy)]
 pub struct Members {
     pub op: Op,
     pub kind: Kind,
-    pub rules: u16,
 }
 
-impl Kind {
-    pub fn named(word: &str) -> Option<Kind> {
-        match word {
-            "exact" => Some(Kind::Exact),
-            "prefix" => Some(Kind::Prefix),
-            "wild" => Some(Kind::Wild),
-            _ => None,
-        }
-    }
+/// A match as it is written, of which the wildcards leave all out.
+const OPEN: OfpMatch = OfpMatch {
+    wildcards: 0x3f_ffff,
+    in_port: 0,
+    dl_src: 0,
+    dl_dst: 0,
+    dl_vlan: 0,
+    dl_vlan_pcp: 0,
+    dl_type: 0x0800,
+    nw_tos: 0,
+    nw_proto: TCP,
+    nw_src: 0,
+    nw_dst: 0,
+    tp_src: 1024,
+    tp_dst: 80,
+};
+
+fn as_read(written: &OfpMatch) -> Match
+    requires dl_src { written.now.dl_src < 2 ^ 48 }
+    requires dl_dst { written.now.dl_dst < 2 ^ 48 }
+{
+    read(&written.to_bytes()).normal
 }
 
 /// An address of 10.0.0.0/8, by a number that is spread over it.
@@ -45,45 +57,31 @@ fn address(number: u16) -> u32 {
     0x0a00_0000 + u32::from(number).wrapping_mul(0x9e37_79b1) / 256
 }
 
-/// IPv4 packets of TCP to an address.
-fn server(number: u16) -> Match {
-    Match {
-        dl_type: Some(0x0800),
-        nw_proto: Some(TCP),
-        nw_dst: Some(Prefix::from(address(number))),
-        ..Match::everything()
-    }
-}
-
-/// IPv4 packets to a net of 12 to 32 bits.
-fn net(number: u16) -> Match {
-    let open = 20 - u32::from(number % 21);
-    Match {
-        nw_proto: None,
-        nw_dst: Some(Prefix {
-            addr: address(number) >> open << open,
-            len: (32 - open) as u8,
-        }),
-        ..server(number)
-    }
-}
-
 /// The packets of the entry of a number.
 fn packets(kind: Kind, member: u32, number: u16) -> Match {
+    let nw_dst = address(number);
     match kind {
-        Kind::Exact => Match {
-            nw_src: Some(Prefix::from(0x0b00_0000 + u32::from(number))),
-            tp_src: Some(1024),
-            tp_dst: Some(80),
-            ..server(number)
-        },
-        Kind::Prefix => net(number),
-        Kind::Wild if member == 0 && number % 64 == 0 => Match {
-            nw_proto: Some((number / 64 % 200) as u8),
-            nw_dst: None,
-            ..server(number)
-        },
-        Kind::Wild => server(number),
+        Kind::Exact => as_read(&OfpMatch {
+            wildcards: 0x30_000f,
+            nw_src: 0x0b00_0000 + u32::from(number),
+            nw_dst,
+            ..OPEN
+        }),
+        Kind::Prefix => as_read(&OfpMatch {
+            wildcards: 0x30_20ef + (20 - u32::from(number % 21)) * 0x4000,
+            nw_dst,
+            ..OPEN
+        }),
+        Kind::Wild if member == 0 && number % 64 == 0 => as_read(&OfpMatch {
+            wildcards: 0x38_20cf,
+            nw_proto: (number / 64 % 200) as u8,
+            ..OPEN
+        }),
+        Kind::Wild => as_read(&OfpMatch {
+            wildcards: 0x30_20cf,
+            nw_dst,
+            ..OPEN
+        }),
     }
 }
 
@@ -91,19 +89,17 @@ fn packets(kind: Kind, member: u32, number: u16) -> Match {
 fn effects(alloc: Global, op: Op, member: u32, number: u16) -> Result<Effects, Memory> {
     let mut outs = List::new(alloc);
     if matches!(op, Op::Seq) && member == 0 {
-        let rewrite = Rewrite {
-            nw_dst: Some(address(number)),
+        let nw_dst = Some(address(number));
+        let tail = Tail::Pass(Rewrite {
+            nw_dst,
             ..Rewrite::new()
-        };
-        let tail = Tail::Pass(rewrite);
+        });
         return Ok(Effects { outs, tail });
     }
+    let port = 1 + number % 4;
     outs.push(Out {
         rewrite: Rewrite::new(),
-        dest: Dest::Port {
-            v: 0,
-            port: 1 + number % 4,
-        },
+        dest: Dest::Port { v: 0, port },
     })?;
     let tail = Tail::Nothing;
     Ok(Effects { outs, tail })
@@ -111,10 +107,8 @@ fn effects(alloc: Global, op: Op, member: u32, number: u16) -> Result<Effects, M
 
 /// The leaf of the entry of a number.
 pub fn leaf_of(member: u32, number: u16) -> Leaf {
-    Leaf {
-        member,
-        kind: 3 + u64::from(number),
-    }
+    let kind = 3 + u64::from(number);
+    Leaf { member, kind }
 }
 
 impl Members {
