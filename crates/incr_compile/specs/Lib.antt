@@ -6,3 +6,4 @@ pub mod Nodes
 pub mod Trees
 pub mod Costs
 pub mod Compiling
+pub mod Worked
