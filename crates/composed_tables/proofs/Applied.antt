@@ -19,7 +19,7 @@ use Rattle.policy_meaning.specs.declared.rule.Rule.{Rule}
 use Rattle.policy_meaning.proofs.Lists.{all-map}
 use Rattle.composed_tables.specs.Composing.{AreExact, Changes, rules_in}
 use Rattle.composed_tables.specs.Rules.{ArePortDeltas, AreRulesOf, AreTied, IsChangedAt, IsLaidOut, IsTreeOf, KeepsRest, LeadsToParted, RulesOf}
-use Rattle.hop_rules.proofs.Cancelling.{same-after}
+use Rattle.composed_tables.proofs.Cancelling.{same-after}
 use Rattle.composed_tables.proofs.Exact.{parted-exact, whole-exact}
 use Rattle.composed_tables.proofs.Kept.{There, beside, within}
 use Rattle.composed_tables.proofs.Trees.{sized-of, stays-of}

@@ -16,7 +16,7 @@ use Rattle.policy_meaning.specs.declared.rule.Rule.{Rule}
 use Rattle.policy_meaning.proofs.Lists.{all-map}
 use Rattle.virtual_topology.specs.declared.plan.TopologyPlan.{TopologyPlan}
 use Rattle.composed_tables.specs.Rules.{IsEmptyTable, IsFitting, IsHandedOver, KeepsRest}
-use Rattle.hop_rules.proofs.Cancelling.{same-after}
+use Rattle.composed_tables.proofs.Cancelling.{same-after}
 
 abbrev no-rules : List Rule
 no-rules = []

@@ -3,6 +3,7 @@ pub mod Entering
 pub mod Nodes
 pub mod Trees
 pub mod Finding
+pub mod Cancelling
 pub mod Kept
 pub mod Exact
 pub mod After
@@ -13,4 +14,3 @@ pub mod Building
 pub mod Pushing
 pub mod Changing
 pub mod Built
-pub mod WorkedRouted

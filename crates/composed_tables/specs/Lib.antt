@@ -2,4 +2,3 @@ pub mod Placing
 pub mod Rules
 pub mod Composing
 pub mod ComposedLaw
-pub mod WorkedRouted

@@ -13,6 +13,3 @@ pub mod rules;
 pub use composed::Composed;
 pub use rules::Rules;
 pub use switch_tables::SwitchBatch;
-
-#[cfg(test)]
-mod tests;

@@ -36,5 +36,3 @@ pub mod Levelling
 pub mod Empties
 pub mod Risings
 pub mod Through
-pub mod Cancelling
-pub mod Holding

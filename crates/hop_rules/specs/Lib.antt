@@ -12,4 +12,3 @@ pub mod Kept
 pub mod Building
 pub mod Telling
 pub mod Climbing
-pub mod Holding

@@ -27,6 +27,3 @@ pub use joining::Around;
 pub use node::{Node, Turn};
 pub use table::HopTable;
 pub use turning::change_node;
-
-#[cfg(test)]
-mod tests;

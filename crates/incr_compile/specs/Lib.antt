@@ -6,4 +6,3 @@ pub mod Nodes
 pub mod Trees
 pub mod Costs
 pub mod Compiling
-pub mod Worked

@@ -20,6 +20,3 @@ pub mod tree;
 pub use compiled::{Compiled, LeafDelta};
 pub use joining::{left_rule, right_rule};
 pub use making::{made_by_left, made_by_right};
-
-#[cfg(test)]
-mod tests;

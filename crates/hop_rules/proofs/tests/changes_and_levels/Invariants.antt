@@ -1,5 +1,0 @@
-use Rattle.hop_rules.proofs.tests.changes_and_levels.Given as goal
-
--- the ledger of the counter is the blank one's
-abbrev pub ghosts-seen : goal.ghosts-seen
-ghosts-seen a = record { name = a.blank.name; parts = a.blank.parts }

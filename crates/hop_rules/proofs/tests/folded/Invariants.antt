@@ -1,8 +1,0 @@
-use Rattle.hop_rules.specs.Holding.{IsHolding}
-use Rattle.hop_rules.proofs.tests.folded.Given as goal
-
-abbrev pub invariant-loop-round : goal.invariant-loop-round
-invariant-loop-round g l = record {
-  first : IsHolding l.net.table 0 l.net.first;
-  second : IsHolding l.net.table 1 l.net.second;
-}

@@ -1,0 +1,7 @@
+//! The tests, each with what it works on.
+mod draws;
+mod hops;
+mod nets;
+mod settings;
+mod tables;
+mod turns;
