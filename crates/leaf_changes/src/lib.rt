@@ -1,0 +1,7 @@
+//! How the rules of a member change with what an event plans for its table: which leaves go, and which rules come.
+#![tactic(auto)]
+
+pub mod coming;
+pub mod delta;
+
+pub use delta::leaf_delta;
