@@ -3,5 +3,6 @@
 
 pub mod coming;
 pub mod delta;
+pub mod laws;
 
 pub use delta::leaf_delta;
