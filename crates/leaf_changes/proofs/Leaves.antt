@@ -142,26 +142,27 @@ module _ (ports serials : List ℕ) (t : LeafTable) where
   others_stay [] = refl
   others_stay (e ∷ es) =
       filter_joined (is_apart_from goes) (in_cells boxes (entry_rule t e)) (entry_rules ports t es)
-      ∙ by (is_among serials e.serial) refl
+      ∙ by (is_among serials e.serial) refl (others_stay es)
     where
       by : (b : Bool) → is_among serials e.serial ≡ b
+          → filter (is_apart_from goes) (entry_rules ports t es) ≡ entry_rules ports t (entries_apart serials es)
           → filter (is_apart_from goes) (in_cells boxes (entry_rule t e))
           ++ filter (is_apart_from goes) (entry_rules ports t es)
           ≡ entry_rules ports t (if not b then e ∷ entries_apart serials es else entries_apart serials es)
-      by true f =
+      by true f rest =
           ap (λ rs. rs ++ filter (is_apart_from goes) (entry_rules ports t es))
-          (gone_if (2 + e.serial) (entry_rule t e) refl (same_numbers e.serial serials ∙ f)) ∙ others_stay es
-      by false f =
+          (gone_if (2 + e.serial) (entry_rule t e) refl (same_numbers e.serial serials ∙ f)) ∙ rest
+      by false f rest =
           ap (λ rs. rs ++ filter (is_apart_from goes) (entry_rules ports t es))
           (kept_if (2 + e.serial) (entry_rule t e) refl (same_numbers e.serial serials ∙ f))
-          ∙ ap (λ rs. in_cells boxes (entry_rule t e) ++ rs) (others_stay es)
+          ∙ ap (λ rs. in_cells boxes (entry_rule t e) ++ rs) rest
 
   -- the rules of all entries are those of some and those of the others
   parted : (es : List LeafEntry)
       → IsPermutation (entry_rules ports t (entries_among serials es) ++ entry_rules ports t (entries_apart serials es))
       (entry_rules ports t es)
   parted [] = IsPermutation-refl []
-  parted (e ∷ es) = by (is_among serials e.serial)
+  parted (e ∷ es) = by (is_among serials e.serial) (parted es)
     where
       abbrev own : List Rule
       own = in_cells boxes (entry_rule t e)
@@ -172,18 +173,17 @@ module _ (ports serials : List ℕ) (t : LeafTable) where
       abbrev rest : List Rule
       rest = entry_rules ports t (entries_apart serials es)
 
-      by : (b : Bool)
+      by : (b : Bool) → IsPermutation (some ++ rest) (entry_rules ports t es)
           → IsPermutation
           (entry_rules ports t (if b then e ∷ entries_among serials es else entries_among serials es)
           ++ entry_rules ports t (if not b then e ∷ entries_apart serials es else entries_apart serials es))
           (own ++ entry_rules ports t es)
-      by true =
+      by true p =
           subst (λ rs. IsPermutation rs (own ++ entry_rules ports t es)) (sym (joined own some rest))
-          (IsPermutation-append_right own (some ++ rest) (entry_rules ports t es) (parted es))
-      by false =
+          (IsPermutation-append_right own (some ++ rest) (entry_rules ports t es) p)
+      by false p =
           IsPermutation-trans (some ++ (own ++ rest)) (own ++ (some ++ rest)) (own ++ entry_rules ports t es)
-          (behind some own rest)
-          (IsPermutation-append_right own (some ++ rest) (entry_rules ports t es) (parted es))
+          (behind some own rest) (IsPermutation-append_right own (some ++ rest) (entry_rules ports t es) p)
 
   outside_stays : (b : Bool) → filter (is_apart_from goes) (if b then outside_rule t ∷ [] else [])
       ≡ (if b then outside_rule t ∷ [] else [])

@@ -84,18 +84,21 @@ none_more (Some l) rest e = absurd (cc)
 linked_port : (plan : TopologyPlan) (v n : ℕ) (s : Spot) (qs : List VirtualPort) → peer_of plan v n ≡ Some s
     → list_any (has_link n) qs ≡ true → filter_map (link plan v) qs ≡ [] → ⊥
 linked_port plan v n s [] t e none = absurd (true≢false (sym e))
-linked_port plan v n s (q ∷ qs) t e none = by (has_link n q) refl e
+linked_port plan v n s (q ∷ qs) t e none =
+    by (has_link n q) refl e
+    (λ g. linked_port plan v n s qs t g (none_more (link plan v q) (filter_map (link plan v) qs) none))
   where
     same_port : (b c : Bool) → (b && c) ≡ true → c ≡ true
     same_port true c f = f
     same_port false c f = absurd (true≢false (sym f))
 
-    by : (b : Bool) → has_link n q ≡ b → (b || list_any (has_link n) qs) ≡ true → ⊥
-    by true f g =
+    by : (b : Bool) → has_link n q ≡ b → (b || list_any (has_link n) qs) ≡ true
+        → (list_any (has_link n) qs ≡ true → ⊥) → ⊥
+    by true f g rest =
         let port : q.port ≡ n = eqb-true q.port n (same_port _ (q.port == n) f) in
         some_link plan v q (peer_of plan v q.port) s (filter_map (link plan v) qs)
         (subst (λ (m : ℕ). peer_of plan v m ≡ Some s) (sym port) t) none
-    by false f g = linked_port plan v n s qs t g (none_more (link plan v q) (filter_map (link plan v) qs) none)
+    by false f g rest = rest g
 
 some_of : (o : Option Spot) → is_some o ≡ true → (s : Spot) × (o ≡ Some s)
 some_of None e = absurd (true≢false (sym e))

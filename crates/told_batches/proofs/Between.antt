@@ -33,7 +33,8 @@ use Rattle.switch_meaning.proofs.Members.{in-permuted, one-alike, passes-any, th
 use Rattle.machine_meaning.specs.Batches.{coming, going, is_among, standing_after, staying}
 use Rattle.machine_meaning.proofs.StandingAfter.{wanted_stands}
 use Rattle.told_batches.specs.Told.{IsBetween, IsLower, IsToldOf, ToldChangesAreBetween, has_key_in, put_all}
-use Rattle.told_batches.proofs.Told.{Unlike, all_put, in_order, one_order, pairs_kept, row_cmp, rows_total, swapped}
+use Rattle.told_batches.proofs.Told.{Unlike, all_put, in_order, nothing, one_order, pairs_kept, row_cmp, rows_total}
+use Rattle.told_batches.proofs.Told.{sorted_put, swapped}
 
 -- tests -------------------------------------------------------------------------------------------------------------
 
@@ -188,14 +189,9 @@ module _ (stood : List Written) (wanted : List PhysEntry) (told : Batch) (h : Is
         (all-permuted (λ (e : PhysEntry). IsMatch e.m) wanted (map entry_of rows) wanted_rows h.in_range)
 
     sorted_rows : IsPermutation (kept ++ come) rows
-    sorted_rows = rows_sorted (kept ++ come)
-      where
-        nothing : (xs : List Written) → xs ++ [] ≡ xs
-        nothing [] = refl
-        nothing (x ∷ xs) = ap (λ ys. x ∷ ys) (nothing xs)
-
-        rows_sorted : (ws : List Written) → IsPermutation ws (put_all ws [])
-        rows_sorted ws = subst (λ zs. IsPermutation zs (put_all ws [])) (nothing ws) (all_put ws [])
+    sorted_rows =
+        subst (λ zs. IsPermutation zs rows) (nothing (kept ++ come))
+        (subst (λ zs. IsPermutation ((kept ++ come) ++ []) zs) (sorted_put (kept ++ come)) (all_put (kept ++ come) []))
 
     back : EachPair Unlike (kept ++ come)
     back =

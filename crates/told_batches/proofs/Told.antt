@@ -63,19 +63,19 @@ in_order (w ∷ ws) h = ap (put_by_key w) (in_order ws h.1) ∙ put_first w ws h
 all_kept : {A : Type 0} (P : A → Type 0) (q : A → Bool) (xs : List A) → AllByRecursion P xs
     → AllByRecursion P (filter q xs)
 all_kept P q [] h = tt
-all_kept P q (x ∷ xs) h = by (q x)
+all_kept P q (x ∷ xs) h = by (q x) (all_kept P q xs h.1)
   where
-    by : (b : Bool) → AllByRecursion P (if b then x ∷ filter q xs else filter q xs)
-    by true = (h.0, all_kept P q xs h.1)
-    by false = all_kept P q xs h.1
+    by : (b : Bool) → AllByRecursion P (filter q xs) → AllByRecursion P (if b then x ∷ filter q xs else filter q xs)
+    by true rest = (h.0, rest)
+    by false rest = rest
 
 pub pairs_kept : {A : Type 0} (R : A → A → Type 0) (q : A → Bool) (xs : List A) → EachPair R xs → EachPair R (filter q xs)
 pairs_kept R q [] h = tt
-pairs_kept R q (x ∷ xs) h = by (q x)
+pairs_kept R q (x ∷ xs) h = by (q x) (pairs_kept R q xs h.1)
   where
-    by : (b : Bool) → EachPair R (if b then x ∷ filter q xs else filter q xs)
-    by true = (all_kept (R x) q xs h.0, pairs_kept R q xs h.1)
-    by false = pairs_kept R q xs h.1
+    by : (b : Bool) → EachPair R (filter q xs) → EachPair R (if b then x ∷ filter q xs else filter q xs)
+    by true rest = (all_kept (R x) q xs h.0, rest)
+    by false rest = rest
 
 -- putting by key keeps the rows
 put_permutes : (w : Written) (xs : List Written) → IsPermutation (w ∷ xs) (put_by_key w xs)
@@ -96,7 +96,7 @@ all_put (w ∷ ws) sorted =
     IsPermutation-trans (w ∷ ws ++ sorted) (w ∷ put_all ws sorted) (put_all (w ∷ ws) sorted)
     (IsPermutation-cons w (ws ++ sorted) (put_all ws sorted) (all_put ws sorted)) (put_permutes w (put_all ws sorted))
 
-sorted_put : (ws : List Written) → put_all ws [] ≡ by_key ws
+pub sorted_put : (ws : List Written) → put_all ws [] ≡ by_key ws
 sorted_put [] = refl
 sorted_put (w ∷ ws) = ap (put_by_key w) (sorted_put ws)
 
@@ -146,7 +146,7 @@ all_rise (w ∷ ws) sorted n p =
 no_pairs : EachPair IsLower []
 no_pairs = tt
 
-nothing : (xs : List Written) → xs ++ [] ≡ xs
+pub nothing : (xs : List Written) → xs ++ [] ≡ xs
 nothing [] = refl
 nothing (x ∷ xs) = ap (λ ys. x ∷ ys) (nothing xs)
 
