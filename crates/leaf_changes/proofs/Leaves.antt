@@ -64,44 +64,42 @@ or_none false = refl
 
 -- some leaf is that of this kind
 any_leaf : (i k : ℕ) (serials : List ℕ)
-    → list_any (λ (l : Leaf). list_any (same_leaf l) (record { member = i; kind = k } ∷ [])) (map (leaf_at i) serials)
-    ≡ list_any (λ s. (2 + s) == k) serials
+    → list_any (same_leaf (record { member = i; kind = k })) (map (leaf_at i) serials)
+    ≡ list_any (λ s. k == (2 + s)) serials
 any_leaf i k [] = refl
 any_leaf i k (s ∷ ss) =
-    ap (λ b. ((b && ((2 + s) == k)) || false)
-    || list_any (λ (l : Leaf). list_any (same_leaf l) (record { member = i; kind = k } ∷ [])) (map (leaf_at i) ss))
+    ap (λ b. (b && (k == (2 + s))) || list_any (same_leaf (record { member = i; kind = k })) (map (leaf_at i) ss))
     (eq-eqb i i refl)
-    ∙ (ap (λ b. b
-    || list_any (λ (l : Leaf). list_any (same_leaf l) (record { member = i; kind = k } ∷ [])) (map (leaf_at i) ss))
-    (or_none ((2 + s) == k)) ∙ ap (λ b. ((2 + s) == k) || b) (any_leaf i k ss))
+    ∙ ap (λ b. (k == (2 + s)) || b) (any_leaf i k ss)
 
 abbrev IsOfKind : ℕ → ℕ → Rule → Type 0
 IsOfKind i k r = r.ancestry ≡ record { member = i; kind = k } ∷ []
 
 apart_is : (i k : ℕ) (serials : List ℕ) (r : Rule) → IsOfKind i k r
-    → is_apart_from (map (leaf_at i) serials) r ≡ not (list_any (λ s. (2 + s) == k) serials)
+    → is_apart_from (map (leaf_at i) serials) r ≡ not (list_any (λ s. k == (2 + s)) serials)
 apart_is i k serials r e =
-    ap (λ (ls : List Leaf). not (list_any (λ (l : Leaf). list_any (same_leaf l) ls) (map (leaf_at i) serials))) e
-    ∙ ap not (any_leaf i k serials)
+    ap (λ (ls : List Leaf). not (list_any (λ (l : Leaf). list_any (same_leaf l) (map (leaf_at i) serials)) ls)) e
+    ∙ ap not (or_none (list_any (same_leaf (record { member = i; kind = k })) (map (leaf_at i) serials))
+    ∙ any_leaf i k serials)
 
-never : (k : ℕ) → ((s : ℕ) → (2 + s) ≡ k → ⊥) → (serials : List ℕ) → list_any (λ s. (2 + s) == k) serials ≡ false
+never : (k : ℕ) → ((s : ℕ) → k ≡ 2 + s → ⊥) → (serials : List ℕ) → list_any (λ s. k == (2 + s)) serials ≡ false
 never k f [] = refl
 never k f (s ∷ ss) =
-    ap (λ b. b || list_any (λ s. (2 + s) == k) ss) (ne_eqb (2 + s) k (f s)) ∙ never k f ss
+    ap (λ b. b || list_any (λ s. k == (2 + s)) ss) (ne_eqb k (2 + s) (f s)) ∙ never k f ss
 
-same_number : (s n : ℕ) → ((2 + s) == (2 + n)) ≡ (s == n)
+same_number : (s n : ℕ) → ((2 + n) == (2 + s)) ≡ (s == n)
 same_number s n = by (s == n) refl
   where
-    by : (b : Bool) → (s == n) ≡ b → ((2 + s) == (2 + n)) ≡ b
-    by true e = let same = eqb-true s n e in eq-eqb (2 + s) (2 + n) (ap (λ m. 2 + m) same)
+    by : (b : Bool) → (s == n) ≡ b → ((2 + n) == (2 + s)) ≡ b
+    by true e = let same = eqb-true s n e in eq-eqb (2 + n) (2 + s) (ap (λ m. 2 + m) (sym same))
     by false e =
-        ne_eqb (2 + s) (2 + n)
+        ne_eqb (2 + n) (2 + s)
         (λ f. let same : s ≡ n = omega (arith, f) in let t : (s == n) ≡ true = eq-eqb s n same in cc)
 
-same_numbers : (n : ℕ) (serials : List ℕ) → list_any (λ s. (2 + s) == (2 + n)) serials ≡ is_among serials n
+same_numbers : (n : ℕ) (serials : List ℕ) → list_any (λ s. (2 + n) == (2 + s)) serials ≡ is_among serials n
 same_numbers n [] = refl
 same_numbers n (s ∷ ss) =
-    ap (λ b. b || list_any (λ s. (2 + s) == (2 + n)) ss) (same_number s n)
+    ap (λ b. b || list_any (λ s. (2 + n) == (2 + s)) ss) (same_number s n)
     ∙ ap (λ b. (s == n) || b) (same_numbers n ss)
 
 -- rules -------------------------------------------------------------------------------------------------------------
@@ -122,14 +120,31 @@ module _ (ports serials : List ℕ) (t : LeafTable) where
   abbrev boxes : List MatchOf
   boxes = cells ports t
 
-  kept_if : (k : ℕ) (a : Rule) → IsOfKind t.member k a → list_any (λ s. (2 + s) == k) serials ≡ false
+  -- the rules of an entry, of those of the numbers, and of the others
+  abbrev own : LeafEntry → List Rule
+  own e = in_cells boxes (entry_rule t e)
+
+  abbrev among : List LeafEntry → List Rule
+  among es = entry_rules ports t (entries_among serials es)
+
+  abbrev apart : List LeafEntry → List Rule
+  apart es = entry_rules ports t (entries_apart serials es)
+
+  -- those of headers outside, and of misses
+  abbrev first : List Rule
+  first = if has_outside ports t then outside_rule t ∷ [] else []
+
+  abbrev second : List Rule
+  second = in_cells boxes (miss_rule t)
+
+  kept_if : (k : ℕ) (a : Rule) → IsOfKind t.member k a → list_any (λ s. k == (2 + s)) serials ≡ false
       → filter (is_apart_from goes) (in_cells boxes a) ≡ in_cells boxes a
   kept_if k a of none =
       all_pass (is_apart_from goes) (in_cells boxes a)
       (weaker (λ (r : Rule). r.ancestry ≡ a.ancestry) (λ (r : Rule). is_apart_from goes r ≡ true)
       (λ r e. apart_is t.member k serials r (e ∙ of) ∙ ap not none) (in_cells boxes a) (all_met boxes a))
 
-  gone_if : (k : ℕ) (a : Rule) → IsOfKind t.member k a → list_any (λ s. (2 + s) == k) serials ≡ true
+  gone_if : (k : ℕ) (a : Rule) → IsOfKind t.member k a → list_any (λ s. k == (2 + s)) serials ≡ true
       → filter (is_apart_from goes) (in_cells boxes a) ≡ []
   gone_if k a of some =
       none_pass (is_apart_from goes) (in_cells boxes a)
@@ -164,26 +179,18 @@ module _ (ports serials : List ℕ) (t : LeafTable) where
   parted [] = IsPermutation-refl []
   parted (e ∷ es) = by (is_among serials e.serial) (parted es)
     where
-      abbrev own : List Rule
-      own = in_cells boxes (entry_rule t e)
-
-      abbrev some : List Rule
-      some = entry_rules ports t (entries_among serials es)
-
-      abbrev rest : List Rule
-      rest = entry_rules ports t (entries_apart serials es)
-
-      by : (b : Bool) → IsPermutation (some ++ rest) (entry_rules ports t es)
+      by : (b : Bool) → IsPermutation (among es ++ apart es) (entry_rules ports t es)
           → IsPermutation
           (entry_rules ports t (if b then e ∷ entries_among serials es else entries_among serials es)
           ++ entry_rules ports t (if not b then e ∷ entries_apart serials es else entries_apart serials es))
-          (own ++ entry_rules ports t es)
+          (own e ++ entry_rules ports t es)
       by true p =
-          subst (λ rs. IsPermutation rs (own ++ entry_rules ports t es)) (sym (joined own some rest))
-          (IsPermutation-append_right own (some ++ rest) (entry_rules ports t es) p)
+          subst (λ rs. IsPermutation rs (own e ++ entry_rules ports t es)) (sym (joined (own e) (among es) (apart es)))
+          (IsPermutation-append_right (own e) (among es ++ apart es) (entry_rules ports t es) p)
       by false p =
-          IsPermutation-trans (some ++ (own ++ rest)) (own ++ (some ++ rest)) (own ++ entry_rules ports t es)
-          (behind some own rest) (IsPermutation-append_right own (some ++ rest) (entry_rules ports t es) p)
+          IsPermutation-trans (among es ++ (own e ++ apart es)) (own e ++ (among es ++ apart es))
+          (own e ++ entry_rules ports t es) (behind (among es) (own e) (apart es))
+          (IsPermutation-append_right (own e) (among es ++ apart es) (entry_rules ports t es) p)
 
   outside_stays : (b : Bool) → filter (is_apart_from goes) (if b then outside_rule t ∷ [] else [])
       ≡ (if b then outside_rule t ∷ [] else [])
@@ -219,26 +226,15 @@ module _ (ports serials : List ℕ) (t : LeafTable) where
       ((if has_outside ports t then outside_rule t ∷ [] else [])
       ++ (in_cells boxes (miss_rule t) ++ entry_rules ports t after))
   changed before after same =
-      subst (λ rs. IsPermutation (come ++ rs) (first ++ (second ++ entry_rules ports t after)))
+      subst (λ rs. IsPermutation (among after ++ rs) (first ++ (second ++ entry_rules ports t after)))
       (sym (stays before ∙ ap (λ es. first ++ (second ++ entry_rules ports t es)) same))
-      (IsPermutation-trans (come ++ (first ++ (second ++ left))) (first ++ (come ++ (second ++ left)))
-      (first ++ (second ++ entry_rules ports t after)) (behind come first (second ++ left))
-      (IsPermutation-append_right first (come ++ (second ++ left)) (second ++ entry_rules ports t after)
-      (IsPermutation-trans (come ++ (second ++ left)) (second ++ (come ++ left))
-      (second ++ entry_rules ports t after) (behind come second left)
-      (IsPermutation-append_right second (come ++ left) (entry_rules ports t after) (parted after)))))
-    where
-      abbrev come : List Rule
-      come = entry_rules ports t (entries_among serials after)
-
-      abbrev left : List Rule
-      left = entry_rules ports t (entries_apart serials after)
-
-      abbrev first : List Rule
-      first = if has_outside ports t then outside_rule t ∷ [] else []
-
-      abbrev second : List Rule
-      second = in_cells boxes (miss_rule t)
+      (IsPermutation-trans (among after ++ (first ++ (second ++ apart after)))
+      (first ++ (among after ++ (second ++ apart after))) (first ++ (second ++ entry_rules ports t after))
+      (behind (among after) first (second ++ apart after))
+      (IsPermutation-append_right first (among after ++ (second ++ apart after)) (second ++ entry_rules ports t after)
+      (IsPermutation-trans (among after ++ (second ++ apart after)) (second ++ (among after ++ apart after))
+      (second ++ entry_rules ports t after) (behind (among after) second (apart after))
+      (IsPermutation-append_right second (among after ++ apart after) (entry_rules ports t after) (parted after)))))
 
 pub leaves-change : LeavesChange
 leaves-change ports serials t u h =
