@@ -10,11 +10,11 @@ ghost use Rattle.machine_meaning.specs.Removing.{due_in, with_kept};
 ghost use Rattle.machine_meaning.specs.Rounds.{begun_member, ended_member};
 ghost use Rattle.hyper_core.specs.Views.{member_of};
 
+use crate::leaf_delta::leaf_delta;
 use crate::session::Member;
 use cv_io::{List, Memory};
 use grants::Grant;
 use incr_compile::LeafDelta;
-use leaf_changes::leaf_delta;
 use machine_meaning::Config;
 use member_state::{MemberState, Planned};
 use member_table::{Entry, Table};

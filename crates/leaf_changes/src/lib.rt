@@ -1,8 +1,4 @@
-//! How the rules of a member change with what an event plans for its table: which leaves go, and which rules come.
+//! How the rules of a member change with some entries of its table.
 #![tactic(auto)]
 
-pub mod coming;
-pub mod delta;
 pub mod laws;
-
-pub use delta::leaf_delta;

@@ -1,5 +1,5 @@
-//! The change of a member's rules.
-use crate::coming::{coming, keeps_levels, touched};
+//! How the rules of a member change with what an event plans for its table: which leaves go, and which rules come.
+use crate::leaf_entries::{coming, keeps_levels, touched};
 use cv_io::{Duplicate, Leaf, List, Memory};
 use grants::Grant;
 use incr_compile::LeafDelta;
@@ -80,7 +80,7 @@ fn all_anew(
 
 /// How the rules of a member of this number, with this grant, at a virtual switch of these ports change with what is
 /// planned for a moment: those of entries that go, come, get other actions, or other levels.
-pub fn leaf_delta(
+pub(crate) fn leaf_delta(
     alloc: Global,
     member: u32,
     grant: &Grant,
