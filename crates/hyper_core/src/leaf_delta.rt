@@ -91,7 +91,10 @@ pub(crate) fn leaf_delta(
 ) -> Result<LeafDelta, Memory> {
     let size = u64::from(planned.levels.size());
     let (serials, entries) = if keeps_levels(kept, planned) {
-        (touched(planned)?, coming(alloc, member, &grant.ports, kept, planned)?)
+        (
+            touched(planned)?,
+            coming(alloc, member, &grant.ports, kept, planned)?,
+        )
     } else {
         all_anew(alloc, member, grant, kept, planned, now)?
     };

@@ -17,9 +17,7 @@ fn is_known(kept: &MemberState, added: &Option<Entry>) -> bool {
 /// Whether the rank of the entry at a place keeps its level.
 fn keeps_level(kept: &MemberState, planned: &Planned, place: usize) -> bool {
     match kept.table().at(place) {
-        Some(entry) => {
-            kept.levels().level(entry.rank) == planned.levels.level(entry.rank)
-        }
+        Some(entry) => { kept.levels().level(entry.rank) == planned.levels.level(entry.rank) }
         None => true,
     }
 }

@@ -1,10 +1,10 @@
 -- The rules of a table that differs from another in some entries alone.
-use Rattle.std.proofs.Common.{◌≡◌, ◌∙◌, ℕ, zero, suc, ◌+◌, ◌==◌, Bool, true, false, not, ◌&&◌, ◌||◌, List, [], ◌∷◌, ◌++◌}
+use Rattle.std.proofs.Common.{◌≡◌, ◌∙◌, ℕ, ◌+◌, ◌==◌, Bool, true, false, not, ◌&&◌, ◌||◌, List, [], ◌∷◌, ◌++◌}
 use Rattle.std.proofs.Common.{map, filter, Option, Some, None, arith, refl, sym, ap, subst, eqb-true, eq-eqb}
-use Rattle.std.specs.Prelude.{IsPermutation, filter_map, flat_map, if◌then◌else◌, option_map}
+use Rattle.std.specs.Prelude.{IsPermutation, if◌then◌else◌, option_map}
 use Rattle.std.specs.List.{AllByRecursion, cons_option, list_any}
 use Rattle.std.proofs.lemmas.Bool.{ne_eqb}
-use Rattle.std.proofs.lemmas.List.Sorted.{IsPermutation-append_left, IsPermutation-append_right, IsPermutation-cons}
+use Rattle.std.proofs.lemmas.List.Sorted.{IsPermutation-append_right, IsPermutation-cons}
 use Rattle.std.proofs.lemmas.List.Sorted.{IsPermutation-middle, IsPermutation-refl, IsPermutation-sym}
 use Rattle.std.proofs.lemmas.List.Sorted.{IsPermutation-trans}
 use Rattle.cv_io.specs.declared.leaf.Leaf.{Leaf}
@@ -16,7 +16,7 @@ use Rattle.policy_meaning.specs.LeafRules.{cells, entry_rule, has_outside, in_ce
 use Rattle.policy_meaning.specs.declared.leaf.LeafEntry.{LeafEntry}
 use Rattle.policy_meaning.specs.declared.leaf.LeafTable.{LeafTable}
 use Rattle.policy_meaning.specs.declared.rule.Rule.{Rule}
-use Rattle.leaf_changes.specs.Leaves.{DiffersAt, LeavesChange, entries_among, entries_apart, entry_rules, leaf_at}
+use Rattle.leaf_changes.specs.Leaves.{LeavesChange, entries_among, entries_apart, entry_rules, leaf_at}
 
 -- lists -------------------------------------------------------------------------------------------------------------
 

@@ -1,5 +1,5 @@
 -- The links and outside ports of a policy's setting are those of its topology.
-use Rattle.std.proofs.Common.{◌≡◌, ◌∙◌, ℕ, zero, suc, ◌+◌, ◌<◌, ◌==◌, Bool, true, false, true≢false, List, [], ◌∷◌, length}
+use Rattle.std.proofs.Common.{◌≡◌, ◌∙◌, ℕ, suc, ◌==◌, Bool, true, false, true≢false, List, [], ◌∷◌}
 use Rattle.std.proofs.Common.{map, Option, Some, None, arith, refl, sym, ap, subst}
 use Rattle.std.specs.Prelude.{Contains, filter, filter_map, if◌then◌else◌, is_some, option_map, slice_get, ◌&&◌, ◌||◌}
 use Rattle.std.specs.List.{AllByRecursion, cons_option, list_any}
@@ -9,21 +9,18 @@ use Rattle.composed_tables.specs.Rules.{IsOutside, LeadsToParted}
 use Rattle.hop_rules.specs.Links.{end, link_of, links, place as place_of, port_ends}
 use Rattle.hop_rules.specs.declared.exits.LinkEnd.{LinkEnd}
 use Rattle.policy_expr.specs.Policy.{Policy}
-use Rattle.policy_meaning.specs.Hops.{peer_of as peer_in}
-use Rattle.policy_meaning.specs.Leaf.{has_port}
 use Rattle.policy_meaning.specs.Networks.{switch_links}
 use Rattle.policy_meaning.specs.Switches.{SwitchOf}
 use Rattle.policy_meaning.specs.declared.leaf.LeafTable.{LeafTable}
 use Rattle.policy_meaning.specs.declared.network.Link.{Link}
 use Rattle.policy_meaning.specs.declared.network.Place.{Place}
 use Rattle.policy_setting.specs.Networks.{is_of, link, outside_ports, place, virtual_switch}
-use Rattle.policy_setting.specs.Premises.{HaveNumbers, HasSoundPorts}
+use Rattle.policy_setting.specs.Premises.{HaveNumbers}
 use Rattle.policy_setting.specs.Settings.{expr_at, holds_at, setting, switches}
 use Rattle.policy_setting.proofs.Apart.{Faultless}
 use Rattle.policy_setting.proofs.Joints.{all_filtered}
-use Rattle.policy_setting.proofs.Linked.{IsWay, way_is}
+use Rattle.policy_setting.proofs.Linked.{way_is}
 use Rattle.policy_setting.proofs.Lone.{sound_ports}
-use Rattle.policy_setting.proofs.Mixed.{switch_is}
 use Rattle.policy_setting.proofs.Parts.{all_weaker}
 use Rattle.policy_setting.proofs.Placing.{switch_at}
 use Rattle.policy_setting.proofs.Spots.{has_link}

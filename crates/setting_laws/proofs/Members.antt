@@ -1,14 +1,13 @@
 -- The setting changes with what one member keeps.
 use Rattle.std.proofs.Common.{◌≡◌, ◌≢◌, ◌∙◌, ℕ, zero, suc, ◌+◌, ◌==◌, Bool, true, false, List, [], ◌∷◌, map, Option, Some}
 use Rattle.std.proofs.Common.{None, refl, sym, ap, ap₂, subst, eqb-true, eq-eqb}
-use Rattle.std.specs.Prelude.{IsPermutation, slice_get, zip, ◌^◌}
+use Rattle.std.specs.Prelude.{IsPermutation, slice_get, zip}
 use Rattle.std.specs.List.{enumerate_from}
 use Rattle.composed_tables.specs.Composing.{Changes}
 use Rattle.incr_compile.specs.Compiling.{rules_after}
 use Rattle.incr_compile.specs.declared.compiled.LeafDelta.{LeafDelta}
 use Rattle.member_state.specs.Leaves.{leaf_of}
 use Rattle.policy_file.specs.Policies.{PolicyOf, plan}
-use Rattle.policy_file.specs.Sound.{IsSound}
 use Rattle.policy_file.specs.declared.policy.MemberItem.{MemberItem}
 use Rattle.policy_meaning.specs.CentralFact.{EachMember}
 use Rattle.policy_meaning.specs.Networks.{ports_of, table_rules, table_size}

@@ -1,19 +1,17 @@
 -- The setting of a state with sound tables is as the composed part asks.
-use Rattle.std.proofs.Common.{◌≡◌, ◌≢◌, ◌∙◌, ℕ, zero, suc, ◌+◌, ◌*◌, ◌<◌, ◌≤◌, ◌^◌, Bool, false, List, [], ◌∷◌, length, map}
-use Rattle.std.proofs.Common.{Some, max, arith, refl, sym, ap, subst}
+use Rattle.std.proofs.Common.{◌≡◌, ◌∙◌, ℕ, zero, suc, ◌+◌, ◌*◌, ◌<◌, ◌≤◌, ◌^◌, Bool, false, List, [], ◌∷◌, length, map}
+use Rattle.std.proofs.Common.{Some, arith, refl, sym, subst}
 use Rattle.std.specs.Prelude.{◌==◌, All, slice_get, zip}
 use Rattle.std.specs.List.{AllByRecursion, enumerate_from}
 use Rattle.std.specs.Option.{option_map_or}
 use Rattle.std.proofs.Math.Nat.{le-mul_of_pos_right}
 use Rattle.std.proofs.lemmas.List.Elements.{All-from_recursion}
 use Rattle.std.proofs.lemmas.List.FromFn.{length-enumerate_from}
-use Rattle.agreement.specs.Entries.{ports_at}
 use Rattle.agreement.specs.Fitting.{IsFittingSetting}
 use Rattle.agreement.specs.OneEntry.{IsNamedOnce}
 use Rattle.agreement.specs.Premises.{IsSoundSetting}
 use Rattle.agreement.specs.declared.state.PhysicalSwitch.{PhysicalSwitch}
 use Rattle.agreement.specs.declared.state.Setting.{Setting}
-use Rattle.composed_tables.specs.Composing.{IsGood}
 use Rattle.composed_tables.specs.Rules.{CanCompile, IsOutside, IsReadyFor}
 use Rattle.member_state.specs.Leaves.{leaf_of}
 use Rattle.member_state.specs.Sound.{IsSoundLeaf}
@@ -35,13 +33,12 @@ use Rattle.policy_setting.specs.Settings.{expr_at, numbered_switch, physical}
 use Rattle.policy_setting.proofs.Apart.{faultless}
 use Rattle.policy_setting.proofs.Mixed.{switch_is}
 use Rattle.policy_setting.proofs.Numbers.{tags_small}
-use Rattle.policy_setting.proofs.Parts.{all_weaker}
 use Rattle.policy_setting.proofs.Ready.{numbers_of}
 use Rattle.virtual_topology.proofs.Counted.{few_switches, few_virtuals}
 use Rattle.virtual_topology.specs.declared.plan.SwitchItem.{SwitchItem}
 use Rattle.machine_meaning.specs.Laws.{SettingsAreSound}
 use Rattle.machine_meaning.specs.Settings.{setting_of, table_of, tables_with, ups_with}
-use Rattle.machine_meaning.specs.Sound.{AreSoundTables, IsSoundMember}
+use Rattle.machine_meaning.specs.Sound.{AreSoundTables}
 use Rattle.machine_meaning.specs.States.{MemberOf, State}
 use Rattle.machine_meaning.proofs.Grants.{grant_sound}
 use Rattle.machine_meaning.proofs.NamedOnce.{IsShort, short_at}

@@ -1,5 +1,5 @@
 -- Which switches are up doesn't matter to what is kept of a setting.
-use Rattle.std.proofs.Common.{◌≡◌, ◌∙◌, ℕ, zero, suc, ◌+◌, Bool, List, [], ◌∷◌, ◌++◌, length, map, Some, refl, sym, ap}
+use Rattle.std.proofs.Common.{◌≡◌, ◌∙◌, ℕ, zero, suc, ◌+◌, Bool, List, [], ◌∷◌, ◌++◌, length, map, refl, sym, ap}
 use Rattle.std.proofs.Common.{subst}
 use Rattle.std.specs.Prelude.{flat_map, if◌then◌else◌, slice_get}
 use Rattle.std.specs.List.{enumerate_from}
@@ -15,7 +15,7 @@ use Rattle.policy_file.specs.Policies.{PolicyOf}
 use Rattle.policy_setting.specs.Settings.{physical}
 use Rattle.switch_meaning.specs.Fixed.{drops, fixed_entries}
 use Rattle.switch_meaning.specs.declared.entry.PhysEntry.{PhysEntry}
-use Rattle.switch_tables.specs.Tables.{HasNow, SwitchTableOf}
+use Rattle.switch_tables.specs.Tables.{HasNow}
 use Rattle.virtual_topology.specs.declared.plan.SwitchItem.{SwitchItem}
 use Rattle.machine_meaning.specs.Settings.{setting_with, ups_with}
 use Rattle.machine_meaning.specs.States.{MemberOf, SwitchOf}

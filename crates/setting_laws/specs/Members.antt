@@ -1,5 +1,5 @@
 -- How a policy's setting changes with what one member keeps.
-use Rattle.std.specs.Prelude.{◌≡◌, ◌≢◌, ℕ, Some, List, IsPermutation, length, slice_get}
+use Rattle.std.specs.Prelude.{◌≡◌, ◌≢◌, ℕ, Some, List, IsPermutation, slice_get}
 use Rattle.composed_tables.specs.Composing.{Changes}
 use Rattle.incr_compile.specs.Compiling.{rules_after}
 use Rattle.incr_compile.specs.declared.compiled.LeafDelta.{LeafDelta}

@@ -4,8 +4,7 @@ use Rattle.std.proofs.Common.{sym, ap, subst}
 use Rattle.std.specs.Prelude.{if◌then◌else◌, IsPermutation, ◌==◌}
 use Rattle.std.specs.List.{AllByRecursion, IsDistinct, list_any}
 use Rattle.std.specs.Ordering.{nat_cmp}
-use Rattle.std.specs.declared.cmp.Ordering.TheVariants.{Equal}
-use Rattle.std.proofs.lemmas.List.Sorted.{IsPermutation-sym, IsPermutation-trans}
+use Rattle.std.proofs.lemmas.List.Sorted.{IsPermutation-sym}
 use Rattle.std.proofs.lemmas.Map.Keys.{IsDistinct-IsPermutation}
 use Rattle.agreement.specs.FreeOrder.{HaveMatches}
 use Rattle.install_plan.specs.Tables.{entry_of, numbered}
@@ -21,7 +20,7 @@ use Rattle.policy_meaning.proofs.Booleans.{join_and}
 use Rattle.policy_meaning.proofs.Listings.{both-equal, number-is}
 use Rattle.policy_meaning.proofs.Rising.{differs-permuted}
 use Rattle.switch_meaning.specs.BatchLaw.{HasOneAKey}
-use Rattle.switch_meaning.specs.Batches.{by_key as entries_by_key, key_cmp, missing}
+use Rattle.switch_meaning.specs.Batches.{by_key as entries_by_key, missing}
 use Rattle.switch_meaning.specs.Keys.{same_key}
 use Rattle.switch_meaning.specs.Same.{same_entry}
 use Rattle.switch_meaning.specs.declared.entry.Difference.{Difference}
@@ -32,7 +31,7 @@ use Rattle.switch_meaning.proofs.Members.{IsIn, all-permuted, any-passes, filter
 use Rattle.switch_meaning.proofs.Members.{in-permuted, one-alike, passes-any, there}
 use Rattle.machine_meaning.specs.Batches.{coming, going, is_among, standing_after, staying}
 use Rattle.machine_meaning.proofs.StandingAfter.{wanted_stands}
-use Rattle.told_batches.specs.Told.{IsBetween, IsLower, IsToldOf, ToldChangesAreBetween, has_key_in, put_all}
+use Rattle.told_batches.specs.Told.{IsBetween, IsLower, IsToldOf, ToldChangesAreBetween, has_key_in}
 use Rattle.told_batches.proofs.Told.{Unlike, all_put, in_order, nothing, one_order, pairs_kept, row_cmp, rows_total}
 use Rattle.told_batches.proofs.Told.{sorted_put, swapped}
 

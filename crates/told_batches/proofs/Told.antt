@@ -1,37 +1,25 @@
 -- What is told is the batch that is written.
-use Rattle.std.proofs.Common.{◌≡◌, ◌∙◌, ℕ, Bool, true, false, true≢false, not, List, [], ◌∷◌, ◌++◌, map, filter, refl}
+use Rattle.std.proofs.Common.{◌≡◌, ◌∙◌, Bool, true, false, List, [], ◌∷◌, ◌++◌, map, filter, refl}
 use Rattle.std.proofs.Common.{sym, ap, subst}
 use Rattle.std.specs.Prelude.{if◌then◌else◌, IsPermutation}
 use Rattle.std.specs.Cmp.{IsTotalOrder, on_total}
-use Rattle.std.specs.List.{AllByRecursion, IsDistinct, list_any}
+use Rattle.std.specs.List.{AllByRecursion}
 use Rattle.std.specs.Ordering.{is_le, ordering_reverse}
 use Rattle.std.specs.declared.cmp.Ordering.{Ordering}
 use Rattle.std.specs.declared.cmp.Ordering.TheVariants.{Equal, Greater, Less}
 use Rattle.std.proofs.lemmas.List.Sorted.{IsPermutation-cons, IsPermutation-middle, IsPermutation-refl}
-use Rattle.std.proofs.lemmas.List.Sorted.{IsPermutation-append_right, IsPermutation-sym, IsPermutation-trans}
-use Rattle.agreement.specs.FreeOrder.{BatchIsTheSame, HaveMatches}
-use Rattle.install_plan.specs.Tables.{entries_in, entry_of, numbered}
-use Rattle.install_plan.specs.declared.written.Batch.{Batch}
+use Rattle.std.proofs.lemmas.List.Sorted.{IsPermutation-sym, IsPermutation-trans}
+use Rattle.agreement.specs.FreeOrder.{BatchIsTheSame}
+use Rattle.install_plan.specs.Tables.{entry_of}
 use Rattle.install_plan.specs.declared.written.Written.{Written}
-use Rattle.install_plan.proofs.Cookies.{entries-numbered}
-use Rattle.of10_match.specs.Order.{by_bytes}
-use Rattle.of10_match.specs.Ranges.{IsMatch}
 use Rattle.policy_meaning.specs.LeafFact.{EachPair}
 use Rattle.policy_meaning.proofs.Lists.{all-map}
 use Rattle.policy_meaning.proofs.Rising.{unique}
-use Rattle.switch_meaning.specs.BatchLaw.{HasOneAKey}
-use Rattle.switch_meaning.specs.Batches.{by_key as entries_by_key, difference, key_cmp, missing}
-use Rattle.switch_meaning.specs.Keys.{same_key}
-use Rattle.switch_meaning.specs.Same.{same_entry}
-use Rattle.switch_meaning.specs.declared.entry.Difference.{Difference}
-use Rattle.switch_meaning.specs.declared.entry.PhysEntry.{PhysEntry}
-use Rattle.switch_meaning.proofs.Alike.{entry_decides}
-use Rattle.switch_meaning.proofs.Batched.{by_key-permutes, key-self}
+use Rattle.switch_meaning.specs.Batches.{difference, key_cmp}
 use Rattle.switch_meaning.proofs.ByKey.{key_total}
-use Rattle.switch_meaning.proofs.Members.{IsIn, any-passes, filter-in, in-filter, in-map, in-permuted, map-in}
-use Rattle.switch_meaning.proofs.Members.{all-permuted, passes-any}
-use Rattle.machine_meaning.specs.Batches.{by_key, coming, going, is_among, put_by_key, standing_after, staying}
-use Rattle.told_batches.specs.Told.{BatchesAreTold, IsBetween, IsLower, IsToldOf, ToldChangesAreBetween, has_key_in}
+use Rattle.switch_meaning.proofs.Members.{all-permuted}
+use Rattle.machine_meaning.specs.Batches.{by_key, put_by_key}
+use Rattle.told_batches.specs.Told.{BatchesAreTold, IsLower}
 use Rattle.told_batches.specs.Told.{put_all}
 
 pub batches-told : BatchIsTheSame → BatchesAreTold
