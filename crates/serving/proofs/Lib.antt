@@ -1,0 +1,6 @@
+mod Lines
+mod Works
+mod Posts
+mod Served
+mod Audits
+mod Endings

@@ -1,0 +1,219 @@
+-- The works of a run stand for its endpoints.
+use Rattle.std.proofs.Common.{◌≡◌, ◌⊎◌, ◌||◌, ◌×◌, ℕ, Bool, true, false, List, [], ◌∷◌, ◌++◌, Option, All, IsTrue, map, refl, sym, ap, ◌∙◌, subst, inl, inr}
+use Rattle.cv_io.specs.Connections.{Connection}
+use Rattle.cv_io.specs.declared.links.Endpoint.{Endpoint}
+use Rattle.events.specs.declared.event.Event.{Event}
+use Rattle.events.specs.declared.event.Reply.{Reply}
+use Rattle.policy_lock.specs.Close.{HasSeen}
+use Rattle.policy_lock.specs.History.{same_number}
+use Rattle.policy_lock.specs.Number.{Numbered, has_number, numbered, numbers}
+use Rattle.policy_lock.specs.Seat.{SeatOf}
+use Rattle.policy_lock.specs.declared.machine.Machine.{Ghosts}
+use Rattle.policy_lock.specs.declared.view.Entry.{Entry}
+use Rattle.policy_lock.proofs.Histories.{same-eq, same-true}
+use Rattle.sessions.specs.declared.desk.Post.{Post}
+use Rattle.endpoint_works.specs.Audits.{IsAudits}
+use Rattle.endpoint_works.specs.Sendings.{HasSent}
+use Rattle.endpoint_works.specs.Tasks.{HasReceived}
+use Rattle.endpoint_works.specs.declared.receiving.Received.{Received}
+use Rattle.lock_desk.specs.Passes.{HasEnded, IsSince, own_posts, post_of, posts_by}
+use Rattle.serving.specs.Lines.{AreLinesOf, IsLineOf}
+use Rattle.serving.specs.Runs.{AreServed, IsServed}
+use Rattle.serving.specs.Works.{AreWorks}
+use Rattle.serving.specs.declared.dialling.Line.{Line}
+use Rattle.serving.specs.declared.place.Place.{Place}
+use Rattle.serving.proofs.Audits.{IsAuditsAlone, of-number}
+use Rattle.serving.proofs.Posts.{TakesNone, adds-rounds, senders-none}
+
+-- the last of a list, or this
+last_or : {A : Type 0} → A → List A → A
+last_or d [] = d
+last_or d (x ∷ xs) = last_or x xs
+
+pub last-append : {A : Type 0} (d : A) (front : List A) (x : A) → last_or d (front ++ x ∷ []) ≡ x
+last-append d [] x = refl
+last-append d (y ∷ front) x = last-append y front x
+
+either_true : (a b : Bool) → (a || b) ≡ true → (a ≡ true) ⊎ (b ≡ true)
+either_true true b e = inl refl
+either_true false b e = inr e
+
+-- two of a list hold of each
+both : {X : Type 0} (P Q R : X → Type 0) → ((x : X) → P x → Q x → R x) → (xs : List X) → All P xs → All Q xs → All R xs
+both P Q R f [] p q = record {}
+both P Q R f (x ∷ xs) p q = (f x p.0 q.0, both P Q R f xs p.1 q.1)
+
+every : {X : Type 0} (P Q : X → Type 0) → ((x : X) → P x → Q x) → (xs : List X) → All P xs → All Q xs
+every P Q f [] p = record {}
+every P Q f (x ∷ xs) p = (f x p.0, every P Q f xs p.1)
+
+module _ {M S D : Type 0} (g : Ghosts M Event Reply S) (start : S) (told : Endpoint → Option (List Connection)) (reliable : Endpoint → Bool)
+    (left : D → Option (List Connection)) (never_fails : D → Bool) (log : List (Entry Event Reply)) where
+  abbrev Seated : Type 0
+  Seated = SeatOf Event Reply S
+
+  -- what the first work of an endpoint came to, whose seat was s and is w
+  pub record HasRead (failed wanted : Bool) (line : Line D) (s w : Seated) : Type 0 where
+    pub silent : own_posts s.pass ≡ []
+    pub number : w.pass.number ≡ s.pass.number
+    pub seen : HasSeen log w
+    pub end : Received
+    pub fails : end.failed ≡ true → failed ≡ true
+    pub wants : end.wanted ≡ true → wanted ≡ true
+    pub left' : Option (List Connection)
+    pub received :
+        HasReceived (λ (seat : Seated). own_posts seat.pass) (λ (seat : Seated). HasEnded g seat.pass) IsSince
+        line.side (never_fails line.dial) (left line.dial) left' s w end
+
+  -- the second, and the audit's
+  pub record HasWritten (s : Seated) : Type 0 where
+    pub cut : Bool
+    pub sent : HasSent cut [] (posts_by s.pass.number log)
+
+  abbrev pub HasAudited : Seated → Type 0
+  HasAudited s = All IsAudits (posts_by s.pass.number log)
+
+  module _ (undialled failed wanted : Bool) where
+    served-one : (place : Place) (line : Line D) (s w r : Seated) → IsLineOf told reliable left never_fails place line
+        → HasRead failed wanted line s w → HasWritten r → IsServed g start told reliable failed wanted place log s.pass.number r.pass.number
+    served-one place line s w r is h k = record {
+      began = s;
+      silent = h.silent;
+      ended = w;
+      number = sym h.number;
+      seen = h.seen;
+      end = h.end;
+      fails = h.fails;
+      wants = h.wants;
+      never_fails = never_fails line.dial;
+      reliable = is.reliable;
+      left = h.left';
+      received =
+          subst (λ (links : Option (List Connection)).
+          HasReceived (λ (seat : Seated). own_posts seat.pass) (λ (seat : Seated). HasEnded g seat.pass) IsSince
+          place.side (never_fails line.dial) links h.left' s w h.end) is.told
+          (subst (λ side. HasReceived (λ (seat : Seated). own_posts seat.pass) (λ (seat : Seated). HasEnded g seat.pass) IsSince
+          side (never_fails line.dial) (left line.dial) h.left' s w h.end) is.side h.received);
+      cut = k.cut;
+      sent = k.sent;
+    }
+
+    module _ {T : Type 0} (pass : T → Seated) where
+      abbrev pub Reads : Line D → Seated → T → Type 0
+      Reads line s t = HasRead failed wanted line s (pass t)
+
+      abbrev pub Writes : Seated → T → Type 0
+      Writes s t = HasWritten s
+
+      abbrev pub Audits : Seated → T → Type 0
+      Audits s t = HasAudited s
+
+      pub served-all : (places : List Place) (lines : List (Line D)) (seats : List Seated) (works : List T)
+          → AreLinesOf told reliable left never_fails undialled places lines → AreWorks Reads Writes Audits lines seats works
+          → AreServed g start told reliable undialled failed wanted places log (numbers seats)
+      served-all [] lines seats works are is =
+          let a = subst (λ (l : List (Line D)). AreWorks Reads Writes Audits l seats works) are is in
+          record { number = numbered a.seat.pass; numbers = ap numbers a.seats; takings = a.audits }
+      served-all (place ∷ places) lines seats works (inl are) is = inl (are.0, served-all places lines seats works are.1 is)
+      served-all (place ∷ places) lines seats works (inr one) is =
+          let a = subst (λ (l : List (Line D)). AreWorks Reads Writes Audits l seats works) one.lines is in
+          inr (record {
+            first = numbered a.first.pass;
+            second = numbered a.second.pass;
+            numbers' = numbers a.seats';
+            numbers = ap numbers a.seats;
+            served = served-one place one.line a.first (pass a.reader) a.second one.is a.reads a.writes;
+            rest = served-all places one.lines' a.seats' a.works' one.rest a.rest;
+          })
+
+    -- the audit's work posts takings of the audit alone
+    audits-last : (d : Numbered) (places : List Place) (all : List Numbered)
+        → AreServed g start told reliable undialled failed wanted places log all → All IsAudits (posts_by (last_or d all).0 log)
+    audits-last d [] all is = subst (λ (l : List Numbered). All IsAudits (posts_by (last_or d l).0 log)) (sym is.numbers) is.takings
+    audits-last d (place ∷ places) all (inl is) = audits-last d places all is.1
+    audits-last d (place ∷ places) all (inr is) =
+        subst (λ (l : List Numbered). All IsAudits (posts_by (last_or d l).0 log)) (sym is.numbers)
+        (audits-last is.second places is.numbers' is.rest)
+
+    -- the works of an endpoint post no such
+    first-none : (place : Place) (first second : List ℕ) → IsServed g start told reliable failed wanted place log first second
+        → All TakesNone (posts_by first log)
+    first-none place first second is =
+        let more = adds-rounds (λ (seat : Seated). own_posts seat.pass) (λ (seat : Seated). HasEnded g seat.pass) IsSince place.side
+        is.end.wanted (told place.end) is.left is.began is.ended is.received.passes is.received.rounds in
+        subst (λ (n : List ℕ). All TakesNone (posts_by n log)) (sym is.number)
+        (subst (All TakesNone) (sym (ap (map post_of) is.seen.1 ∙ (more.is ∙ ap (λ (l : List Post). l ++ more.more) is.silent))) more.none)
+
+    second-none : (place : Place) (first second : List ℕ) → IsServed g start told reliable failed wanted place log first second
+        → All TakesNone (posts_by second log)
+    second-none place first second is =
+        subst (All TakesNone) (sym is.sent.posted) (senders-none is.cut is.sent.more is.sent.each)
+
+    -- an entry under one of the numbers is the audit's, or takes no line
+    abbrev IsOneOf : List Numbered → List ℕ → Entry Event Reply → Type 0
+    IsOneOf all n x = has_number x.by all ≡ true → (same_number x.by n ≡ true) ⊎ TakesNone (post_of x)
+
+    turned : (a b : List ℕ) → same_number a b ≡ true → same_number b a ≡ true
+    turned a b e = same-eq b a (sym (same-true a b e))
+
+    others-none : (d : Numbered) (places : List Place) (all : List Numbered)
+        → AreServed g start told reliable undialled failed wanted places log all → All (IsOneOf all (last_or d all).0) log
+    others-none d [] all is =
+        subst (λ (l : List Numbered). All (IsOneOf l (last_or d l).0) log) (sym is.numbers)
+        (every (λ (x : Entry Event Reply). same_number x.by is.number.0 ≡ true → IsAudits (post_of x))
+        (IsOneOf (is.number ∷ []) is.number.0)
+        (λ x h e. inl (turned is.number.0 x.by (or-none (same_number is.number.0 x.by) e))) log
+        (of-number IsAudits is.number.0 log is.takings))
+      where
+        or-none : (b : Bool) → (b || false) ≡ true → b ≡ true
+        or-none true e = refl
+        or-none false e = e
+    others-none d (place ∷ places) all (inl is) = others-none d places all is.1
+    others-none d (place ∷ places) all (inr is) =
+        let n = (last_or is.second is.numbers').0 in
+        subst (λ (l : List Numbered). All (IsOneOf l (last_or d l).0) log) (sym is.numbers)
+        (both (λ (x : Entry Event Reply). same_number x.by is.first.0 ≡ true → TakesNone (post_of x))
+        (λ (x : Entry Event Reply). (same_number x.by is.second.0 ≡ true → TakesNone (post_of x)) × IsOneOf is.numbers' n x)
+        (IsOneOf (is.first ∷ is.second ∷ is.numbers') n)
+        (λ x p q e. by x p q.0 q.1 (either_true (same_number is.first.0 x.by) _ e)) log
+        (of-number TakesNone is.first.0 log (first-none place is.first.0 is.second.0 is.served))
+        (both (λ (x : Entry Event Reply). same_number x.by is.second.0 ≡ true → TakesNone (post_of x)) (IsOneOf is.numbers' n)
+        (λ (x : Entry Event Reply). (same_number x.by is.second.0 ≡ true → TakesNone (post_of x)) × IsOneOf is.numbers' n x)
+        (λ x p q. (p, q)) log
+        (of-number TakesNone is.second.0 log (second-none place is.first.0 is.second.0 is.served))
+        (others-none is.second places is.numbers' is.rest)))
+      where
+        by : (x : Entry Event Reply) → (same_number x.by is.first.0 ≡ true → TakesNone (post_of x))
+            → (same_number x.by is.second.0 ≡ true → TakesNone (post_of x)) → IsOneOf is.numbers' (last_or is.second is.numbers').0 x
+            → (same_number is.first.0 x.by ≡ true) ⊎ ((same_number is.second.0 x.by || has_number x.by is.numbers') ≡ true)
+            → (same_number x.by (last_or is.second is.numbers').0 ≡ true) ⊎ TakesNone (post_of x)
+        by x p q r (inl e) = inr (p (turned is.first.0 x.by e))
+        by x p q r (inr e) = by-second (either_true (same_number is.second.0 x.by) (has_number x.by is.numbers') e)
+          where
+            by-second : (same_number is.second.0 x.by ≡ true) ⊎ (has_number x.by is.numbers' ≡ true)
+                → (same_number x.by (last_or is.second is.numbers').0 ≡ true) ⊎ TakesNone (post_of x)
+            by-second (inl s) = inr (q (turned is.second.0 x.by s))
+            by-second (inr s) = r s
+
+    pub audits-alone : (places : List Place) (front : List Numbered) (n : Numbered) (all : List Numbered) → all ≡ front ++ n ∷ []
+        → AreServed g start told reliable undialled failed wanted places log all
+        → All (λ (x : Entry Event Reply). IsTrue (has_number x.by all)) log → All (IsAuditsAlone n.0) log
+    audits-alone places front n all e is under =
+        let last : last_or n all ≡ n = ap (last_or n) e ∙ last-append n front n in
+        subst (λ (m : Numbered). All (IsAuditsAlone m.0) log) last
+        (both (λ (x : Entry Event Reply). same_number x.by (last_or n all).0 ≡ true → IsAudits (post_of x))
+        (λ (x : Entry Event Reply). IsOneOf all (last_or n all).0 x × IsTrue (has_number x.by all))
+        (IsAuditsAlone (last_or n all).0)
+        (λ x p q. (p, λ no. other x no (q.0 (of-true _ q.1)))) log
+        (of-number IsAudits (last_or n all).0 log (audits-last n places all is))
+        (both (IsOneOf all (last_or n all).0) (λ (x : Entry Event Reply). IsTrue (has_number x.by all))
+        (λ (x : Entry Event Reply). IsOneOf all (last_or n all).0 x × IsTrue (has_number x.by all)) (λ x p q. (p, q)) log
+        (others-none n places all is) under))
+      where
+        of-true : (b : Bool) → IsTrue b → b ≡ true
+        of-true true t = refl
+        of-true false t = absurd t
+        other : (x : Entry Event Reply) → same_number x.by (last_or n all).0 ≡ false
+            → (same_number x.by (last_or n all).0 ≡ true) ⊎ TakesNone (post_of x) → TakesNone (post_of x)
+        other x no (inl yes) = absurd (cc)
+        other x no (inr none) = none

@@ -1,0 +1,5 @@
+pub mod Lines
+pub mod Works
+pub mod Histories
+pub mod Endings
+pub mod Runs

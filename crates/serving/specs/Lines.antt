@@ -1,0 +1,29 @@
+-- The endpoints that have a dial.
+use Rattle.std.specs.Prelude.{◌≡◌, ◌⊎◌, Bool, true, List, [], ◌∷◌, Option}
+use Rattle.cv_io.specs.Connections.{Connection}
+use Rattle.cv_io.specs.declared.links.Endpoint.{Endpoint}
+use Rattle.serving.specs.declared.dialling.Line.{Line}
+use Rattle.serving.specs.declared.place.Place.{Place}
+
+-- of links, which tell the connections of an endpoint and that its dial never fails, and of dials, which tell the same
+module _ {D : Type 0} (told : Endpoint → Option (List Connection)) (reliable : Endpoint → Bool)
+    (left : D → Option (List Connection)) (never_fails : D → Bool) where
+  -- the endpoint of the place has this dial
+  pub record IsLineOf (place : Place) (line : Line D) : Type 0 where
+    pub side : line.side ≡ place.side
+    pub told : left line.dial ≡ told place.end
+    pub reliable : reliable place.end ≡ true → never_fails line.dial ≡ true
+
+  -- the endpoint of the place has the first dial, and of the others this holds
+  pub record IsDialled (place : Place) (Rest : List (Line D) → Type 0) (lines : List (Line D)) : Type 0 where
+    pub line : Line D
+    pub lines' : List (Line D)
+    pub lines : lines ≡ line ∷ lines'
+    pub is : IsLineOf place line
+    pub rest : Rest lines'
+
+  -- the endpoints of the places have these dials, in their order, but for some that could not be dialled
+  abbrev pub AreLinesOf : (failed : Bool) → List Place → List (Line D) → Type 0
+  AreLinesOf failed [] lines = lines ≡ []
+  AreLinesOf failed (place ∷ places) lines =
+      ((failed ≡ true) × AreLinesOf failed places lines) ⊎ IsDialled place (AreLinesOf failed places) lines

@@ -1,0 +1,13 @@
+//! Serving live connections: a lock is opened over a machine of sessions, two works for each endpoint and one for the
+//! audit post to it beside one another, and all that the audit has is written.
+#![tactic(auto)]
+
+mod closing;
+mod dialling;
+mod gathering;
+mod place;
+mod serve;
+mod staff;
+
+pub use place::Place;
+pub use serve::{Served, serve};
