@@ -15,8 +15,8 @@ use Rattle.policy_serving.specs.Served.{ServesPolicy}
 use Rattle.replay_report.specs.Reports.{Report}
 use Rattle.replay_report.specs.Takings.{as_line}
 use Rattle.script_text.specs.declared.form.Form.{Form}
-use Rattle.serving.specs.declared.serve.Served.{Served}
-use Rattle.serving.specs.declared.serve.Served.TheVariants as serveds
+use Rattle.serving.specs.declared.run.Served.{Served}
+use Rattle.serving.specs.declared.run.Served.TheVariants as serveds
 use Rattle.covisor_proxy.specs.Asked.{Scripts, cut_report_for, over_file, report_for, stated}
 use Rattle.covisor_proxy.specs.Following.{Writes}
 use Rattle.covisor_proxy.specs.Opening.{Answers}

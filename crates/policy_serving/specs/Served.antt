@@ -10,7 +10,7 @@ use Rattle.machine_meaning.specs.States.{opening}
 use Rattle.policy_file.specs.Policies.{PolicyOf}
 use Rattle.policy_lock.specs.declared.machine.Machine.{Ghosts}
 use Rattle.serving.specs.Runs.{Serves}
-use Rattle.serving.specs.declared.serve.Served.{Served}
+use Rattle.serving.specs.declared.run.Served.{Served}
 use Rattle.policy_serving.specs.Places.{places_of}
 
 -- what the machine of a policy means as it is opened

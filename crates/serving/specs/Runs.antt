@@ -21,8 +21,8 @@ use Rattle.endpoint_works.specs.declared.receiving.Received.{Received}
 use Rattle.lock_desk.specs.Passes.{HasEnded, IsSince, own_posts, posts_by}
 use Rattle.serving.specs.Histories.{TakesLine}
 use Rattle.serving.specs.declared.place.Place.{Place}
-use Rattle.serving.specs.declared.serve.Served.{Served}
-use Rattle.serving.specs.declared.serve.Served.TheVariants.{Done, Link, Spawn, Write, Memory}
+use Rattle.serving.specs.declared.run.Served.{Served}
+use Rattle.serving.specs.declared.run.Served.TheVariants.{Done, Link, Spawn, Write, Memory}
 
 -- of a machine, which meant `start` as its lock was opened, and of links, which tell the connections of an endpoint and
 -- that its dial never fails

@@ -6,8 +6,8 @@ mod closing;
 mod dialling;
 mod gathering;
 mod place;
-mod serve;
+mod run;
 mod staff;
 
 pub use place::Place;
-pub use serve::{Served, serve};
+pub use run::{Served, serve};

@@ -1,5 +1,5 @@
 use Rattle.std.proofs.Common.{◌≡◌, length}
-use Rattle.serving.proofs.serve.handovers.Given as goal
+use Rattle.serving.proofs.run.handovers.Given as goal
 
 abbrev pub invariant-loop : goal.invariant-loop
 invariant-loop g l = length l.all.items ≡ l.counter
