@@ -84,9 +84,9 @@ module _ {M : Type 0} (g : Ghosts M Event Reply StateData) (links : LinksOf) whe
   EndsFor status command file old new =
       EndsAs (served_by command file) status (report_for command file) (cut_report_for command file) old new
 
--- the last line of a fault of a policy file is written, whatever a script would give
-abbrev pub Tells : Status → (all cut : Scripts) → Form → List ℕ → Option (List MemFile) → (fails fails' : ℕ)
+-- a run ends where the file of a policy states none, whatever scripts would give over one
+abbrev pub EndsUnopened : Status → (all cut : Scripts) → Form → List ℕ → Option (List MemFile) → (fails fails' : ℕ)
     → Moment → Moment → Type 0
-Tells status all cut form name files fails fails' old new =
+EndsUnopened status all cut form name files fails fails' old new =
     (file : Result (List ℕ) FileFault) × Answers files fails fails' name file × (served_by (Some (commands.Serve name)) file ≡ None)
     × Ends status (over_file all form name file) (over_file cut form name file) old new

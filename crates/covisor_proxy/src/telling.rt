@@ -10,7 +10,7 @@ ghost use Rattle.covisor_proxy.specs.Asked.{Scripts};
 ghost use Rattle.covisor_proxy.specs.Following.{Alone};
 ghost use Rattle.covisor_proxy.specs.Opening.{Opens};
 ghost use Rattle.covisor_proxy.specs.Outcomes.{moment};
-ghost use Rattle.covisor_proxy.specs.Serving.{Tells};
+ghost use Rattle.covisor_proxy.specs.Serving.{EndsUnopened};
 
 use crate::ending::write_fault;
 use crate::opening::NoPolicy;
@@ -25,7 +25,7 @@ pub(crate) fn tell<K: Sink>(alloc: Global, name: &Text, fault: NoPolicy, out: &m
     ensures ends { (files : Option (List MemFile)) (fails fails' : ℕ) (all cut : Scripts) (form : Form)
         (left : Option (List ℕ)) (reads : ℕ)
         → Opens files fails fails' name.now (Err fault)
-        → Tells result all cut form name.now files fails fails'
+        → EndsUnopened result all cut form name.now files fails fails'
         (moment left reads (K.held out.old) (K.faults out.old)) (moment left reads (K.held out.new) (K.faults out.new)) }
     ensures form { result ≢ Status.Usage }
     ensures done { result ≢ Status.Done }

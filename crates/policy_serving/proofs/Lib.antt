@@ -1,0 +1,3 @@
+mod Drained
+mod Made
+mod Reached
