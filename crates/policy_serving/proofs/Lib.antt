@@ -1,3 +1,4 @@
 mod Drained
 mod Made
+mod Opens
 mod Reached

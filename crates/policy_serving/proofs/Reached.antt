@@ -7,6 +7,10 @@ use Rattle.std.proofs.lemmas.List.FromFn.{length-enumerate_from}
 use Rattle.cv_io.specs.declared.leaf.Who.{Who}
 use Rattle.cv_io.specs.declared.leaf.Who.TheVariants.{Member, Switch}
 use Rattle.endpoint_works.specs.Sides.{IsServedSide}
+use Rattle.hyper_core.specs.Machines.{MachineOf, state_of}
+use Rattle.hyper_core.specs.Meanings.{data_in}
+use Rattle.hyper_desk.specs.Proxies.{HasOne, KnowsItsPolicy}
+use Rattle.machine_meaning.specs.States.{opening}
 use Rattle.policy_file.specs.Policies.{PolicyOf, plan}
 use Rattle.policy_file.specs.Sound.{IsSound}
 use Rattle.policy_file.specs.declared.policy.MemberItem.{MemberItem}
@@ -46,6 +50,15 @@ module _ (serves : Who → Type 0) where
       (map (switch_place p.listen p.rounds dpids) (enumerate_from 0 p.switches))
       (members_served p.rounds 0 p.members (λ n lt. members n (omega arith)))
       (switches_served p.listen p.rounds dpids 0 p.switches (omega arith) (λ n lt. switches n (omega arith)))
+
+-- a machine that was opened serves each
+pub opened_serves : KnowsItsPolicy → (p : PolicyOf) (m : MachineOf) → IsSound p → m.plan ≡ p → state_of m ≡ opening p
+    → All (λ (place : Place). IsServedSide (HasOne (data_in m)) place.side) (places_of p)
+opened_serves policies p m sound same fresh =
+    let knows = policies m (fresh ∙ ap opening (sym same)) in
+    all_served (HasOne (data_in m)) p sound
+    (λ n lt. (knows n).0 (subst (λ (q : PolicyOf). n < length q.members) (sym same) lt))
+    (λ n lt. (knows n).1 (subst (λ (q : PolicyOf). n < length q.switches) (sym same) lt))
 
 -- two works for each place and one more are few
 pub few_places : (p : PolicyOf) → IsSound p → 2 * length (places_of p) + 1 < 2 ^ 32

@@ -1,15 +1,16 @@
 //! Serving a policy.
-ghost use Rattle.std.specs.Prelude.{◌≡◌, All, IfOk, true};
+ghost use Rattle.std.specs.Prelude.{◌≡◌, ◌<◌, ◌+◌, ◌*◌, ◌^◌, All, IfOk, length, true};
 ghost use Rattle.cv_io.specs.Outside.{Rose};
-ghost use Rattle.hyper_core.specs.Machines.{state_of};
-ghost use Rattle.machine_meaning.specs.States.{opening};
+ghost use Rattle.endpoint_works.specs.Sides.{IsServedSide};
+ghost use Rattle.hyper_core.specs.Meanings.{data_in};
+ghost use Rattle.hyper_desk.specs.Proxies.{HasOne};
 ghost use Rattle.policy_serving.specs.Places.{places_of};
-ghost use Rattle.policy_serving.specs.Served.{ServesPolicy};
+ghost use Rattle.policy_serving.specs.Served.{IsOpening, ServesPolicy};
 
 use crate::endpoints::places;
 use cv_io::{Clock, Dial, Links, List, Memory, Sink, Spawner};
 use hyper_core::Hyper;
-use hyper_desk::Proxy;
+use hyper_desk::{Proxy, audit_is_kept, opened_knows};
 use policy_file::Policy;
 use policy_lock::Machine;
 use serving::{Place, Served, serve};
@@ -39,6 +40,7 @@ where
     ensures spawn { result ≡ Served.Spawn → Rose (P.faults spawner.old) (P.faults spawner.new) }
     ensures write { result ≡ Served.Write → Rose (K.faults out.old) (K.faults out.new) }
 {
+    audit_is_kept();
     match opened(alloc, policy) {
         Ok((machine, places)) => {
             serve::<Proxy, R, K, L, P, C>(rt, alloc, machine, places, out, links, spawner, clock)
@@ -47,12 +49,15 @@ where
     }
 }
 
-/// The machine of a policy, and its endpoints.
+/// The machine of a policy, and its endpoints, each of which it serves.
 fn opened(alloc: Global, policy: Policy) -> Result<(Hyper, List<Place>), Memory>
-    ensures plan { IfOk result (λ opened. opened.0.plan ≡ policy) }
-    ensures opening { IfOk result (λ opened. state_of opened.0 ≡ opening policy) }
+    ensures opening { IfOk result (λ opened. IsOpening policy (data_in opened.0)) }
     ensures places { IfOk result (λ opened. opened.1 ≡ places_of policy) }
+    ensures served { IfOk result (λ opened. All (λ place. IsServedSide (HasOne (data_in opened.0)) place.side) opened.1) }
+    ensures few { IfOk result (λ opened. 2 * length opened.1 + 1 < 2 ^ 32) }
 {
+    opened_knows();
+    policy.is_sound();
     let places = places(alloc, &policy)?;
     let machine = Hyper::open(alloc, policy)?;
     Ok((machine, places))
