@@ -2,3 +2,4 @@ mod Drained
 mod Made
 mod Opens
 mod Reached
+pub mod Served

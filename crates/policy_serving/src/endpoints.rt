@@ -12,6 +12,7 @@ use virtual_topology::SwitchItem;
 
 /// The places of a policy: that of each member, and then one for each switch, in the order of the file. Whichever
 /// switch of the policy connects at the place of a switch is served there.
+#[tactic(auto, unfolding(crate::specs::Places::places_of))]
 pub fn places(alloc: Global, policy: &Policy) -> Result<List<Place>, Memory>
     ensures { IfOk result (λ places. places ≡ places_of policy.now) }
 {
@@ -29,11 +30,7 @@ pub fn places(alloc: Global, policy: &Policy) -> Result<List<Place>, Memory>
 }
 
 /// Appends the places of members, with so many connections each.
-fn add_members(
-    places: &mut List<Place>,
-    members: &[MemberItem],
-    rounds: u32,
-) -> Result<(), Memory>
+fn add_members(places: &mut List<Place>, members: &[MemberItem], rounds: u32) -> Result<(), Memory>
     requires { length members.now < 2 ^ 32 }
     ensures { OnOk result (places.new ≡ places.old ++ map (member_place rounds) (enumerate_from 0 members.now)) }
 {

@@ -3,9 +3,12 @@
 #![tactic(auto)]
 
 mod endpoints;
+mod laws;
 mod serve;
-#[cfg(test)]
-mod tests;
 
 pub use endpoints::places;
+pub use laws::{places_are_counted, places_are_few};
 pub use serve::serve_policy;
+
+#[cfg(test)]
+mod tests;

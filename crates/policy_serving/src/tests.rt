@@ -60,7 +60,9 @@ fn shown(alloc: Global, place: &Place) -> Result<String, Fail> {
         ) => {
             let count = dpids.len();
             let (first, last) = (ends(dpids, 0), ends(dpids, 1));
-            format!(in alloc; "switch {index} at {listen} rounds {rounds} of {count}, {first} {last}")?
+            format!(in alloc;
+                "switch {index} at {listen} rounds {rounds} of {count}, {first} {last}"
+            )?
         }
         _ => format!(in alloc; "no place of a policy")?,
     };

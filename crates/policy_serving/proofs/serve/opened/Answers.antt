@@ -4,7 +4,8 @@ use Rattle.hyper_core.specs.Meanings.{data_in}
 use Rattle.hyper_desk.specs.Proxies.{HasOne}
 use Rattle.serving.specs.declared.place.Place.{Place}
 use Rattle.policy_serving.proofs.Opens.{is_opening}
-use Rattle.policy_serving.proofs.Reached.{few_places, opened_serves}
+use Rattle.policy_serving.proofs.Reached.{opened_serves}
+use Rattle.policy_serving.proofs.Served.{few}
 use Rattle.policy_serving.proofs.serve.opened.Goals as goal
 
 pub returns-clause-opening : goal.returns-clause-opening
@@ -19,4 +20,4 @@ returns-clause-served c =
 
 pub returns-clause-few : goal.returns-clause-few
 returns-clause-few c =
-    subst (λ (places : List Place). 2 * length places + 1 < 2 ^ 32) (sym c.in_ok-places.ensures) (few_places c.args.policy c.is_sound.ensures)
+    subst (λ (places : List Place). 2 * length places + 1 < 2 ^ 32) (sym c.in_ok-places.ensures) (few c.args.policy c.is_sound.ensures)
