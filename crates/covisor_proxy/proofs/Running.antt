@@ -197,10 +197,10 @@ module _ {M : Type 0} (g : Ghosts M Event Reply StateData) (links : LinksOf) whe
 
   module _ (command : Option Command) (files : Option (List MemFile)) (fails fails' : ℕ) (file : Result (List ℕ) FileFault) (old new : Moment)
       (answers : AnswersTo command files fails fails' file) where
-    all : List ℕ → Report
+    abbrev all : List ℕ → Report
     all = report_for command file
 
-    cut : List ℕ → Report
+    abbrev cut : List ℕ → Report
     cut = cut_report_for command file
 
     with_code : (s t : Status) → EndsFor g links s command file old new → code_of t ≡ code_of s → EndsFor g links t command file old new

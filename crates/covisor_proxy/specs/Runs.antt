@@ -83,13 +83,13 @@ abbrev pub calls : ℕ → ℕ → ℕ → Calls
 calls files links spawns = record { files = files; links = links; spawns = spawns }
 
 -- no count rose, and no dial ever fails
-pub record IsQuiet (links : LinksOf) (before after : Calls) (old new : Moment) : Type 0 where
+pub record IsQuiet (network : LinksOf) (before after : Calls) (old new : Moment) : Type 0 where
   pub files : Rose before.files after.files → ⊥
   pub links : Rose before.links after.links → ⊥
   pub spawns : Rose before.spawns after.spawns → ⊥
   pub reads : Rose old.reads new.reads → ⊥
   pub writes : Rose old.writes new.writes → ⊥
-  pub dials : NeverFail links
+  pub dials : NeverFail network
 
 -- where nothing fails, and the report of the script has status 0 over whatever the files answer but want of memory, all
 -- is done, or memory was wanted
