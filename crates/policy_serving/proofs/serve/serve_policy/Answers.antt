@@ -1,6 +1,8 @@
+use denote.Param.Send.{sendable}
 use Rattle.std.proofs.Common.{[], List, inl, refl, subst}
 use Rattle.hyper_core.specs.contracts.machine.HyperMachine.TheImpl.{ghosts as hyper}
 use Rattle.hyper_core.specs.Meanings.{data_in, data_of}
+use Rattle.hyper_desk.proofs.Crossing.{hyper as crossing}
 use Rattle.machine_meaning.specs.States.{opening}
 use Rattle.serving.specs.Histories.{lines_taken}
 use Rattle.serving.specs.Runs.{Serves}
@@ -9,6 +11,9 @@ use Rattle.policy_serving.specs.Places.{places_of}
 use Rattle.policy_serving.proofs.Made.{made}
 use Rattle.policy_serving.proofs.Opens.{none_waits, opens}
 use Rattle.policy_serving.proofs.serve.serve_policy.Goals as goal
+
+pub serve-requires-send-H-Machine : goal.serve-requires-send-H-Machine
+serve-requires-send-H-Machine g c κs within = search (crossing, sendable) depth 10
 
 pub returns-in-Ok-clause-serves : goal.returns-in-Ok-clause-serves
 returns-in-Ok-clause-serves g c =
