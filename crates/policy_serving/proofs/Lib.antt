@@ -1,5 +1,4 @@
 mod Drained
 mod Made
 mod Opens
-mod Reached
 pub mod Served

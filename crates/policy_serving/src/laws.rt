@@ -1,5 +1,14 @@
 //! What holds of the places of a policy. Each function's contract is a law.
-ghost use Rattle.policy_serving.specs.Laws.{PlacesAreCounted, PlacesAreFew};
+ghost use Rattle.policy_serving.specs.Laws.{PlacesAreCounted, PlacesAreFew, PlacesAreServed};
+
+use hyper_desk::opened_knows;
+
+/// A machine that was opened knows whoever can come up at a place of its policy.
+pub fn places_are_served()
+    ensures { PlacesAreServed }
+{
+    opened_knows();
+}
 
 /// There is a place for each member and for each switch.
 pub fn places_are_counted()

@@ -7,7 +7,7 @@ mod laws;
 mod serve;
 
 pub use endpoints::places;
-pub use laws::{places_are_counted, places_are_few};
+pub use laws::{places_are_counted, places_are_few, places_are_served};
 pub use serve::serve_policy;
 
 #[cfg(test)]

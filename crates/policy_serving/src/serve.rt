@@ -8,9 +8,10 @@ ghost use Rattle.policy_serving.specs.Places.{places_of};
 ghost use Rattle.policy_serving.specs.Served.{IsOpening, ServesPolicy};
 
 use crate::endpoints::places;
+use crate::laws::{places_are_few, places_are_served};
 use cv_io::{Clock, Dial, Links, List, Memory, Sink, Spawner};
 use hyper_core::Hyper;
-use hyper_desk::{Proxy, audit_is_kept, opened_knows};
+use hyper_desk::{Proxy, audit_is_kept};
 use policy_file::Policy;
 use policy_lock::Machine;
 use serving::{Place, Served, serve};
@@ -56,7 +57,8 @@ fn opened(alloc: Global, policy: Policy) -> Result<(Hyper, List<Place>), Memory>
     ensures served { IfOk result (λ opened. All (λ place. IsServedSide (HasOne (data_in opened.0)) place.side) opened.1) }
     ensures few { IfOk result (λ opened. 2 * length opened.1 + 1 < 2 ^ 32) }
 {
-    opened_knows();
+    places_are_served();
+    places_are_few();
     policy.is_sound();
     let places = places(alloc, &policy)?;
     let machine = Hyper::open(alloc, policy)?;

@@ -1,11 +1,13 @@
-use Rattle.std.proofs.Common.{◌<◌, ◌+◌, ◌*◌, ◌^◌, All, List, length, subst, sym}
+use Rattle.std.proofs.Common.{◌≡◌, ◌∙◌, ◌<◌, ◌+◌, ◌*◌, ◌^◌, All, List, ap, length, subst, sym}
 use Rattle.endpoint_works.specs.Sides.{IsServedSide}
 use Rattle.hyper_core.specs.Meanings.{data_in}
 use Rattle.hyper_desk.specs.Proxies.{HasOne}
+use Rattle.machine_meaning.specs.States.{opening}
+use Rattle.policy_file.specs.Policies.{PolicyOf}
+use Rattle.policy_file.specs.Sound.{IsSound}
 use Rattle.serving.specs.declared.place.Place.{Place}
+use Rattle.policy_serving.specs.Places.{places_of}
 use Rattle.policy_serving.proofs.Opens.{is_opening}
-use Rattle.policy_serving.proofs.Reached.{opened_serves}
-use Rattle.policy_serving.proofs.Served.{few}
 use Rattle.policy_serving.proofs.serve.opened.Goals as goal
 
 pub returns-clause-opening : goal.returns-clause-opening
@@ -15,9 +17,12 @@ returns-clause-opening c =
 pub returns-clause-served : goal.returns-clause-served
 returns-clause-served c =
     let machine = c.in_ok-machine.field-0 in
-    subst (All (λ (place : Place). IsServedSide (HasOne (data_in machine)) place.side)) (sym c.in_ok-places.ensures)
-    (opened_serves c.opened_knows.ensures c.args.policy machine c.is_sound.ensures c.in_ok-machine.ensures.plan c.in_ok-machine.ensures.opening)
+    let same = c.in_ok-machine.ensures.plan in
+    let places : c.in_ok-places.field-0 ≡ places_of machine.plan = c.in_ok-places.ensures ∙ ap places_of (sym same) in
+    subst (All (λ (place : Place). IsServedSide (HasOne (data_in machine)) place.side)) (sym places)
+    (c.places_are_served.ensures machine (subst IsSound (sym same) c.is_sound.ensures) (c.in_ok-machine.ensures.opening ∙ ap opening (sym same)))
 
 pub returns-clause-few : goal.returns-clause-few
 returns-clause-few c =
-    subst (λ (places : List Place). 2 * length places + 1 < 2 ^ 32) (sym c.in_ok-places.ensures) (few c.args.policy c.is_sound.ensures)
+    subst (λ (places : List Place). 2 * length places + 1 < 2 ^ 32) (sym c.in_ok-places.ensures)
+    (c.places_are_few.ensures c.args.policy c.is_sound.ensures)
