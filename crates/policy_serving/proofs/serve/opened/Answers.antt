@@ -12,13 +12,13 @@ use Rattle.policy_serving.proofs.serve.opened.Goals as goal
 
 pub returns-clause-opening : goal.returns-clause-opening
 returns-clause-opening c =
-    is_opening c.args.policy c.in_ok-machine.field-0 c.in_ok-machine.ensures.plan c.in_ok-machine.ensures.opening
+    is_opening c.args.policy c.in_ok-machine.machine c.in_ok-machine.ensures.plan c.in_ok-machine.ensures.opening
 
 pub returns-clause-served : goal.returns-clause-served
 returns-clause-served c =
-    let machine = c.in_ok-machine.field-0 in
+    let machine = c.in_ok-machine.machine in
     let same = c.in_ok-machine.ensures.plan in
-    let places : c.in_ok-places.field-0 ≡ places_of machine.plan = c.in_ok-places.ensures ∙ ap places_of (sym same) in
+    let places : c.in_ok-places.places ≡ places_of machine.plan = c.in_ok-places.ensures ∙ ap places_of (sym same) in
     subst (All (λ (place : Place). IsServedSide (HasOne (data_in machine)) place.side)) (sym places)
     (c.places_are_served.ensures machine (subst IsSound (sym same) c.is_sound.ensures) (c.in_ok-machine.ensures.opening ∙ ap opening (sym same)))
 
