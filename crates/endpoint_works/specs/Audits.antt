@@ -1,5 +1,5 @@
 -- What is posted and written for the audit.
-use Rattle.std.specs.Prelude.{◌≡◌, ℕ, List, [], ◌∷◌, ◌++◌, Option, All, take, ⊤}
+use Rattle.std.specs.Prelude.{◌≡◌, ℕ, List, [], ◌∷◌, ◌++◌, Option, All, take}
 use Rattle.std.specs.List.{flat_map}
 use Rattle.cv_io.specs.Outside.{Rose}
 use Rattle.cv_io.specs.declared.leaf.Session.{Session}
@@ -45,5 +45,5 @@ module _ (posts : List Post) (held written : Option (List ℕ)) where
 
 -- why the writing ended, of a sink whose faults were so many
 abbrev pub IsAuditEnd : (faults risen : ℕ) → AuditEnd → Type 0
-IsAuditEnd faults risen ends.Ended = ⊤
+IsAuditEnd faults risen ends.Ended = risen ≡ faults
 IsAuditEnd faults risen ends.WriteFault = Rose faults risen

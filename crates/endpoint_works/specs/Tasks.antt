@@ -24,4 +24,4 @@ abbrev pub HasWrittenAudit : (posts : List Post) (held written : Option (List �
     → Result AuditEnd Memory → Type 0
 HasWrittenAudit posts held written faults risen now (Ok end) =
     AuditPosts posts held written now end × IsAuditEnd faults risen end
-HasWrittenAudit posts held written faults risen now (Err m) = HasAudited posts held written now
+HasWrittenAudit posts held written faults risen now (Err m) = HasAudited posts held written now × (risen ≡ faults)

@@ -38,6 +38,7 @@ pub fn write_audit<R: Wait, D: Desk, K: Sink, C: Clock>(
     ensures posted { IfOk result (AuditPosts (D.posts pass.old) (K.held out.old) (K.held out.new) (D.posts pass.new)) }
     ensures end { IfOk result (IsAuditEnd (K.faults out.old) (K.faults out.new)) }
     ensures memory { OnErr result (HasAudited (D.posts pass.old) (K.held out.old) (K.held out.new) (D.posts pass.new)) }
+    ensures quiet { OnErr result (K.faults out.new ≡ K.faults out.old) }
 {
     for _ in rt.forever() {
         let ended = others.have_ended();

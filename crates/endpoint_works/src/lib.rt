@@ -28,4 +28,4 @@ pub use round::{RoundEnd, serve_round};
 pub use sending::{Sent, send};
 pub use shared_clock::{Shared, SharedClock};
 pub use side::Side;
-pub use works::{Audit, Reader, Task, Writer};
+pub use works::{Reader, Task, Writer};

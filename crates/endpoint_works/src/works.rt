@@ -1,15 +1,12 @@
 //! The works, as a spawner runs them.
-ghost use Rattle.std.specs.Prelude.{◌≡◌, Result, Some};
-ghost use Rattle.cv_io.specs.declared.memory.Memory.{Memory};
+ghost use Rattle.std.specs.Prelude.{◌≡◌, Some};
 ghost use Rattle.endpoint_works.specs.Sendings.{HasSent};
 ghost use Rattle.endpoint_works.specs.Sides.{IsServedSide};
-ghost use Rattle.endpoint_works.specs.Tasks.{HasReceived, HasWrittenAudit};
-ghost use Rattle.endpoint_works.specs.declared.audit.AuditEnd.{AuditEnd};
+ghost use Rattle.endpoint_works.specs.Tasks.{HasReceived};
 ghost use Rattle.endpoint_works.specs.declared.receiving.Received.{Received};
 ghost use Rattle.endpoint_works.specs.declared.sending.Sent.{Sent};
 
 use crate::arrivals::Arrivals;
-use crate::audit::{AuditEnd, write_audit};
 use crate::handover::Handover;
 use crate::later::LaterDesk;
 use crate::others::Others;
@@ -17,7 +14,7 @@ use crate::receiving::{Received, receive};
 use crate::sending::{Sent, send};
 use crate::shared_clock::SharedClock;
 use crate::side::Side;
-use cv_io::{Clock, Memory, Sink, Work};
+use cv_io::{Clock, Sink, Work};
 use std::alloc::Global;
 use std::sync::Wait;
 
@@ -48,29 +45,14 @@ pub struct Writer<'a, 'b, R, D: LaterDesk, K, C> {
     pub end: Option<Sent>,
 }
 
-/// Writes the audit.
+/// One of the two works of an endpoint.
 #[derive(Drop)]
-pub struct Audit<'a, 'b, 'c, R, D: LaterDesk, K, C> {
-    pub rt: &'a R,
-    pub others: &'a Others,
-    pub desk: D,
-    pub pass: D::Pass,
-    pub out: &'c mut K,
-    pub clock: SharedClock<'a, 'b, R, C>,
-    pub end: Option<Result<AuditEnd, Memory>>,
-}
-
-/// One of the works.
-#[derive(Drop)]
-pub enum Task<'a, 'b, 'c, R, D: LaterDesk, A: Arrivals, K, C> {
+pub enum Task<'a, 'b, R, D: LaterDesk, A: Arrivals, C> {
     Reader {
         reader: Reader<'a, R, D, A>,
     },
     Writer {
         writer: Writer<'a, 'b, R, D, A::Out, C>,
-    },
-    Audit {
-        audit: Audit<'a, 'b, 'c, R, D, K, C>,
     },
 }
 
@@ -125,43 +107,17 @@ impl<R: Wait, D: LaterDesk, K: Sink + Drop, C: Clock> Writer<'_, '_, R, D, K, C>
     }
 }
 
-impl<R: Wait, D: LaterDesk, K: Sink, C: Clock> Audit<'_, '_, '_, R, D, K, C> {
-    fn run(&mut self)
-        requires { D.admits self.old.desk self.old.pass }
-        ensures pass { D.admits self.old.desk self.new.pass }
-        ensures later { D.later self.old.pass self.new.pass }
-        ensures out { self.new.out.ghost_name ≡ self.old.out.ghost_name }
-        ensures written { (end : Result AuditEnd Memory) × (self.new.end ≡ Some end)
-            × HasWrittenAudit (D.posts self.old.pass) (K.held self.old.out.now) (K.held self.new.out.now)
-            (K.faults self.old.out.now) (K.faults self.new.out.now)
-            (D.posts self.new.pass) end }
-    {
-        let desk = self.desk.from_here(&self.pass);
-        let end = write_audit(
-            self.rt,
-            &desk,
-            &mut self.pass,
-            self.out,
-            self.others,
-            &mut self.clock,
-        );
-        self.end = Some(end);
-    }
-}
-
-impl<R: Wait + Sync, D: LaterDesk + Send, A: Arrivals + Send, K: Sink + Send, C: Clock + Send> Work
-    for Task<'_, '_, '_, R, D, A, K, C>
+impl<R: Wait + Sync, D: LaterDesk + Send, A: Arrivals + Send, C: Clock + Send> Work
+    for Task<'_, '_, R, D, A, C>
 where
     D::Pass: Send,
     A::In: Drop,
     A::Out: Drop + Send,
 {
-    ghost use Rattle.std.specs.Prelude.{◌≡◌, Result, Some};
-    ghost use Rattle.cv_io.specs.declared.memory.Memory.{Memory};
+    ghost use Rattle.std.specs.Prelude.{◌≡◌, Some};
     ghost use Rattle.endpoint_works.specs.Sendings.{HasSent};
     ghost use Rattle.endpoint_works.specs.Sides.{IsServedSide};
-    ghost use Rattle.endpoint_works.specs.Tasks.{HasReceived, HasWrittenAudit};
-    ghost use Rattle.endpoint_works.specs.declared.audit.AuditEnd.{AuditEnd};
+    ghost use Rattle.endpoint_works.specs.Tasks.{HasReceived};
     ghost use Rattle.endpoint_works.specs.declared.receiving.Received.{Received};
     ghost use Rattle.endpoint_works.specs.declared.sending.Sent.{Sent};
     ghost use Rattle.endpoint_works.specs.declared.works.Task.TheVariants as tasks;
@@ -170,7 +126,6 @@ where
       | tasks.Reader reader ↦
           D.admits reader.desk reader.pass × IsServedSide (D.serves reader.desk) reader.side
       | tasks.Writer writer ↦ D.admits writer.desk writer.pass
-      | tasks.Audit audit ↦ D.admits audit.desk audit.pass
     ] };
 
     // The pass is the one that it was, later, and the work has done what its kind does.
@@ -181,24 +136,12 @@ where
             old.side (A.is_reliable old.arrivals)
             (A.left old.arrivals) (A.left new.arrivals) old.pass new.pass end)
         | tasks.Writer new ↦ ⊥
-        | tasks.Audit new ↦ ⊥
       ]
       | tasks.Writer old ↦ elim [
         | tasks.Reader new ↦ ⊥
         | tasks.Writer new ↦ D.admits old.desk new.pass × D.later old.pass new.pass
             × ((end : Sent) × (new.end ≡ Some end)
             × HasSent end.cut (D.posts old.pass) (D.posts new.pass))
-        | tasks.Audit new ↦ ⊥
-      ]
-      | tasks.Audit old ↦ elim [
-        | tasks.Reader new ↦ ⊥
-        | tasks.Writer new ↦ ⊥
-        | tasks.Audit new ↦ D.admits old.desk new.pass × D.later old.pass new.pass
-            × (new.out.ghost_name ≡ old.out.ghost_name)
-            × ((end : Result AuditEnd Memory) × (new.end ≡ Some end)
-            × HasWrittenAudit (D.posts old.pass) (K.held old.out.now) (K.held new.out.now)
-            (K.faults old.out.now) (K.faults new.out.now)
-            (D.posts new.pass) end)
       ]
     ] };
 
@@ -206,7 +149,6 @@ where
         match self {
             Task::Reader { reader } => reader.run(),
             Task::Writer { writer } => writer.run(),
-            Task::Audit { audit } => audit.run(),
         }
     }
 }

@@ -1,6 +1,10 @@
 mod Lines
 mod Works
 mod Posts
-mod Served
+mod Endpoints
 mod Audits
 mod Endings
+mod Ends
+mod Seats
+mod Crossing
+mod Worked

@@ -1,6 +1,6 @@
 -- Which posts take a line of the audit.
 use Rattle.std.proofs.Common.{◌≡◌, ◌⊎◌, ℕ, Bool, true, false, List, [], ◌∷◌, ◌++◌, Option, All, map, if◌then◌else◌, refl, sym, ap, ◌∙◌, subst, inl, inr, append_assoc, append-nil}
-use Rattle.std.proofs.lemmas.List.Elements.{All-append}
+use Rattle.std.proofs.lemmas.List.Elements.{All-append, All-cons, All-head, All-nil, All-tail}
 use Rattle.cv_io.specs.Connections.{Connection}
 use Rattle.cv_io.specs.declared.leaf.Session.{Session}
 use Rattle.sessions.specs.Posts.{Leaves, coming_up, going, message, messages, second_told, taking}
@@ -28,7 +28,7 @@ pub record Adds (old new : List Post) : Type 0 where
   pub is : new ≡ old ++ more
 
 pub adds-nothing : (old new : List Post) → new ≡ old → Adds old new
-adds-nothing old new e = record { more = []; none = record {}; is = e ∙ sym (append-nil old) }
+adds-nothing old new e = record { more = []; none = All-nil TakesNone; is = e ∙ sym (append-nil old) }
 
 pub adds-both : (a b c : List Post) → Adds a b → Adds b c → Adds a c
 adds-both a b c p q = record {
@@ -38,11 +38,11 @@ adds-both a b c p q = record {
 }
 
 adds-one : (old new : List Post) (post : Post) → TakesNone post → new ≡ old ++ post ∷ [] → Adds old new
-adds-one old new post none e = record { more = post ∷ []; none = (none, record {}); is = e }
+adds-one old new post none e = record { more = post ∷ []; none = All-cons TakesNone post [] none (All-nil TakesNone); is = e }
 
 frames-none : (session : Session) (frames : List (List ℕ)) → All TakesNone (messages session frames)
-frames-none session [] = record {}
-frames-none session (frame ∷ frames) = (refl, frames-none session frames)
+frames-none session [] = All-nil TakesNone
+frames-none session (frame ∷ frames) = All-cons TakesNone (message session frame) (messages session frames) refl (frames-none session frames)
 
 adds-frames : (old new : List Post) (session : Session) (frames : List (List ℕ)) → new ≡ old ++ messages session frames → Adds old new
 adds-frames old new session frames e = record { more = messages session frames; none = frames-none session frames; is = e }
@@ -99,17 +99,20 @@ module _ {P : Type 0} (posts : P → List Post) (ended : P → Session → ℕ �
       → AreRounds posts ended later side wanted links left v w passes → Adds (posts v) (posts w)
   adds-rounds links left v w [] h = adds-nothing (posts v) (posts w) (ap posts h.1)
   adds-rounds links left v w (u ∷ us) h =
-      adds-both (posts v) (posts u) (posts w) (adds-given links h.0 v u h.1.0) (adds-rounds h.0 left u w us h.1.1)
+      adds-both (posts v) (posts u) (posts w) (adds-given links h.0 v u h.1) (adds-rounds h.0 left u w us h.2)
 
 -- nor does one that writes to them
 pub senders-none : (cut : Bool) (posts : List Post) → All (IsSenders cut) posts → All TakesNone posts
-senders-none cut [] h = record {}
-senders-none cut (post ∷ posts) h = (by h.0, senders-none cut posts h.1)
+senders-none cut [] h = All-nil TakesNone
+senders-none cut (post ∷ posts) h =
+    All-cons TakesNone post posts (by (All-head (IsSenders cut) post posts h))
+    (senders-none cut posts (All-tail (IsSenders cut) post posts h))
   where
     other : (b : Bool) (line : List ℕ) → b ≡ false → (if b then line ∷ [] else []) ≡ []
     other false line e = refl
     other true line e = absurd (cc)
+
     by : IsSenders cut post → TakesNone post
-    by (inl t) = ap (λ (p : Post). line_of p.event p.reply) t.1.1.1 ∙ other (is_audit t.0.who) t.1.1.0 t.1.0
+    by (inl t) = ap (λ (p : Post). line_of p.event p.reply) t.2.1 ∙ other (is_audit t.0.who) t.2.0 t.1
     by (inr (inl s)) = ap (λ (p : Post). line_of p.event p.reply) s.1
-    by (inr (inr g)) = ap (λ (p : Post). line_of p.event p.reply) g.1.1.1
+    by (inr (inr g)) = ap (λ (p : Post). line_of p.event p.reply) g.1.2

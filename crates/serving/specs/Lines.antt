@@ -11,16 +11,16 @@ module _ {D : Type 0} (told : Endpoint → Option (List Connection)) (reliable :
   -- the endpoint of the place has this dial
   pub record IsLineOf (place : Place) (line : Line D) : Type 0 where
     pub side : line.side ≡ place.side
-    pub told : left line.dial ≡ told place.end
-    pub reliable : reliable place.end ≡ true → never_fails line.dial ≡ true
+    pub gives : left line.dial ≡ told place.end
+    pub dials : reliable place.end ≡ true → never_fails line.dial ≡ true
 
   -- the endpoint of the place has the first dial, and of the others this holds
   pub record IsDialled (place : Place) (Rest : List (Line D) → Type 0) (lines : List (Line D)) : Type 0 where
     pub line : Line D
-    pub lines' : List (Line D)
-    pub lines : lines ≡ line ∷ lines'
+    pub others : List (Line D)
+    pub are : lines ≡ line ∷ others
     pub is : IsLineOf place line
-    pub rest : Rest lines'
+    pub rest : Rest others
 
   -- the endpoints of the places have these dials, in their order, but for some that could not be dialled
   abbrev pub AreLinesOf : (failed : Bool) → List Place → List (Line D) → Type 0

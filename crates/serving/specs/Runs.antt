@@ -43,7 +43,7 @@ module _ {M S : Type 0} (g : Ghosts M Event Reply S) (start : S)
     pub wants : end.wanted ≡ true → wanted ≡ true
     -- what its dial told
     pub never_fails : Bool
-    pub reliable : reliable place.end ≡ true → never_fails ≡ true
+    pub dials : reliable place.end ≡ true → never_fails ≡ true
     pub left : Option (List Connection)
     pub received :
         HasReceived (λ (seat : SeatOf Event Reply S). own_posts seat.pass) (λ (seat : SeatOf Event Reply S). HasEnded g seat.pass) IsSince
@@ -56,20 +56,20 @@ module _ {M S : Type 0} (g : Ghosts M Event Reply S) (start : S)
       (Rest : List Numbered → Type 0) (numbers : List Numbered) : Type 0 where
     pub first : Numbered
     pub second : Numbered
-    pub numbers' : List Numbered
-    pub numbers : numbers ≡ first ∷ second ∷ numbers'
+    pub others : List Numbered
+    pub are : numbers ≡ first ∷ second ∷ others
     pub served : IsServed failed wanted place log first.0 second.0
-    pub rest : Rest numbers'
+    pub rest : Rest others
 
   -- the number is that of the work that wrote the audit
   pub record HasAuditAlone (log : List (Entry Event Reply)) (numbers : List Numbered) : Type 0 where
     pub number : Numbered
-    pub numbers : numbers ≡ number ∷ []
+    pub is : numbers ≡ number ∷ []
     pub takings : All IsAudits (posts_by number.0 log)
 
   -- the works of the endpoints have the first of these numbers, two for each that was dialled, and the audit's has the last
   abbrev pub AreServed : (undialled failed wanted : Bool) → List Place → List (Entry Event Reply) → List Numbered → Type 0
-  AreServed undialled failed wanted [] log = HasAuditAlone log
+  AreServed undialled failed wanted [] log numbers = HasAuditAlone log numbers
   AreServed undialled failed wanted (place ∷ places) log numbers =
       ((undialled ≡ true) × AreServed undialled failed wanted places log numbers)
       ⊎ HasWorks failed wanted place log (AreServed undialled failed wanted places log) numbers

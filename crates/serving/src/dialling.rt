@@ -1,7 +1,8 @@
 //! The dials of the endpoints.
-ghost use Rattle.std.specs.Prelude.{◌≡◌, ◌≤◌, IfOk, true};
+ghost use Rattle.std.specs.Prelude.{◌≡◌, ◌≤◌, IfOk, MatchOption, true};
 ghost use Rattle.cv_io.specs.Outside.{Rose};
-ghost use Rattle.serving.specs.Lines.{AreLinesOf};
+ghost use Rattle.cv_io.specs.declared.links.Endpoint.{Endpoint};
+ghost use Rattle.serving.specs.Lines.{AreLinesOf, IsLineOf};
 
 use crate::place::Place;
 use cv_io::{Links, List, Memory};
@@ -38,11 +39,25 @@ where
     let mut lines = List::with_capacity(alloc, places.len())?;
     let mut failed = false;
     for place in places.into_vec() {
-        let Place { end, side } = place;
-        match links.dial(&end) {
-            Ok(dial) => lines.push(Line { side, dial })?,
-            Err(_) => failed = true,
+        match dial_one(links, place) {
+            Some(line) => lines.push(line)?,
+            None => failed = true,
         }
     }
     Ok(Lines { lines, failed })
+}
+
+/// Dials an endpoint, if that can be done.
+fn dial_one<L: Links>(links: &mut L, place: Place) -> Option<Line<L::Dial>>
+where
+    L::Dial: Drop,
+    ensures line { MatchOption result (Rose (L.faults links.old) (L.faults links.new))
+        (IsLineOf (L.told links.old) (L.is_reliable links.old) L.Dial.left L.Dial.is_reliable place) }
+    ensures told { (end : Endpoint) → L.told links.new end ≡ L.told links.old end }
+    ensures reliable { (end : Endpoint) → L.is_reliable links.new end ≡ L.is_reliable links.old end }
+    ensures never_falls { L.faults links.old ≤ L.faults links.new }
+{
+    let Place { end, side } = place;
+    let dial = links.dial(&end).ok()?;
+    Some(Line { side, dial })
 }

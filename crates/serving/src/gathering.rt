@@ -1,89 +1,108 @@
 //! What the works came to.
-ghost use Rattle.std.specs.Prelude.{◌≡◌, ◌≤◌, ⊤, [], false, length, map, vec_capacity};
+ghost use Rattle.std.specs.Prelude.{◌≡◌, ◌<◌, [], length, map, vec_capacity, vec_len};
 ghost use Rattle.std.specs.List.{list_any};
-ghost use Rattle.endpoint_works.specs.declared.works.Task.TheVariants as works;
-ghost use Rattle.serving.specs.Works.{HasLast, has_failed, has_wanted, wanted_to_send};
+ghost use Rattle.serving.specs.Works.{failed_of, has_failed, has_wanted, pass_of, wanted_of};
 
 use crate::staff::Job;
-use cv_io::{Clock, Dial, List, Memory, Sink};
-use endpoint_works::{AuditEnd, Task};
+use cv_io::{Clock, Dial, List};
+use endpoint_works::{Received, Sent, Task};
 use lock_desk::Host;
 use policy_lock::Seat;
+use std::collections::VecDeque;
 use std::sync::Wait;
 use std::thread::Threads;
 
-/// What the works came to.
+/// What the works of the endpoints came to.
 #[derive(Drop)]
-pub(crate) struct Gathered<'c, H: Host, K> {
-    /// Their seats, in their order.
-    pub seats: List<Seat<H::Machine>>,
+pub(crate) struct Gathered<H: Host> {
+    /// Their seats, in their order, and room for one more.
+    pub seats: Vec<Seat<H::Machine>>,
     /// A dial failed.
     pub failed: bool,
     /// Memory was wanted for a connection.
     pub wanted: bool,
-    /// Where the audit is written.
-    pub out: &'c mut K,
-    /// How the writing of the audit ended.
-    pub audit: Option<Result<AuditEnd, Memory>>,
 }
 
-/// Takes the works apart, of which the last is that of the audit.
-pub(crate) fn gather<'c, R: Wait + Threads + Sync, H: Host, D: Dial + Drop, K: Sink, C: Clock>(
-    mut tasks: List<Job<'_, '_, 'c, R, H, D, K, C>>,
-    mut seats: Vec<Seat<H::Machine>>,
-) -> Gathered<'c, H, K>
+/// What one work came to.
+#[derive(Drop)]
+struct Ended<H: Host> {
+    seat: Seat<H::Machine>,
+    failed: bool,
+    wanted: bool,
+}
+
+/// Takes the works apart.
+pub(crate) fn gather<R: Wait + Threads + Sync, H: Host, D: Dial + Drop, C: Clock>(
+    tasks: List<Job<'_, '_, R, H, D, C>>,
+    room: Vec<Seat<H::Machine>>,
+) -> Gathered<H>
 where
     D::In: Drop,
     D::Out: Drop,
-    requires last { HasLast works.Audit (λ _. ⊤) tasks }
-    requires empty { seats.items ≡ [] }
-    requires room { length tasks ≤ vec_capacity seats }
-    ensures seats { result.seats ≡ map (elim [
-          | works.Reader r ↦ r.pass
-          | works.Writer w ↦ w.pass
-          | works.Audit a ↦ a.pass
-        ]) tasks }
-    ensures failed { result.failed ≡ list_any (elim [
-          | works.Reader r ↦ has_failed r.end
-          | works.Writer w ↦ false
-          | works.Audit a ↦ false
-        ]) tasks }
-    ensures wanted { result.wanted ≡ list_any (elim [
-          | works.Reader r ↦ has_wanted r.end
-          | works.Writer w ↦ wanted_to_send w.end
-          | works.Audit a ↦ false
-        ]) tasks }
-    ensures audit { HasLast works.Audit (λ a. (result.audit ≡ a.end) × (result.out.ghost_name ≡ a.out.ghost_name)
-        × (result.out.now ≡ a.out.now)) tasks }
+    requires empty { room.items ≡ [] }
+    requires room { length tasks < vec_capacity room }
+    ensures seats { result.seats.items ≡ map pass_of tasks.entry }
+    ensures room { vec_len result.seats < vec_capacity result.seats }
+    ensures failed { result.failed ≡ list_any failed_of tasks.entry }
+    ensures wanted { result.wanted ≡ list_any wanted_of tasks.entry }
 {
-    let Some(Task::Audit { audit }) = tasks.pop() else {
-        unreachable!()
-    };
+    let mut seats = room;
     let (mut failed, mut wanted) = (false, false);
-    for task in tasks.into_vec() {
-        match task {
-            Task::Reader { reader } => {
-                if let Some(end) = reader.end {
-                    failed = failed || end.failed;
-                    wanted = wanted || end.wanted;
-                }
-                seats.push_reserved(reader.pass);
-            }
-            Task::Writer { writer } => {
-                if let Some(end) = writer.end {
-                    wanted = wanted || end.wanted;
-                }
-                seats.push_reserved(writer.pass);
-            }
-            Task::Audit { audit } => seats.push_reserved(audit.pass),
-        }
+    let mut tasks = VecDeque::from(tasks.into_vec());
+    while let Some(task) = tasks.pop_front() {
+        let ended = take_apart(task);
+        seats.push_reserved(ended.seat);
+        failed = failed || ended.failed;
+        wanted = wanted || ended.wanted;
     }
-    seats.push_reserved(audit.pass);
     Gathered {
-        seats: List::from_vec(seats),
+        seats,
         failed,
         wanted,
-        out: audit.out,
-        audit: audit.end,
+    }
+}
+
+/// Takes a work apart.
+fn take_apart<R: Wait + Threads + Sync, H: Host, D: Dial + Drop, C: Clock>(
+    task: Job<'_, '_, R, H, D, C>,
+) -> Ended<H>
+where
+    D::In: Drop,
+    D::Out: Drop,
+    ensures seat { result.seat ≡ pass_of task.entry }
+    ensures failed { result.failed ≡ failed_of task.entry }
+    ensures wanted { result.wanted ≡ wanted_of task.entry }
+{
+    match task {
+        Task::Reader { reader } => Ended {
+            failed: failed_in(reader.end),
+            wanted: wanted_in(reader.end),
+            seat: reader.pass,
+        },
+        Task::Writer { writer } => Ended {
+            failed: false,
+            wanted: matches!(writer.end, Some(Sent { wanted: true, .. })),
+            seat: writer.pass,
+        },
+    }
+}
+
+/// Whether a work that has ended met a dial that failed.
+fn failed_in(end: Option<Received>) -> bool
+    ensures { result ≡ has_failed end }
+{
+    match end {
+        Some(end) => end.failed,
+        None => false,
+    }
+}
+
+/// Whether it wanted memory.
+fn wanted_in(end: Option<Received>) -> bool
+    ensures { result ≡ has_wanted end }
+{
+    match end {
+        Some(end) => end.wanted,
+        None => false,
     }
 }

@@ -2,12 +2,14 @@
 //! audit post to it beside one another, and all that the audit has is written.
 #![tactic(auto)]
 
+mod attending;
 mod closing;
 mod dialling;
 mod gathering;
 mod place;
 mod run;
 mod staff;
+mod working;
 
 pub use place::Place;
 pub use run::{Served, serve};

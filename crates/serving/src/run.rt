@@ -1,17 +1,15 @@
-//! Serving every endpoint.
+//! A run: every endpoint is served.
 ghost use Rattle.std.specs.Prelude.{◌≡◌, ◌<◌, ◌+◌, ◌*◌, ◌^◌, All, IfOk, OnErr, length, true};
 ghost use Rattle.cv_io.specs.Outside.{Rose};
 ghost use Rattle.endpoint_works.specs.Sides.{IsServedSide};
 ghost use Rattle.serving.specs.Histories.{lines_taken};
 ghost use Rattle.serving.specs.Runs.{Serves};
 
-use crate::closing::{Rest, write_rest};
-use crate::dialling::{Lines, dial_all};
-use crate::gathering::{Gathered, gather};
+use crate::attending::attend;
+use crate::dialling::dial_all;
 use crate::place::Place;
-use crate::staff::{Office, hire};
 use cv_io::{Clock, Dial, Links, List, Memory, Sink, Spawner};
-use endpoint_works::{AuditEnd, Handover, Others, Shared};
+use endpoint_works::Handover;
 use lock_desk::Host;
 use policy_lock::{Machine, open};
 use std::alloc::Global;
@@ -39,7 +37,14 @@ pub enum Served {
 ///
 /// Two works for each endpoint that can be dialled, and one for the audit, post to one lock over the machine: their
 /// calls stand in the one history of that lock. It waits for them.
-pub fn serve<H: Host + Send, R: Wait + Threads + Sync, K: Sink + Send, L: Links, P: Spawner, C: Clock + Send>(
+pub fn serve<
+    H: Host + Send,
+    R: Wait + Threads + Sync,
+    K: Sink + Send,
+    L: Links,
+    P: Spawner,
+    C: Clock + Send,
+>(
     rt: &R,
     alloc: Global,
     machine: H::Machine,
@@ -69,7 +74,14 @@ where
 }
 
 /// The same, but that want of memory before the works begin is an error.
-fn try_serve<H: Host + Send, R: Wait + Threads + Sync, K: Sink + Send, L: Links, P: Spawner, C: Clock + Send>(
+fn try_serve<
+    H: Host + Send,
+    R: Wait + Threads + Sync,
+    K: Sink + Send,
+    L: Links,
+    P: Spawner,
+    C: Clock + Send,
+>(
     rt: &R,
     alloc: Global,
     machine: H::Machine,
@@ -95,40 +107,15 @@ where
     ensures write { IfOk result (λ served. served ≡ Served.Write → Rose (K.faults out.old) (K.faults out.new)) }
     ensures memory { OnErr result (K.held out.new ≡ K.held out.old) }
 {
-    let Lines { lines, failed } = dial_all(alloc, links, places)?;
-    let count = lines.len();
+    let lines = dial_all(alloc, links, places)?;
+    let count = lines.lines.len();
     let handovers = handovers(alloc, count)?;
     let room = Vec::with_capacity(alloc, 2 * count + 1)?;
     let (lock, seats) = open(alloc, machine, 2 * count as u32 + 1)?;
-    let others = Others::new(2 * count as u64);
-    let shared = Shared::new(clock);
-    let office = Office::<R, H, <L::Dial as Dial>::Out, C> {
-        rt,
-        alloc,
-        lock: &lock,
-        others: &others,
-        clock: &shared,
-        handovers: handovers.as_slice(),
-    };
-    let mut tasks = hire(&office, lines, seats, out)?;
-    if spawner.all(rt, &mut tasks).is_err() {
+    if spawner.admit().is_err() {
         return Ok(Served::Spawn);
     }
-    let gathered = gather(tasks, room);
-    let Ok(mut machine) = lock.close(gathered.seats) else {
-        unreachable!()
-    };
-    if let Some(Ok(AuditEnd::WriteFault)) = gathered.audit {
-        return Ok(Served::Write);
-    }
-    let wanted = gathered.wanted || matches!(gathered.audit, Some(Err(_)));
-    Ok(match write_rest::<H, R, K>(rt, &mut machine, gathered.out) {
-        Rest::WriteFault => Served::Write,
-        Rest::Memory => Served::Memory,
-        Rest::Written if failed || gathered.failed => Served::Link,
-        Rest::Written if wanted => Served::Memory,
-        Rest::Written => Served::Done,
-    })
+    attend::<H, R, L::Dial, K, C>(rt, alloc, lock, seats, lines, handovers, room, out, clock)
 }
 
 /// A place between the two works of each endpoint.

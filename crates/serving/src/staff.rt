@@ -1,14 +1,10 @@
 //! The works of a run.
-ghost use Rattle.std.specs.Prelude.{◌≡◌, ◌<◌, ◌+◌, ◌*◌, All, IfOk, length};
-ghost use Rattle.std.specs.Thread.{IsSync};
-ghost use Rattle.endpoint_works.specs.Sides.{IsServedSide};
-ghost use Rattle.endpoint_works.specs.declared.works.Task.TheVariants as tasks;
-ghost use Rattle.policy_lock.specs.Seat.{IsSeatOf};
-ghost use Rattle.serving.specs.Works.{AreWorks};
+ghost use Rattle.std.specs.Prelude.{◌≡◌, ◌<◌, ◌*◌, IfOk, length};
+ghost use Rattle.serving.specs.Works.{AreTeams, IsReaderFor, IsWriterFor};
 
 use crate::dialling::Line;
 use cv_io::{Clock, Dial, List, Memory, Sink};
-use endpoint_works::{Audit, Dialled, Handover, Others, Reader, Shared, SharedClock, Task, Writer};
+use endpoint_works::{Dialled, Handover, Others, Reader, Shared, SharedClock, Task, Writer};
 use lock_desk::{Host, LockDesk};
 use policy_lock::{PolicyLock, Seat};
 use std::alloc::Global;
@@ -17,9 +13,8 @@ use std::snapshot::Snapshot;
 use std::sync::Wait;
 use std::thread::Threads;
 
-/// A work of a run: its desk is the lock.
-pub(crate) type Job<'a, 'b, 'c, R, H, D, K, C> =
-    Task<'a, 'b, 'c, R, LockDesk<'a, R, H>, Dialled<D>, K, C>;
+/// A work of an endpoint: its desk is the lock.
+pub(crate) type Job<'a, 'b, R, H, D, C> = Task<'a, 'b, R, LockDesk<'a, R, H>, Dialled<D>, C>;
 
 /// What the works of a run share.
 #[derive(Drop)]
@@ -29,14 +24,41 @@ pub(crate) struct Office<'a, 'b, R, H: Host, K: Drop, C> {
     pub lock: &'a PolicyLock<H::Machine>,
     pub others: &'a Others,
     pub clock: &'a Shared<'b, C>,
+    /// Between the two works of each line.
     pub handovers: &'a [Handover<K>],
 }
 
-impl<'a, 'b, R: Wait + Threads + Sync, H: Host, K: Sink + Drop, C: Clock>
-    Office<'a, 'b, R, H, K, C>
-{
+impl<'a, 'b, R: Wait + Threads + Sync, H: Host, K: Sink + Drop, C: Clock> Office<
+    'a,
+    'b,
+    R,
+    H,
+    K,
+    C,
+> {
+    pub(crate) fn new(
+        rt: &'a R,
+        alloc: Global,
+        lock: &'a PolicyLock<H::Machine>,
+        others: &'a Others,
+        clock: &'a Shared<'b, C>,
+        handovers: &'a [Handover<K>],
+    ) -> Self
+        ensures lock { result.lock.now ≡ lock.now }
+        ensures handovers { result.handovers.now ≡ handovers.now }
+    {
+        Office {
+            rt,
+            alloc,
+            lock,
+            others,
+            clock,
+            handovers,
+        }
+    }
+
     /// The lock as a desk that admits the seat.
-    fn desk(&self, seat: &Seat<H::Machine>) -> LockDesk<'a, R, H>
+    pub(crate) fn desk(&self, seat: &Seat<H::Machine>) -> LockDesk<'a, R, H>
         ensures lock { result.lock.now ≡ self.now.lock.now }
         ensures since { result.since.value ≡ seat.now }
     {
@@ -47,7 +69,14 @@ impl<'a, 'b, R: Wait + Threads + Sync, H: Host, K: Sink + Drop, C: Clock>
         }
     }
 
-    fn clock(&self) -> SharedClock<'a, 'b, R, C> {
+    /// The place between the two works of the line of this number.
+    fn handover(&self, number: usize) -> &'a Handover<K>
+        requires { number < length self.now.handovers.now }
+    {
+        &self.handovers[number]
+    }
+
+    pub(crate) fn clock(&self) -> SharedClock<'a, 'b, R, C> {
         SharedClock::new(self.rt, self.clock)
     }
 }
@@ -74,7 +103,7 @@ where
         rt: office.rt,
         alloc: office.alloc,
         others: office.others,
-        handover: &office.handovers[number],
+        handover: office.handover(number),
         desk: office.desk(&seat),
         pass: seat,
         side,
@@ -97,7 +126,7 @@ fn writer<'a, 'b, R: Wait + Threads + Sync, H: Host, K: Sink + Drop, C: Clock>(
     Writer {
         rt: office.rt,
         others: office.others,
-        handover: &office.handovers[number],
+        handover: office.handover(number),
         desk: office.desk(&seat),
         pass: seat,
         clock: office.clock(),
@@ -105,66 +134,28 @@ fn writer<'a, 'b, R: Wait + Threads + Sync, H: Host, K: Sink + Drop, C: Clock>(
     }
 }
 
-/// The work that writes the audit.
-fn audit<'a, 'b, 'c, R: Wait + Threads + Sync, H: Host, J: Sink + Drop, K: Sink, C: Clock>(
-    office: &Office<'a, 'b, R, H, J, C>,
-    seat: Seat<H::Machine>,
-    out: &'c mut K,
-) -> Audit<'a, 'b, 'c, R, LockDesk<'a, R, H>, K, C>
-    ensures pass { result.pass ≡ seat }
-    ensures lock { result.desk.lock.now ≡ office.now.lock.now }
-    ensures since { result.desk.since.value ≡ seat }
-    ensures same_out { result.out.ghost_name ≡ out.entry.ghost_name }
-    ensures out { result.out.now ≡ out.old }
-{
-    Audit {
-        rt: office.rt,
-        others: office.others,
-        desk: office.desk(&seat),
-        pass: seat,
-        out,
-        clock: office.clock(),
-        end: None,
-    }
-}
-
-/// The works: two for each line, and one for the audit; each has the next seat.
-pub(crate) fn hire<'a, 'b, 'c, R: Wait + Threads + Sync, H: Host, D: Dial + Drop, K: Sink, C: Clock>(
+/// The works, two for each line; each has the next seat.
+pub(crate) fn hire<'a, 'b, R: Wait + Threads + Sync, H: Host, D: Dial + Drop, C: Clock>(
     office: &Office<'a, 'b, R, H, D::Out, C>,
     lines: List<Line<D>>,
     seats: List<Seat<H::Machine>>,
-    out: &'c mut K,
-) -> Result<List<Job<'a, 'b, 'c, R, H, D, K, C>>, Memory>
+) -> Result<List<Job<'a, 'b, R, H, D, C>>, Memory>
 where
     D::In: Drop,
     D::Out: Drop,
     requires handovers { length office.now.handovers.now ≡ length lines }
-    requires seats { length seats ≡ 2 * length lines + 1 }
-    ensures works { IfOk result (AreWorks
-        (λ line seat. elim [
-          | tasks.Reader r ↦ (r.pass ≡ seat) × (r.desk.lock.now ≡ office.now.lock.now) × (r.desk.since.value ≡ seat)
-              × (r.side ≡ line.side) × (r.arrivals.dial ≡ line.dial)
-          | tasks.Writer w ↦ ⊥
-          | tasks.Audit a ↦ ⊥
-        ])
-        (λ seat. elim [
-          | tasks.Reader r ↦ ⊥
-          | tasks.Writer w ↦ (w.pass ≡ seat) × (w.desk.lock.now ≡ office.now.lock.now) × (w.desk.since.value ≡ seat)
-          | tasks.Audit a ↦ ⊥
-        ])
-        (λ seat. elim [
-          | tasks.Reader r ↦ ⊥
-          | tasks.Writer w ↦ ⊥
-          | tasks.Audit a ↦ (a.pass ≡ seat) × (a.desk.lock.now ≡ office.now.lock.now) × (a.desk.since.value ≡ seat)
-              × (a.out.ghost_name ≡ out.entry.ghost_name) × (a.out.now ≡ out.old)
-        ])
-        lines seats) }
+    requires seats { length seats ≡ 2 * length lines }
+    ensures { IfOk result (AreTeams (IsReaderFor office.now.lock.now) (IsWriterFor office.now.lock.now) lines seats) }
 {
     let mut tasks = List::with_capacity(office.alloc, seats.len())?;
+    let mut lines = VecDeque::from(lines.into_vec());
     let mut seats = VecDeque::from(seats.into_vec());
     let mut number = 0;
-    for line in lines.into_vec() {
-        let (Some(first), Some(second)) = (seats.pop_front(), seats.pop_front()) else {
+    while let Some(line) = lines.pop_front() {
+        let Some(first) = seats.pop_front() else {
+            unreachable!()
+        };
+        let Some(second) = seats.pop_front() else {
             unreachable!()
         };
         tasks.push(Task::Reader {
@@ -175,11 +166,5 @@ where
         })?;
         number += 1;
     }
-    let Some(last) = seats.pop_front() else {
-        unreachable!()
-    };
-    tasks.push(Task::Audit {
-        audit: audit(office, last, out),
-    })?;
     Ok(tasks)
 }

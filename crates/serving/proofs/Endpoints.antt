@@ -1,5 +1,6 @@
 -- The works of a run stand for its endpoints.
-use Rattle.std.proofs.Common.{◌≡◌, ◌⊎◌, ◌||◌, ◌×◌, ℕ, Bool, true, false, List, [], ◌∷◌, ◌++◌, Option, All, IsTrue, map, refl, sym, ap, ◌∙◌, subst, inl, inr}
+use Rattle.std.proofs.Common.{◌≡◌, ◌⊎◌, ◌||◌, ℕ, Bool, true, false, List, [], ◌∷◌, ◌++◌, Option, All, IsTrue, map, refl, sym, ap, ◌∙◌, subst, inl, inr}
+use Rattle.std.proofs.lemmas.List.Elements.{All-cons, All-head, All-nil, All-tail}
 use Rattle.cv_io.specs.Connections.{Connection}
 use Rattle.cv_io.specs.declared.links.Endpoint.{Endpoint}
 use Rattle.events.specs.declared.event.Event.{Event}
@@ -7,26 +8,26 @@ use Rattle.events.specs.declared.event.Reply.{Reply}
 use Rattle.policy_lock.specs.Close.{HasSeen}
 use Rattle.policy_lock.specs.History.{same_number}
 use Rattle.policy_lock.specs.Number.{Numbered, has_number, numbered, numbers}
-use Rattle.policy_lock.specs.Seat.{SeatOf}
+use Rattle.policy_lock.specs.Seat.{LockOf, SeatOf}
 use Rattle.policy_lock.specs.declared.machine.Machine.{Ghosts}
 use Rattle.policy_lock.specs.declared.view.Entry.{Entry}
 use Rattle.policy_lock.proofs.Histories.{same-eq, same-true}
 use Rattle.sessions.specs.declared.desk.Post.{Post}
 use Rattle.endpoint_works.specs.Audits.{IsAudits}
-use Rattle.endpoint_works.specs.Sendings.{HasSent}
 use Rattle.endpoint_works.specs.Tasks.{HasReceived}
-use Rattle.endpoint_works.specs.declared.receiving.Received.{Received}
+use Rattle.endpoint_works.specs.declared.side.Side.{Side}
 use Rattle.lock_desk.specs.Passes.{HasEnded, IsSince, own_posts, post_of, posts_by}
 use Rattle.serving.specs.Lines.{AreLinesOf, IsLineOf}
 use Rattle.serving.specs.Runs.{AreServed, IsServed}
-use Rattle.serving.specs.Works.{AreWorks}
+use Rattle.serving.specs.Working.{HasRead, HasWritten}
+use Rattle.serving.specs.Works.{AreTeams}
 use Rattle.serving.specs.declared.dialling.Line.{Line}
 use Rattle.serving.specs.declared.place.Place.{Place}
 use Rattle.serving.proofs.Audits.{IsAuditsAlone, of-number}
 use Rattle.serving.proofs.Posts.{TakesNone, adds-rounds, senders-none}
 
 -- the last of a list, or this
-last_or : {A : Type 0} → A → List A → A
+abbrev pub last_or : {A : Type 0} → A → List A → A
 last_or d [] = d
 last_or d (x ∷ xs) = last_or x xs
 
@@ -40,100 +41,93 @@ either_true false b e = inr e
 
 -- two of a list hold of each
 both : {X : Type 0} (P Q R : X → Type 0) → ((x : X) → P x → Q x → R x) → (xs : List X) → All P xs → All Q xs → All R xs
-both P Q R f [] p q = record {}
-both P Q R f (x ∷ xs) p q = (f x p.0 q.0, both P Q R f xs p.1 q.1)
+both P Q R f [] p q = All-nil R
+both P Q R f (x ∷ xs) p q =
+    All-cons R x xs (f x (All-head P x xs p) (All-head Q x xs q)) (both P Q R f xs (All-tail P x xs p) (All-tail Q x xs q))
 
 every : {X : Type 0} (P Q : X → Type 0) → ((x : X) → P x → Q x) → (xs : List X) → All P xs → All Q xs
-every P Q f [] p = record {}
-every P Q f (x ∷ xs) p = (f x p.0, every P Q f xs p.1)
+every P Q f [] p = All-nil Q
+every P Q f (x ∷ xs) p = All-cons Q x xs (f x (All-head P x xs p)) (every P Q f xs (All-tail P x xs p))
 
 module _ {M S D : Type 0} (g : Ghosts M Event Reply S) (start : S) (told : Endpoint → Option (List Connection)) (reliable : Endpoint → Bool)
-    (left : D → Option (List Connection)) (never_fails : D → Bool) (log : List (Entry Event Reply)) where
+    (left : D → Option (List Connection)) (never_fails : D → Bool) (lock : LockOf S) (log : List (Entry Event Reply)) where
   abbrev Seated : Type 0
   Seated = SeatOf Event Reply S
 
-  -- what the first work of an endpoint came to, whose seat was s and is w
-  pub record HasRead (failed wanted : Bool) (line : Line D) (s w : Seated) : Type 0 where
-    pub silent : own_posts s.pass ≡ []
-    pub number : w.pass.number ≡ s.pass.number
-    pub seen : HasSeen log w
-    pub end : Received
-    pub fails : end.failed ≡ true → failed ≡ true
-    pub wants : end.wanted ≡ true → wanted ≡ true
-    pub left' : Option (List Connection)
-    pub received :
-        HasReceived (λ (seat : Seated). own_posts seat.pass) (λ (seat : Seated). HasEnded g seat.pass) IsSince
-        line.side (never_fails line.dial) (left line.dial) left' s w end
-
-  -- the second, and the audit's
-  pub record HasWritten (s : Seated) : Type 0 where
-    pub cut : Bool
-    pub sent : HasSent cut [] (posts_by s.pass.number log)
-
+  -- the seat of the audit's work took lines of the audit alone
   abbrev pub HasAudited : Seated → Type 0
   HasAudited s = All IsAudits (posts_by s.pass.number log)
 
   module _ (undialled failed wanted : Bool) where
-    served-one : (place : Place) (line : Line D) (s w r : Seated) → IsLineOf told reliable left never_fails place line
-        → HasRead failed wanted line s w → HasWritten r → IsServed g start told reliable failed wanted place log s.pass.number r.pass.number
-    served-one place line s w r is h k = record {
+    served-one : (place : Place) (line : Line D) (s w r q : Seated) → IsLineOf told reliable left never_fails place line
+        → (own_posts s.pass ≡ []) → HasSeen log w → HasRead g lock left never_fails failed wanted line s w
+        → (own_posts r.pass ≡ []) → HasSeen log q → HasWritten lock r q
+        → IsServed g start told reliable failed wanted place log s.pass.number r.pass.number
+    served-one place line s w r q is silent seen h mute met k = record {
       began = s;
-      silent = h.silent;
+      silent = silent;
       ended = w;
-      number = sym h.number;
-      seen = h.seen;
+      number = sym h.later.since.number;
+      seen = seen;
       end = h.end;
       fails = h.fails;
       wants = h.wants;
       never_fails = never_fails line.dial;
-      reliable = is.reliable;
-      left = h.left';
+      dials = is.dials;
+      left = h.rest;
       received =
           subst (λ (links : Option (List Connection)).
           HasReceived (λ (seat : Seated). own_posts seat.pass) (λ (seat : Seated). HasEnded g seat.pass) IsSince
-          place.side (never_fails line.dial) links h.left' s w h.end) is.told
-          (subst (λ side. HasReceived (λ (seat : Seated). own_posts seat.pass) (λ (seat : Seated). HasEnded g seat.pass) IsSince
-          side (never_fails line.dial) (left line.dial) h.left' s w h.end) is.side h.received);
+          place.side (never_fails line.dial) links h.rest s w h.end) is.gives
+          (subst (λ (side : Side). HasReceived (λ (seat : Seated). own_posts seat.pass) (λ (seat : Seated). HasEnded g seat.pass) IsSince
+          side (never_fails line.dial) (left line.dial) h.rest s w h.end) is.side h.received);
       cut = k.cut;
-      sent = k.sent;
+      sent = record {
+        more = k.sent.more;
+        each = k.sent.each;
+        posted =
+            ap (λ (n : List ℕ). posts_by n log) (sym k.later.since.number)
+            ∙ (ap (map post_of) met.1 ∙ (k.sent.posted ∙ ap (λ (l : List Post). l ++ k.sent.more) mute));
+      };
     }
 
-    module _ {T : Type 0} (pass : T → Seated) where
-      abbrev pub Reads : Line D → Seated → T → Type 0
-      Reads line s t = HasRead failed wanted line s (pass t)
-
-      abbrev pub Writes : Seated → T → Type 0
-      Writes s t = HasWritten s
-
-      abbrev pub Audits : Seated → T → Type 0
-      Audits s t = HasAudited s
-
-      pub served-all : (places : List Place) (lines : List (Line D)) (seats : List Seated) (works : List T)
-          → AreLinesOf told reliable left never_fails undialled places lines → AreWorks Reads Writes Audits lines seats works
-          → AreServed g start told reliable undialled failed wanted places log (numbers seats)
-      served-all [] lines seats works are is =
-          let a = subst (λ (l : List (Line D)). AreWorks Reads Writes Audits l seats works) are is in
-          record { number = numbered a.seat.pass; numbers = ap numbers a.seats; takings = a.audits }
-      served-all (place ∷ places) lines seats works (inl are) is = inl (are.0, served-all places lines seats works are.1 is)
-      served-all (place ∷ places) lines seats works (inr one) is =
-          let a = subst (λ (l : List (Line D)). AreWorks Reads Writes Audits l seats works) one.lines is in
-          inr (record {
-            first = numbered a.first.pass;
-            second = numbered a.second.pass;
-            numbers' = numbers a.seats';
-            numbers = ap numbers a.seats;
-            served = served-one place one.line a.first (pass a.reader) a.second one.is a.reads a.writes;
-            rest = served-all places one.lines' a.seats' a.works' one.rest a.rest;
-          })
+    pub served-all : (places : List Place) (lines : List (Line D)) (seats after : List Seated) (s : Seated)
+        → AreLinesOf told reliable left never_fails undialled places lines
+        → AreTeams (HasRead g lock left never_fails failed wanted) (HasWritten lock) lines seats after
+        → All (λ (x : Seated). own_posts x.pass ≡ []) seats → All (HasSeen log) after → HasAudited s
+        → AreServed g start told reliable undialled failed wanted places log (numbers (seats ++ s ∷ []))
+    served-all [] lines seats after s are is silent seen audits =
+        let a = subst (λ (l : List (Line D)). AreTeams (HasRead g lock left never_fails failed wanted) (HasWritten lock) l seats after) are is in
+        record { number = numbered s.pass; is = ap (λ (l : List Seated). numbers (l ++ s ∷ [])) a.0; takings = audits }
+    served-all (place ∷ places) lines seats after s (inl are) is silent seen audits =
+        inl (are.0, served-all places lines seats after s are.1 is silent seen audits)
+    served-all (place ∷ places) lines seats after s (inr one) is silent seen audits =
+        let a = subst (λ (l : List (Line D)). AreTeams (HasRead g lock left never_fails failed wanted) (HasWritten lock) l seats after) one.are is in
+        let Silent : Seated → Type 0 = λ (x : Seated). own_posts x.pass ≡ [] in
+        let q = subst (All Silent) a.are_seats silent in
+        let q1 = All-tail Silent a.first (a.second ∷ a.other_seats) q in
+        let m = subst (All (HasSeen log)) a.are_works seen in
+        let m1 = All-tail (HasSeen log) a.reader (a.writer ∷ a.other_works) m in
+        inr (record {
+          first = numbered a.first.pass;
+          second = numbered a.second.pass;
+          others = numbers (a.other_seats ++ s ∷ []);
+          are = ap (λ (l : List Seated). numbers (l ++ s ∷ [])) a.are_seats;
+          served = served-one place one.line a.first a.reader a.second a.writer one.is
+              (All-head Silent a.first (a.second ∷ a.other_seats) q) (All-head (HasSeen log) a.reader (a.writer ∷ a.other_works) m) a.reads
+              (All-head Silent a.second a.other_seats q1) (All-head (HasSeen log) a.writer a.other_works m1) a.writes;
+          rest = served-all places one.others a.other_seats a.other_works s one.rest a.rest
+              (All-tail Silent a.second a.other_seats q1) (All-tail (HasSeen log) a.writer a.other_works m1) audits;
+        })
 
     -- the audit's work posts takings of the audit alone
     audits-last : (d : Numbered) (places : List Place) (all : List Numbered)
         → AreServed g start told reliable undialled failed wanted places log all → All IsAudits (posts_by (last_or d all).0 log)
-    audits-last d [] all is = subst (λ (l : List Numbered). All IsAudits (posts_by (last_or d l).0 log)) (sym is.numbers) is.takings
+    audits-last d [] all is = subst (λ (l : List Numbered). All IsAudits (posts_by (last_or d l).0 log)) (sym is.is) is.takings
     audits-last d (place ∷ places) all (inl is) = audits-last d places all is.1
     audits-last d (place ∷ places) all (inr is) =
-        subst (λ (l : List Numbered). All IsAudits (posts_by (last_or d l).0 log)) (sym is.numbers)
-        (audits-last is.second places is.numbers' is.rest)
+        subst (λ (l : List Numbered). All IsAudits (posts_by (last_or d l).0 log)) (sym is.are)
+        (audits-last is.second places is.others is.rest)
 
     -- the works of an endpoint post no such
     first-none : (place : Place) (first second : List ℕ) → IsServed g start told reliable failed wanted place log first second
@@ -159,7 +153,7 @@ module _ {M S D : Type 0} (g : Ghosts M Event Reply S) (start : S) (told : Endpo
     others-none : (d : Numbered) (places : List Place) (all : List Numbered)
         → AreServed g start told reliable undialled failed wanted places log all → All (IsOneOf all (last_or d all).0) log
     others-none d [] all is =
-        subst (λ (l : List Numbered). All (IsOneOf l (last_or d l).0) log) (sym is.numbers)
+        subst (λ (l : List Numbered). All (IsOneOf l (last_or d l).0) log) (sym is.is)
         (every (λ (x : Entry Event Reply). same_number x.by is.number.0 ≡ true → IsAudits (post_of x))
         (IsOneOf (is.number ∷ []) is.number.0)
         (λ x h e. inl (turned is.number.0 x.by (or-none (same_number is.number.0 x.by) e))) log
@@ -170,28 +164,28 @@ module _ {M S D : Type 0} (g : Ghosts M Event Reply S) (start : S) (told : Endpo
         or-none false e = e
     others-none d (place ∷ places) all (inl is) = others-none d places all is.1
     others-none d (place ∷ places) all (inr is) =
-        let n = (last_or is.second is.numbers').0 in
-        subst (λ (l : List Numbered). All (IsOneOf l (last_or d l).0) log) (sym is.numbers)
+        let n = (last_or is.second is.others).0 in
+        subst (λ (l : List Numbered). All (IsOneOf l (last_or d l).0) log) (sym is.are)
         (both (λ (x : Entry Event Reply). same_number x.by is.first.0 ≡ true → TakesNone (post_of x))
-        (λ (x : Entry Event Reply). (same_number x.by is.second.0 ≡ true → TakesNone (post_of x)) × IsOneOf is.numbers' n x)
-        (IsOneOf (is.first ∷ is.second ∷ is.numbers') n)
+        (λ (x : Entry Event Reply). (same_number x.by is.second.0 ≡ true → TakesNone (post_of x)) × IsOneOf is.others n x)
+        (IsOneOf (is.first ∷ is.second ∷ is.others) n)
         (λ x p q e. by x p q.0 q.1 (either_true (same_number is.first.0 x.by) _ e)) log
         (of-number TakesNone is.first.0 log (first-none place is.first.0 is.second.0 is.served))
-        (both (λ (x : Entry Event Reply). same_number x.by is.second.0 ≡ true → TakesNone (post_of x)) (IsOneOf is.numbers' n)
-        (λ (x : Entry Event Reply). (same_number x.by is.second.0 ≡ true → TakesNone (post_of x)) × IsOneOf is.numbers' n x)
+        (both (λ (x : Entry Event Reply). same_number x.by is.second.0 ≡ true → TakesNone (post_of x)) (IsOneOf is.others n)
+        (λ (x : Entry Event Reply). (same_number x.by is.second.0 ≡ true → TakesNone (post_of x)) × IsOneOf is.others n x)
         (λ x p q. (p, q)) log
         (of-number TakesNone is.second.0 log (second-none place is.first.0 is.second.0 is.served))
-        (others-none is.second places is.numbers' is.rest)))
+        (others-none is.second places is.others is.rest)))
       where
         by : (x : Entry Event Reply) → (same_number x.by is.first.0 ≡ true → TakesNone (post_of x))
-            → (same_number x.by is.second.0 ≡ true → TakesNone (post_of x)) → IsOneOf is.numbers' (last_or is.second is.numbers').0 x
-            → (same_number is.first.0 x.by ≡ true) ⊎ ((same_number is.second.0 x.by || has_number x.by is.numbers') ≡ true)
-            → (same_number x.by (last_or is.second is.numbers').0 ≡ true) ⊎ TakesNone (post_of x)
+            → (same_number x.by is.second.0 ≡ true → TakesNone (post_of x)) → IsOneOf is.others (last_or is.second is.others).0 x
+            → (same_number is.first.0 x.by ≡ true) ⊎ ((same_number is.second.0 x.by || has_number x.by is.others) ≡ true)
+            → (same_number x.by (last_or is.second is.others).0 ≡ true) ⊎ TakesNone (post_of x)
         by x p q r (inl e) = inr (p (turned is.first.0 x.by e))
-        by x p q r (inr e) = by-second (either_true (same_number is.second.0 x.by) (has_number x.by is.numbers') e)
+        by x p q r (inr e) = by-second (either_true (same_number is.second.0 x.by) (has_number x.by is.others) e)
           where
-            by-second : (same_number is.second.0 x.by ≡ true) ⊎ (has_number x.by is.numbers' ≡ true)
-                → (same_number x.by (last_or is.second is.numbers').0 ≡ true) ⊎ TakesNone (post_of x)
+            by-second : (same_number is.second.0 x.by ≡ true) ⊎ (has_number x.by is.others ≡ true)
+                → (same_number x.by (last_or is.second is.others).0 ≡ true) ⊎ TakesNone (post_of x)
             by-second (inl s) = inr (q (turned is.second.0 x.by s))
             by-second (inr s) = r s
 
@@ -204,16 +198,13 @@ module _ {M S D : Type 0} (g : Ghosts M Event Reply S) (start : S) (told : Endpo
         (both (λ (x : Entry Event Reply). same_number x.by (last_or n all).0 ≡ true → IsAudits (post_of x))
         (λ (x : Entry Event Reply). IsOneOf all (last_or n all).0 x × IsTrue (has_number x.by all))
         (IsAuditsAlone (last_or n all).0)
-        (λ x p q. (p, λ no. other x no (q.0 (of-true _ q.1)))) log
+        (λ x p q. (p, λ isnt. other x isnt (q.0 q.1))) log
         (of-number IsAudits (last_or n all).0 log (audits-last n places all is))
         (both (IsOneOf all (last_or n all).0) (λ (x : Entry Event Reply). IsTrue (has_number x.by all))
         (λ (x : Entry Event Reply). IsOneOf all (last_or n all).0 x × IsTrue (has_number x.by all)) (λ x p q. (p, q)) log
         (others-none n places all is) under))
       where
-        of-true : (b : Bool) → IsTrue b → b ≡ true
-        of-true true t = refl
-        of-true false t = absurd t
         other : (x : Entry Event Reply) → same_number x.by (last_or n all).0 ≡ false
             → (same_number x.by (last_or n all).0 ≡ true) ⊎ TakesNone (post_of x) → TakesNone (post_of x)
-        other x no (inl yes) = absurd (cc)
-        other x no (inr none) = none
+        other x isnt (inl same) = absurd (cc)
+        other x isnt (inr takes) = takes
