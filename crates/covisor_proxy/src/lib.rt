@@ -1,4 +1,5 @@
-//! What the program `covisor` does, over files, an input and an output that its caller makes: `run`.
+//! What the program `covisor` does, over files, an input, an output, connections, works and a clock that its caller
+//! makes: `run`.
 #![tactic(auto)]
 
 mod ending;
@@ -7,6 +8,7 @@ mod lines;
 mod opening;
 mod program;
 mod replay;
+mod serving;
 mod status;
 mod stop;
 mod telling;

@@ -1,3 +1,3 @@
 mod Opened
 mod Histories
-mod Crossing
+pub mod Crossing

@@ -1,0 +1,4 @@
+mod Drained
+mod Made
+mod Opens
+pub mod Served

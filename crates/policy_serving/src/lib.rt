@@ -1,0 +1,14 @@
+//! The endpoints of a policy: one for each member, where the proxy connects to its controller, and one for each switch,
+//! where switches connect to it. And serving all of them.
+#![tactic(auto)]
+
+mod endpoints;
+mod laws;
+mod serve;
+
+pub use endpoints::places;
+pub use laws::{places_are_counted, places_are_few, places_are_served};
+pub use serve::serve_policy;
+
+#[cfg(test)]
+mod tests;
