@@ -21,7 +21,13 @@ use std::thread::Threads;
 
 /// Serves every endpoint of a policy until its dial gives no more connections, and writes the audit to `out`, a line
 /// each: see [`serving::serve`].
-pub fn serve_policy<R: Wait + Threads + Sync, K: Sink + Send, L: Links, P: Spawner, C: Clock + Send>(
+pub fn serve_policy<
+    R: Wait + Threads + Sync,
+    K: Sink + Send,
+    L: Links,
+    P: Spawner,
+    C: Clock + Send,
+>(
     rt: &R,
     alloc: Global,
     policy: Policy,
