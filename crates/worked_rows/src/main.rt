@@ -32,7 +32,11 @@ fn wanted(_memory: Memory) -> io::Error {
 /// Prints what was written to a connection.
 fn show_wire(rt: &HostRuntime, party: Party, written: &Bytes) -> io::Result<()> {
     let digits = hex::encode(rt.alloc(), written.as_slice())?;
-    let shown = if digits.is_empty() { "-" } else { digits.as_str() };
+    let shown = if digits.is_empty() {
+        "-"
+    } else {
+        digits.as_str()
+    };
     match party {
         Party::Member { index } => println!(rt; "member {index} {shown}"),
         Party::Switch { index } => println!(rt; "switch {index} {shown}"),
