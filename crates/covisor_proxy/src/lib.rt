@@ -5,10 +5,10 @@
 mod ending;
 mod forms;
 mod lines;
+mod live;
 mod opening;
 mod program;
 mod replay;
-mod serving;
 mod status;
 mod stop;
 mod telling;

@@ -9,7 +9,7 @@ ghost use Rattle.command_line.specs.Forms.{command_of};
 
 use crate::ending::write_fault;
 use crate::forms::{make, replay_built_in, replay_file};
-use crate::serving::serve_file;
+use crate::live::serve_file;
 use crate::status::Status;
 use command_line::{Command, asked};
 use cv_io::{Clock, Dial, Files, Links, Sink, Source, Spawner, Steps};

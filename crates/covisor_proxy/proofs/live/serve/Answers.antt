@@ -6,7 +6,7 @@ use Rattle.covisor_proxy.specs.Outcomes.{moment}
 use Rattle.covisor_proxy.specs.Serving.{EndsServing, links_of}
 use Rattle.covisor_proxy.specs.declared.status.Status.{Status}
 use Rattle.covisor_proxy.proofs.Linking.{all_reliable}
-use Rattle.covisor_proxy.proofs.serving.serve.Goals as goal
+use Rattle.covisor_proxy.proofs.live.serve.Goals as goal
 
 pub returns-in-Done-clause-ends : goal.returns-in-Done-clause-ends
 returns-in-Done-clause-ends g c = λ left reads.

@@ -4,7 +4,7 @@ use Rattle.covisor_proxy.specs.Asked.{no_report}
 use Rattle.covisor_proxy.specs.Outcomes.{moment}
 use Rattle.covisor_proxy.specs.Serving.{links_of}
 use Rattle.covisor_proxy.proofs.Finishing.{ended-served, ended-unserved}
-use Rattle.covisor_proxy.proofs.serving.serve_file.Goals as goal
+use Rattle.covisor_proxy.proofs.live.serve_file.Goals as goal
 
 pub returns-in-Ok-clause-ends : goal.returns-in-Ok-clause-ends
 returns-in-Ok-clause-ends g c = λ left reads.
