@@ -55,13 +55,13 @@ returns-in-Spawn-clause-ends g c = λ left reads.
     let held = g.K.Sink.held c.args.out.now in
     let between = g.K.Sink.held c.serve_policy.new.out in
     let old = moment left reads held (g.K.Sink.faults c.args.out.now) in
-    let new = moment left reads (g.K.Sink.held c.write_fault.new.out) (g.K.Sink.faults c.write_fault.new.out) in
-    subst (λ (x : Status). EndsServing hyper (links_of told reliable) x c.args.policy old new) (sym c.write_fault.ensures.status)
+    let new = moment left reads (g.K.Sink.held c.write_fault-in-Spawn.new.out) (g.K.Sink.faults c.write_fault-in-Spawn.new.out) in
+    subst (λ (x : Status). EndsServing hyper (links_of told reliable) x c.args.policy old new) (sym c.write_fault-in-Spawn.ensures.status)
     (record {
       between = between;
       faults = g.K.Sink.faults c.serve_policy.new.out;
       serves = subst (ServesPolicy hyper told reliable c.args.policy held between) c.in-Spawn.is c.serve_policy.ensures.serves;
-      tells = c.write_fault.ensures.writes;
+      tells = c.write_fault-in-Spawn.ensures.writes;
     })
 
 pub returns-in-Link-clause-link : goal.returns-in-Link-clause-link

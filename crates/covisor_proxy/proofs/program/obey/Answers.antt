@@ -31,3 +31,30 @@ returns-in-Make-clause-ends g c =
       tt,
       ends-made c.make.result (report_for making (Err faults.Memory)) (cut_report_for making (Err faults.Memory)) (summary_text (made_of c.in-Make.seed c.in-Make.count)) old new (λ script. refl) refl c.make.ensures,
     )
+
+pub returns-in-ReplayPolicy-clause-ends : goal.returns-in-ReplayPolicy-clause-ends
+returns-in-ReplayPolicy-clause-ends g c =
+    let old = moment (g.S.Source.remaining c.args.input.now) (g.S.Source.faults c.args.input.now) (g.K.Sink.held c.args.out.now) (g.K.Sink.faults c.args.out.now) in
+    let new = moment (g.S.Source.remaining c.replay_file.new.input) (g.S.Source.faults c.replay_file.new.input) (g.K.Sink.held c.replay_file.new.out) (g.K.Sink.faults c.replay_file.new.out) in
+    let links = links_of (g.L.Links.told c.args.links.now) (g.L.Links.is_reliable c.args.links.now) in
+    let fails' = g.F.Files.faults c.replay_file.new.files in
+    subst (λ (x : Command). Ended hyper links c.replay_file.result (Some x) (g.F.Files.files c.args.files.now) (g.F.Files.faults c.args.files.now) fails' old new) (sym c.in-ReplayPolicy.is)
+    c.replay_file.ensures.ends
+
+pub returns-in-ExplainPolicy-clause-ends : goal.returns-in-ExplainPolicy-clause-ends
+returns-in-ExplainPolicy-clause-ends g c =
+    let old = moment (g.S.Source.remaining c.args.input.now) (g.S.Source.faults c.args.input.now) (g.K.Sink.held c.args.out.now) (g.K.Sink.faults c.args.out.now) in
+    let new = moment (g.S.Source.remaining c.replay_file-in-ExplainPolicy.new.input) (g.S.Source.faults c.replay_file-in-ExplainPolicy.new.input) (g.K.Sink.held c.replay_file-in-ExplainPolicy.new.out) (g.K.Sink.faults c.replay_file-in-ExplainPolicy.new.out) in
+    let links = links_of (g.L.Links.told c.args.links.now) (g.L.Links.is_reliable c.args.links.now) in
+    let fails' = g.F.Files.faults c.replay_file-in-ExplainPolicy.new.files in
+    subst (λ (x : Command). Ended hyper links c.replay_file-in-ExplainPolicy.result (Some x) (g.F.Files.files c.args.files.now) (g.F.Files.faults c.args.files.now) fails' old new) (sym c.in-ExplainPolicy.is)
+    c.replay_file-in-ExplainPolicy.ensures.ends
+
+pub returns-in-Serve-clause-ends : goal.returns-in-Serve-clause-ends
+returns-in-Serve-clause-ends g c =
+    let old = moment (g.S.Source.remaining c.args.input.now) (g.S.Source.faults c.args.input.now) (g.K.Sink.held c.args.out.now) (g.K.Sink.faults c.args.out.now) in
+    let new = moment (g.S.Source.remaining c.args.input.now) (g.S.Source.faults c.args.input.now) (g.K.Sink.held c.serve_file.new.out) (g.K.Sink.faults c.serve_file.new.out) in
+    let links = links_of (g.L.Links.told c.args.links.now) (g.L.Links.is_reliable c.args.links.now) in
+    let fails' = g.F.Files.faults c.serve_file.new.files in
+    subst (λ (x : Command). Ended hyper links c.serve_file.result (Some x) (g.F.Files.files c.args.files.now) (g.F.Files.faults c.args.files.now) fails' old new) (sym c.in-Serve.is)
+    (c.serve_file.ensures.ends (g.S.Source.remaining c.args.input.now) (g.S.Source.faults c.args.input.now))
