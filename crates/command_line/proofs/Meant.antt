@@ -6,7 +6,7 @@ use Rattle.std.specs.Str.{bytes_eq}
 use Rattle.cv_io.specs.Text.{IsAsciiText}
 use Rattle.clap.specs.Words.{Row, Text}
 use Rattle.command_line.specs.Meaning.{made_in, meant_by, policy_in, replaying}
-use Rattle.command_line.specs.declared.command.Command.TheVariants.{ExplainPolicy}
+use Rattle.command_line.specs.declared.command.Command.TheVariants.{ExplainPolicy, Serve}
 
 -- ---- by the verb
 
@@ -17,9 +17,13 @@ pub explain_meant : (verb : Text) (rows : List Row) → bytes_eq verb (codes "re
     → option_map (λ name. ExplainPolicy name) (policy_in rows) ≡ meant_by verb rows
 explain_meant verb rows a b = rw (a, b) refl
 
+pub serve_meant : (verb : Text) (rows : List Row) → bytes_eq verb (codes "replay") ≡ false → bytes_eq verb (codes "explain") ≡ false
+    → bytes_eq verb (codes "serve") ≡ true → option_map (λ name. Serve name) (policy_in rows) ≡ meant_by verb rows
+serve_meant verb rows a b d = rw (a, b, d) refl
+
 pub make_meant : (verb : Text) (rows : List Row) → bytes_eq verb (codes "replay") ≡ false → bytes_eq verb (codes "explain") ≡ false
-    → bytes_eq verb (codes "make") ≡ true → made_in rows ≡ meant_by verb rows
-make_meant verb rows a b c = rw (a, b, c) refl
+    → bytes_eq verb (codes "serve") ≡ false → bytes_eq verb (codes "make") ≡ true → made_in rows ≡ meant_by verb rows
+make_meant verb rows a b d c = rw (a, b, d, c) refl
 
 -- ---- a text that was matched
 

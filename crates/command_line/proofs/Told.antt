@@ -13,10 +13,10 @@ use Rattle.cv_io.specs.Text.{IsAsciiText}
 use Rattle.clap.specs.Words.{Row, Text, subcommand_of, takes}
 use Rattle.command_line.specs.Forms.{command_of, count_in, form_of, is_plain, is_printable, making, seed_in}
 use Rattle.command_line.specs.declared.command.Command.{Command}
-use Rattle.command_line.specs.declared.command.Command.TheVariants.{Replay, ReplayPolicy, ExplainPolicy}
+use Rattle.command_line.specs.declared.command.Command.TheVariants.{Replay, ReplayPolicy, ExplainPolicy, Serve}
 use Rattle.command_line.specs.Meaning.{NamesAscii, meant_by}
 use Rattle.command_line.specs.Parser.{forms}
-use Rattle.command_line.proofs.Walks.{given_alone, given_explain, given_make, given_replay, taken_alone, taken_explain, taken_make, taken_replay}
+use Rattle.command_line.proofs.Walks.{given_alone, given_explain, given_make, given_replay, given_serve, taken_alone, taken_explain, taken_make, taken_replay, taken_serve}
 
 both : (a b : Bool) → (a && b) ≡ true → (a ≡ true) × (b ≡ true)
 both true b e = (refl, e)
@@ -72,6 +72,10 @@ told_explain : (name : Text) → IsPlain name → IsTold (codes "explain" ∷ na
 told_explain name p = subst (λ name. IsTold (codes "explain" ∷ name ∷ [])) (sym p.2)
     (by_rows (codes "explain" ∷ (p.0 ∷ p.1) ∷ []) _ (taken_explain p.0 p.1 p.3) (given_explain p.0 p.1 p.3) (refl, subst IsAsciiText p.2 p.4))
 
+told_serve : (name : Text) → IsPlain name → IsTold (codes "serve" ∷ name ∷ [])
+told_serve name p = subst (λ name. IsTold (codes "serve" ∷ name ∷ [])) (sym p.2)
+    (by_rows (codes "serve" ∷ (p.0 ∷ p.1) ∷ []) _ (taken_serve p.0 p.1 p.3) (given_serve p.0 p.1 p.3) (refl, subst IsAsciiText p.2 p.4))
+
 told_make : (seed count : Text) → IsPlain seed → IsPlain count → IsTold (codes "make" ∷ seed ∷ count ∷ [])
 told_make seed count p q =
     subst (λ seed. IsTold (codes "make" ∷ seed ∷ count ∷ [])) (sym p.2)
@@ -84,11 +88,12 @@ of_one : (verb : Text) (b : Bool) → bytes_eq verb (codes "replay") ≡ b → i
 of_one verb true e some = subst (λ v. IsTold (v ∷ [])) (sym (named verb _ e)) told_alone
 of_one verb false e some = absurd cc
 
-of_two : (verb name : Text) → IsPlain name → (a b : Bool) → bytes_eq verb (codes "replay") ≡ a → bytes_eq verb (codes "explain") ≡ b
-    → is_some (cond a (Some (ReplayPolicy name)) (cond b (Some (ExplainPolicy name)) None)) ≡ true → IsTold (verb ∷ name ∷ [])
-of_two verb name p true b e f some = subst (λ v. IsTold (v ∷ name ∷ [])) (sym (named verb _ e)) (told_replay name p)
-of_two verb name p false true e f some = subst (λ v. IsTold (v ∷ name ∷ [])) (sym (named verb _ f)) (told_explain name p)
-of_two verb name p false false e f some = absurd cc
+of_two : (verb name : Text) → IsPlain name → (a b d : Bool) → bytes_eq verb (codes "replay") ≡ a → bytes_eq verb (codes "explain") ≡ b → bytes_eq verb (codes "serve") ≡ d
+    → is_some (cond a (Some (ReplayPolicy name)) (cond b (Some (ExplainPolicy name)) (cond d (Some (Serve name)) None))) ≡ true → IsTold (verb ∷ name ∷ [])
+of_two verb name p true b d e f g some = subst (λ v. IsTold (v ∷ name ∷ [])) (sym (named verb _ e)) (told_replay name p)
+of_two verb name p false true d e f g some = subst (λ v. IsTold (v ∷ name ∷ [])) (sym (named verb _ f)) (told_explain name p)
+of_two verb name p false false true e f g some = subst (λ v. IsTold (v ∷ name ∷ [])) (sym (named verb _ g)) (told_serve name p)
+of_two verb name p false false false e f g some = absurd cc
 
 of_three : (verb seed count : Text) → IsPlain seed → IsPlain count → (made : Option Command) (b : Bool) → bytes_eq verb (codes "make") ≡ b
     → is_some (cond b made None) ≡ true → IsTold (verb ∷ seed ∷ count ∷ [])
@@ -100,7 +105,7 @@ told [] plain some = absurd cc
 told (verb ∷ []) plain some = of_one verb (bytes_eq verb (codes "replay")) refl some
 told (verb ∷ name ∷ []) plain some =
     let rest = (both (is_plain verb) _ plain).1 in
-    of_two verb name (plain_word name (both (is_plain name) _ rest).0) _ _ refl refl some
+    of_two verb name (plain_word name (both (is_plain name) _ rest).0) _ _ _ refl refl refl some
 told (verb ∷ seed ∷ count ∷ []) plain some =
     let rest = both (is_plain seed) _ (both (is_plain verb) _ plain).1 in
     of_three verb seed count (plain_word seed rest.0) (plain_word count (both (is_plain count) _ rest.1).0)

@@ -9,7 +9,7 @@ use Rattle.clap.specs.Takes.{default_passes, is_valid, level_passes, settle_pass
 use Rattle.clap.specs.Simple.{built_leaf, inherited, marked_built, on_top, with_leaf_noted}
 use Rattle.clap.specs.Lexer.{long_of, short_of}
 use Rattle.clap.proofs.OnLiterals.{clap_on_literals}
-use Rattle.command_line.specs.Parser.{explain_form, forms, make_form, replay_form}
+use Rattle.command_line.specs.Parser.{explain_form, forms, make_form, replay_form, serve_form}
 
 -- ---- one word
 
@@ -95,6 +95,10 @@ pub taken_explain : (x : ℕ) (xs : Text) → (x == 45) ≡ false → takes form
 unfolding clap_on_literals
 taken_explain x xs n = ap (λ b. b && true) (one_passes (leaf explain_form) x xs n)
 
+pub taken_serve : (x : ℕ) (xs : Text) → (x == 45) ≡ false → takes forms (codes "serve" ∷ (x ∷ xs) ∷ []) ≡ true
+unfolding clap_on_literals
+taken_serve x xs n = ap (λ b. b && true) (one_passes (leaf serve_form) x xs n)
+
 pub taken_make : (x y : ℕ) (xs ys : Text) → (x == 45) ≡ false → (y == 45) ≡ false → takes forms (codes "make" ∷ (x ∷ xs) ∷ (y ∷ ys) ∷ []) ≡ true
 unfolding clap_on_literals
 taken_make x y xs ys n m =
@@ -121,6 +125,11 @@ pub given_explain : (x : ℕ) (xs : Text) → (x == 45) ≡ false
     → subcommand_of forms (codes "explain" ∷ (x ∷ xs) ∷ []) ≡ Some (codes "explain", text_rows explain_form (x ∷ xs))
 unfolding clap_on_literals
 given_explain x xs n = ap (λ rows. Some (codes "explain", rows)) (one_row (leaf explain_form).rules x xs n)
+
+pub given_serve : (x : ℕ) (xs : Text) → (x == 45) ≡ false
+    → subcommand_of forms (codes "serve" ∷ (x ∷ xs) ∷ []) ≡ Some (codes "serve", text_rows serve_form (x ∷ xs))
+unfolding clap_on_literals
+given_serve x xs n = ap (λ rows. Some (codes "serve", rows)) (one_row (leaf serve_form).rules x xs n)
 
 pub given_make : (x y : ℕ) (xs ys : Text) → (x == 45) ≡ false → (y == 45) ≡ false
     → subcommand_of forms (codes "make" ∷ (x ∷ xs) ∷ (y ∷ ys) ∷ []) ≡ Some (codes "make", texts_rows make_form (x ∷ xs) (y ∷ ys))

@@ -1,5 +1,5 @@
 -- The forms of the command line.
-use Rattle.std.specs.Prelude.{ℕ, ◌==◌, ◌&&◌, Bool, not, List, [], ◌∷◌, map, Option, Some, None, codes}
+use Rattle.std.specs.Prelude.{ℕ, ◌==◌, ◌&&◌, ◌||◌, Bool, not, List, [], ◌∷◌, map, Option, Some, None, codes}
 use Rattle.std.specs.Prelude.{length, nat_le, slice_index, if◌then◌else◌}
 use Rattle.std.specs.List.{list_all}
 use Rattle.std.specs.Str.{bytes_eq}
@@ -8,7 +8,7 @@ use Rattle.std.specs.declared.alloc.Global.{Global}
 use Rattle.std.specs.declared.string.String.{String}
 use Rattle.script_text.specs.Numbers.{number_in}
 use Rattle.command_line.specs.declared.command.Command.{Command}
-use Rattle.command_line.specs.declared.command.Command.TheVariants.{Replay, ReplayPolicy, ExplainPolicy, Make}
+use Rattle.command_line.specs.declared.command.Command.TheVariants.{Replay, ReplayPolicy, ExplainPolicy, Serve, Make}
 
 -- printable ASCII
 abbrev pub is_printable : ℕ → Bool
@@ -22,11 +22,16 @@ is_plain word = not (length word == 0) && (not (slice_index word 0 == 45) && lis
 abbrev pub alone : List ℕ → Option Command
 alone verb = if bytes_eq verb (codes "replay") then Some Replay else None
 
--- `replay POLICY` and `explain POLICY`
+-- a verb that goes before a policy
+abbrev pub is_of_policy : List ℕ → Bool
+is_of_policy verb = bytes_eq verb (codes "replay") || (bytes_eq verb (codes "explain") || bytes_eq verb (codes "serve"))
+
+-- `replay POLICY`, `explain POLICY` and `serve POLICY`
 abbrev pub of_policy : List ℕ → List ℕ → Option Command
 of_policy verb name =
     if bytes_eq verb (codes "replay") then Some (ReplayPolicy name)
-    else (if bytes_eq verb (codes "explain") then Some (ExplainPolicy name) else None)
+    else (if bytes_eq verb (codes "explain") then Some (ExplainPolicy name)
+    else (if bytes_eq verb (codes "serve") then Some (Serve name) else None))
 
 -- a seed is at most 2^64 - 1
 abbrev pub seed_in : List ℕ → Option ℕ

@@ -5,7 +5,7 @@ use Rattle.cv_io.specs.Text.{IsAsciiText}
 use Rattle.clap.specs.Words.{Row, Text, first_of}
 use Rattle.command_line.specs.Forms.{count_in, making, seed_in}
 use Rattle.command_line.specs.declared.command.Command.{Command}
-use Rattle.command_line.specs.declared.command.Command.TheVariants.{Replay, ReplayPolicy, ExplainPolicy}
+use Rattle.command_line.specs.declared.command.Command.TheVariants.{Replay, ReplayPolicy, ExplainPolicy, Serve}
 
 abbrev pub replaying : Option Text → Command
 replaying (Some name) = ReplayPolicy name
@@ -23,7 +23,8 @@ abbrev pub meant_by : Text → List Row → Option Command
 meant_by verb rows =
     if bytes_eq verb (codes "replay") then Some (replaying (policy_in rows))
     else (if bytes_eq verb (codes "explain") then option_map (λ name. ExplainPolicy name) (policy_in rows)
-    else (if bytes_eq verb (codes "make") then made_in rows else None))
+    else (if bytes_eq verb (codes "serve") then option_map (λ name. Serve name) (policy_in rows)
+    else (if bytes_eq verb (codes "make") then made_in rows else None)))
 
 -- a policy's name is ASCII
 abbrev pub NamesAscii : List Row → Type 0

@@ -16,6 +16,9 @@ replay_form = with_rule (new_app (codes "replay")) (optional_text (codes "POLICY
 abbrev pub explain_form : App
 explain_form = with_rule (new_app (codes "explain")) (wanted_text (codes "POLICY"))
 
+abbrev pub serve_form : App
+serve_form = with_rule (new_app (codes "serve")) (wanted_text (codes "POLICY"))
+
 abbrev pub make_form : App
 make_form = with_rule (with_rule (new_app (codes "make")) (wanted_text (codes "SEED"))) (wanted_text (codes "N"))
 
@@ -24,4 +27,6 @@ abbrev pub no_form : App
 no_form = on_top (λ s. record s { no_binary_name = true }) (new_app (codes "covisor"))
 
 abbrev pub forms : App
-forms = with_subcommand (with_subcommand (with_subcommand no_form replay_form.top) explain_form.top) make_form.top
+forms =
+    with_subcommand (with_subcommand (with_subcommand (with_subcommand no_form replay_form.top) explain_form.top)
+    serve_form.top) make_form.top

@@ -10,6 +10,8 @@ pub enum Command {
     ReplayPolicy { name: Text },
     /// `explain POLICY`
     ExplainPolicy { name: Text },
+    /// `serve POLICY`
+    Serve { name: Text },
     /// `make SEED N`
     Make { seed: u64, count: u32 },
 }

@@ -3,7 +3,7 @@ ghost use Rattle.std.specs.Prelude.{◌≡◌, ◌&&◌, is_some, map};
 ghost use Rattle.std.specs.List.{list_all};
 ghost use Rattle.std.specs.String.{string_bytes};
 ghost use Rattle.command_line.specs.Forms.{command_of, form_of, is_plain as is_plain_of, is_printable as is_printable_of};
-ghost use Rattle.command_line.specs.Forms.{count_in, seed_in};
+ghost use Rattle.command_line.specs.Forms.{count_in, is_of_policy, seed_in};
 
 use script_text::decimal_number;
 use script_text::form::is_text;
@@ -31,11 +31,18 @@ fn is_listed(words: &[String]) -> bool
 {
     match words {
         [verb] => is_text(verb.as_bytes(), "replay"),
-        [verb, _] => is_text(verb.as_bytes(), "replay") || is_text(verb.as_bytes(), "explain"),
+        [verb, _] => is_over_policy(verb.as_bytes()),
         [verb, seed, count] => is_text(verb.as_bytes(), "make")
             && is_making(seed.as_bytes(), count.as_bytes()),
         _ => false,
     }
+}
+
+/// Whether a verb is one that goes before a policy.
+fn is_over_policy(verb: &[u8]) -> bool
+    ensures { result ≡ is_of_policy verb.now }
+{
+    is_text(verb, "replay") || is_text(verb, "explain") || is_text(verb, "serve")
 }
 
 /// Whether the words are a seed and a number of messages.

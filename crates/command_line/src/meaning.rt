@@ -5,7 +5,7 @@ ghost use Rattle.clap.specs.Words.{found_of, first_of, rows_of};
 ghost use Rattle.command_line.specs.Meaning.{NamesAscii, meant_by, replaying};
 ghost use Rattle.command_line.specs.Forms.{count_in, making as making_of, seed_in};
 ghost use Rattle.std.specs.Prelude.{option_and_then};
-ghost use Rattle.command_line.specs.declared.command.Command.TheVariants.{ExplainPolicy};
+ghost use Rattle.command_line.specs.declared.command.Command.TheVariants.{ExplainPolicy, Serve};
 
 use crate::command::Command;
 use crate::forms::{read_count, read_seed};
@@ -30,6 +30,9 @@ pub(crate) fn meant(
     } else if is_text(verb, "explain") {
         let name = text(alloc, given.get_str("POLICY"))?;
         Ok(explaining(name))
+    } else if is_text(verb, "serve") {
+        let name = text(alloc, given.get_str("POLICY"))?;
+        Ok(serving(name))
     } else if is_text(verb, "make") {
         Ok(making(given.get_str("SEED"), given.get_str("N")))
     } else {
@@ -53,6 +56,16 @@ fn explaining(name: Option<Text>) -> Option<Command>
 {
     match name {
         Some(name) => Some(Command::ExplainPolicy { name }),
+        None => None,
+    }
+}
+
+/// `serve`, over the policy of a file.
+fn serving(name: Option<Text>) -> Option<Command>
+    ensures { result ≡ option_map (λ name. Serve name) name }
+{
+    match name {
+        Some(name) => Some(Command::Serve { name }),
         None => None,
     }
 }

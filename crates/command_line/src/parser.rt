@@ -3,7 +3,7 @@ ghost use Rattle.std.specs.Prelude.{◌≡◌, IfOk, false, is_some, map, true};
 ghost use Rattle.std.specs.String.{string_bytes};
 ghost use Rattle.clap.specs.Words.{app_of, kind_of, rule_of, subcommand_of, subcommand_rows_of};
 ghost use Rattle.command_line.specs.Forms.{command_of};
-ghost use Rattle.command_line.specs.Parser.{explain_form, forms as forms_of, make_form, replay_form};
+ghost use Rattle.command_line.specs.Parser.{explain_form, forms as forms_of, make_form, replay_form, serve_form};
 ghost use Rattle.command_line.specs.Parser.{optional_text as optional_text_of, wanted_text as wanted_text_of};
 
 use clap::error::ErrorKind;
@@ -38,6 +38,7 @@ fn forms<'a>(alloc: Global) -> Result<Command<'a>, AllocError>
         .no_binary_name(true)
         .subcommand(replay(alloc)?)?
         .subcommand(explain(alloc)?)?
+        .subcommand(serve(alloc)?)?
         .subcommand(make(alloc)?)
 }
 
@@ -53,6 +54,13 @@ fn explain<'a>(alloc: Global) -> Result<Command<'a>, AllocError>
     ensures { IfOk result (λ command. app_of command ≡ explain_form) }
 {
     Command::new(alloc, "explain").arg(wanted_text(alloc, "POLICY"))
+}
+
+/// `serve POLICY`
+fn serve<'a>(alloc: Global) -> Result<Command<'a>, AllocError>
+    ensures { IfOk result (λ command. app_of command ≡ serve_form) }
+{
+    Command::new(alloc, "serve").arg(wanted_text(alloc, "POLICY"))
 }
 
 /// `make SEED N`

@@ -12,13 +12,14 @@ fn shown(alloc: Global, line: &str) -> Result<String, Fail> {
         Some(Command::Replay) => format!(in alloc; "replay")?,
         Some(Command::ReplayPolicy { name }) => format!(in alloc; "replay {name}")?,
         Some(Command::ExplainPolicy { name }) => format!(in alloc; "explain {name}")?,
+        Some(Command::Serve { name }) => format!(in alloc; "serve {name}")?,
         Some(Command::Make { seed, count }) => format!(in alloc; "make {seed} {count}")?,
         None => format!(in alloc; "no form")?,
     };
     Ok(shown)
 }
 
-const LINES: [(&str, &str); 22] = [
+const LINES: [(&str, &str); 27] = [
     ("replay", "replay"),
     ("replay replay", "replay replay"),
     ("replay help", "replay help"),
@@ -31,6 +32,11 @@ const LINES: [(&str, &str); 22] = [
     ("replay \u{e9}", "no form"),
     ("explain", "no form"),
     ("explain a.policy", "explain a.policy"),
+    ("serve", "no form"),
+    ("serve a.policy", "serve a.policy"),
+    ("serve serve", "serve serve"),
+    ("serve a b", "no form"),
+    ("serve -v", "no form"),
     ("make 0 1", "make 0 1"),
     (
         "make 18446744073709551615 2000",

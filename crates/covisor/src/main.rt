@@ -1,15 +1,20 @@
 //! The program `covisor`: a hypervisor for OpenFlow 1.0 networks. The words after its name say what it does; a script
-//! comes on standard input, a report goes to standard output, policies are files.
+//! comes on standard input, a report goes to standard output, policies are files, controllers and switches are reached
+//! over TCP.
 #![tactic(auto)]
 
 ghost use Rattle.std.specs.Prelude.{◌≡◌, ◌<◌};
 
 use covisor_proxy::{MEMORY, run};
-use cv_io::{DiskFiles, Incoming, Outgoing, Steps};
+use cv_io::{
+    Dial, DiskFiles, Incoming, Links, Outgoing, ScopeSpawner, Steps, SystemClock, TcpLinks,
+};
 use std::io::ErrorKind;
 use std::marker::Brand;
 use std::process::ExitCode;
+use std::sync::Wait;
 use std::sync::ledger::{Blank, Ledger};
+use std::thread::Threads;
 use std::{env, io};
 
 /// The words after the program's name. Where one isn't text there are none, which is no form of
@@ -29,27 +34,43 @@ fn given_words(rt: &HostRuntime) -> Option<Vec<String>> {
     Some(words)
 }
 
-/// Runs over the machine's files and standard input and output, with a counter of steps of its own.
-fn run_counted<G: Ledger>(rt: &HostRuntime, blank: Blank) -> u8
+/// Runs over the machine's files, standard input and output, connections and clock, with a counter of steps of its own.
+fn run_counted<R: Wait + Threads + Sync, L: Links, G: Ledger>(
+    host: &HostRuntime,
+    rt: &R,
+    links: &mut L,
+    blank: Blank,
+) -> u8
+where
+    L::Dial: Drop,
+    <L::Dial as Dial>::In: Drop + Send,
+    <L::Dial as Dial>::Out: Drop + Send,
     requires { (blank.name ≡ G.name) × (blank.parts ≡ G.parts) × (0 < blank.parts) }
 {
-    let Some(words) = given_words(rt) else {
+    let Some(words) = given_words(host) else {
         return MEMORY;
     };
-    let mut files = DiskFiles::new(rt);
-    let mut input = Incoming::new(rt.stdin());
-    let mut out = Outgoing::new(io::writer(rt));
+    let mut files = DiskFiles::new(host);
+    let mut input = Incoming::new(host.stdin());
+    let mut out = Outgoing::new(io::writer(host));
+    let mut spawner = ScopeSpawner::new();
+    let mut clock = SystemClock::new(host);
     let mut steps = Steps::<G>::new(blank);
     run(
-        rt.alloc(),
+        rt,
+        host.alloc(),
         words.as_slice(),
         &mut files,
         &mut input,
         &mut out,
+        links,
+        &mut spawner,
+        &mut clock,
         &mut steps,
     )
 }
 
 fn main(rt: HostRuntime) -> ExitCode {
-    ExitCode::from(run_counted::<Brand>(&rt, Blank::new(1)))
+    let mut links = TcpLinks::new(&rt, rt.alloc());
+    ExitCode::from(run_counted::<_, _, Brand>(&rt, &rt, &mut links, Blank::new(1)))
 }

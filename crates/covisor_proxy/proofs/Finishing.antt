@@ -10,13 +10,18 @@ use Rattle.replay_report.specs.Takings.{as_line}
 use Rattle.script_text.specs.declared.form.Form.{Form}
 use Rattle.cv_io.specs.declared.files.FileFault.TheVariants as faults
 use Rattle.cv_io.specs.declared.files.MemFile.{MemFile}
+use Rattle.events.specs.declared.event.Event.{Event}
+use Rattle.events.specs.declared.event.Reply.{Reply}
+use Rattle.hyper_core.specs.Meanings.{StateData}
+use Rattle.policy_lock.specs.declared.machine.Machine.{Ghosts}
 use Rattle.policy_file.specs.Terse.{terse}
 use Rattle.policy_file.specs.declared.fault.PolicyFault.{PolicyFault}
 use Rattle.script_text.specs.declared.form.Form.TheVariants as forms
-use Rattle.covisor_proxy.specs.Asked.{over, over_built_in, over_file, report_for, stated}
+use Rattle.covisor_proxy.specs.Asked.{Scripts, cut_report_for, no_report, over, over_built_in, over_file, report_for, stated}
 use Rattle.covisor_proxy.specs.Chunks.{Gave, IsAtEnd}
-use Rattle.covisor_proxy.specs.Opening.{AnswersTo, Holds}
+use Rattle.covisor_proxy.specs.Opening.{AnswersTo, Holds, Opens}
 use Rattle.covisor_proxy.specs.Runs.{Ended, EndsOver}
+use Rattle.covisor_proxy.specs.Serving.{EndsAs, EndsServing, EndsUnopened, LinksOf, accepted, served_by}
 use Rattle.command_line.specs.declared.command.Command.{Command}
 use Rattle.command_line.specs.declared.command.Command.TheVariants as commands
 use Rattle.covisor_proxy.specs.Following.{Alone, Breaks, Comes, EndsWith, Reaches, StopsWith, Writes}
@@ -101,6 +106,8 @@ ends-done statuses.Policy all cut text old mid new w c r q e = absurd e
 ends-done statuses.Line all cut text old mid new w c r q e = absurd e
 ends-done statuses.Read all cut text old mid new w c r q e = absurd e
 ends-done statuses.Absent all cut text old mid new w c r q e = absurd e
+ends-done statuses.Link all cut text old mid new w c r q e = absurd e
+ends-done statuses.Spawn all cut text old mid new w c r q e = absurd e
 
 tells-come : (all : List ℕ → Report) (text : List ℕ) (code : ℕ) (old mid new : Moment) (w : List ℕ) → (c : Comes all (lone text code) old mid w)
     → mid.writes ≡ old.writes
@@ -136,6 +143,8 @@ ends-stopped statuses.Usage all cut text old mid new w c q e = absurd e
 ends-stopped statuses.Policy all cut text old mid new w c q e = absurd e
 ends-stopped statuses.Read all cut text old mid new w c q e = absurd e
 ends-stopped statuses.Absent all cut text old mid new w c q e = absurd e
+ends-stopped statuses.Link all cut text old mid new w c q e = absurd e
+ends-stopped statuses.Spawn all cut text old mid new w c q e = absurd e
 
 -- ---- a read failed
 
@@ -193,43 +202,42 @@ pub over-policy : (status : Status) (form : Form) (r : Result PolicyOf PolicyFau
 over-policy status form r p old new e h =
     subst (λ (x : Result PolicyOf PolicyFault). Ends status (over report_of form x) (over cut_report_of form x) old new) (sym e) h
 
-pub told-absent : (result : Status) (form : Form) (name : List ℕ) (files : Option (List MemFile)) (fails fails' : ℕ) (old new : Moment) → Holds files name None
-    → Alone statuses.Absent result old.held new.held old.writes new.writes (as_line (codes "fault absent " ++ name))
-    → EndsOver result form name files fails fails' old new
-told-absent result form name files fails fails' old new h a = (
-  Err faults.Absent,
-  h,
-  ends-alone statuses.Absent result (over_file report_of form name (Err faults.Absent)) (over_file cut_report_of form name (Err faults.Absent))
-      (codes "fault absent " ++ name) old new (λ s. s) (λ script. refl) a,
-)
+-- ---- files that state no policy
 
-pub told-unread : (form : Form) (name : List ℕ) (files : Option (List MemFile)) (fails fails' : ℕ) (old new : Moment) → Rose fails fails'
-    → Writes old.held new.held old.writes new.writes (as_line (codes "fault read"))
-    → EndsOver statuses.Read form name files fails fails' old new
-told-unread form name files fails fails' old new h a = (
-  Err faults.Failed,
-  h,
-  inl (settles-alone 5 (over_file report_of form name (Err faults.Failed)) (codes "fault read") old new (λ script. refl) a),
-)
+module _ (all cut : Scripts) (form : Form) (name : List ℕ) (files : Option (List MemFile)) (fails fails' : ℕ) (old new : Moment) where
+  pub told-absent : (result : Status) → Holds files name None
+      → Alone statuses.Absent result old.held new.held old.writes new.writes (as_line (codes "fault absent " ++ name))
+      → EndsUnopened result all cut form name files fails fails' old new
+  told-absent result h a = (
+    Err faults.Absent,
+    h,
+    refl,
+    ends-alone statuses.Absent result (over_file all form name (Err faults.Absent)) (over_file cut form name (Err faults.Absent))
+        (codes "fault absent " ++ name) old new (λ s. s) (λ script. refl) a,
+  )
 
-pub told-refused : (result : Status) (form : Form) (name : List ℕ) (fault : PolicyFault) (files : Option (List MemFile)) (fails fails' : ℕ) (old new : Moment)
-    → (bytes : List ℕ) → Holds files name (Some bytes) → stated bytes ≡ Err fault
-    → Alone statuses.Policy result old.held new.held old.writes new.writes (as_line (codes "fault policy " ++ terse fault))
-    → EndsOver result form name files fails fails' old new
-told-refused result form name fault files fails fails' old new bytes h e a = (
-  Ok bytes,
-  h,
-  ends-alone statuses.Policy result (over_file report_of form name (Ok bytes)) (over_file cut_report_of form name (Ok bytes))
-      (codes "fault policy " ++ terse fault) old new (λ s. s) (λ script. ap (λ (x : Result PolicyOf PolicyFault). over report_of form x script) e) a,
-)
+  pub told-unread : Rose fails fails' → Writes old.held new.held old.writes new.writes (as_line (codes "fault read"))
+      → EndsUnopened statuses.Read all cut form name files fails fails' old new
+  told-unread h a = (
+    Err faults.Failed,
+    h,
+    refl,
+    inl (settles-alone 5 (over_file all form name (Err faults.Failed)) (codes "fault read") old new (λ script. refl) a),
+  )
 
-pub told-wanted : (form : Form) (name : List ℕ) (files : Option (List MemFile)) (fails fails' : ℕ) (old new : Moment) → new.held ≡ old.held
-    → EndsOver statuses.Memory form name files fails fails' old new
-told-wanted form name files fails fails' old new e = (
-  Err faults.Memory,
-  tt,
-  begins-none (over_file report_of form name (Err faults.Memory)) old new e,
-)
+  pub told-refused : (result : Status) (fault : PolicyFault) (bytes : List ℕ) → Holds files name (Some bytes) → stated bytes ≡ Err fault
+      → Alone statuses.Policy result old.held new.held old.writes new.writes (as_line (codes "fault policy " ++ terse fault))
+      → EndsUnopened result all cut form name files fails fails' old new
+  told-refused result fault bytes h e a = (
+    Ok bytes,
+    h,
+    ap accepted e,
+    ends-alone statuses.Policy result (over_file all form name (Ok bytes)) (over_file cut form name (Ok bytes))
+        (codes "fault policy " ++ terse fault) old new (λ s. s) (λ script. ap (λ (x : Result PolicyOf PolicyFault). over all form x script) e) a,
+  )
+
+  pub told-wanted : new.held ≡ old.held → EndsUnopened statuses.Memory all cut form name files fails fails' old new
+  told-wanted e = (Err faults.Memory, tt, refl, begins-none (over_file all form name (Err faults.Memory)) old new e)
 
 -- ---- what isn't of a file
 
@@ -251,14 +259,61 @@ answers-wanted None files fails fails' = tt
 answers-wanted (Some commands.Replay) files fails fails' = tt
 answers-wanted (Some (commands.ReplayPolicy name)) files fails fails' = tt
 answers-wanted (Some (commands.ExplainPolicy name)) files fails fails' = tt
+answers-wanted (Some (commands.Serve name)) files fails fails' = tt
 answers-wanted (Some (commands.Make seed count)) files fails fails' = tt
 
-pub ended-wanted : (command : Option Command) (files : Option (List MemFile)) (fails fails' : ℕ) (old new : Moment) → new.held ≡ old.held
-    → Ended statuses.Memory command files fails fails' old new
-ended-wanted command files fails fails' old new e =
-    (Err faults.Memory, answers-wanted command files fails fails', begins-none (report_for command (Err faults.Memory)) old new e)
+-- ---- runs
 
-pub ended-usage : (files : Option (List MemFile)) (fails fails' : ℕ) (old new : Moment)
-    → Writes old.held new.held old.writes new.writes (as_line (codes "fault usage")) → Ended statuses.Usage None files fails fails' old new
-ended-usage files fails fails' old new a =
-    (Err faults.Memory, tt, settles-alone 2 (report_for None (Err faults.Memory)) (codes "fault usage") old new (λ script. refl) a)
+module _ {M : Type 0} (g : Ghosts M Event Reply StateData) (links : LinksOf) where
+  -- no policy is served
+  ends-unserved : (served : Option PolicyOf) (status : Status) (all cut : List ℕ → Report) (old new : Moment) → served ≡ None
+      → Ends status all cut old new → EndsAs g links served status all cut old new
+  ends-unserved served status all cut old new e ends =
+      subst (λ (x : Option PolicyOf). EndsAs g links x status all cut old new) (sym e) ends
+
+  unread-unserved : (command : Option Command) → served_by command (Err faults.Memory) ≡ None
+  unread-unserved None = refl
+  unread-unserved (Some commands.Replay) = refl
+  unread-unserved (Some (commands.ReplayPolicy name)) = refl
+  unread-unserved (Some (commands.ExplainPolicy name)) = refl
+  unread-unserved (Some (commands.Serve name)) = refl
+  unread-unserved (Some (commands.Make seed count)) = refl
+
+  pub ended-wanted : (command : Option Command) (files : Option (List MemFile)) (fails fails' : ℕ) (old new : Moment) → new.held ≡ old.held
+      → Ended g links statuses.Memory command files fails fails' old new
+  ended-wanted command files fails fails' old new e =
+      let all = report_for command (Err faults.Memory) in (
+        Err faults.Memory,
+        answers-wanted command files fails fails',
+        ends-unserved (served_by command (Err faults.Memory)) statuses.Memory all (cut_report_for command (Err faults.Memory)) old new
+            (unread-unserved command) (begins-none all old new e),
+      )
+
+  pub ended-usage : (files : Option (List MemFile)) (fails fails' : ℕ) (old new : Moment)
+      → Writes old.held new.held old.writes new.writes (as_line (codes "fault usage")) → Ended g links statuses.Usage None files fails fails' old new
+  ended-usage files fails fails' old new a =
+      (Err faults.Memory, tt, settles-alone 2 (report_for None (Err faults.Memory)) (codes "fault usage") old new (λ script. refl) a)
+
+  -- a policy is served, or the file states none
+  module _ (name : List ℕ) (files : Option (List MemFile)) (fails fails' : ℕ) (old new : Moment) where
+    pub ended-served : (status : Status) (p : PolicyOf) → Opens files fails fails' name (Ok p) → EndsServing g links status p old new
+        → Ended g links status (Some (commands.Serve name)) files fails fails' old new
+    ended-served status p o ends =
+        let command = Some (commands.Serve name) in
+        let all = report_for command (Ok o.0) in
+        let cut = cut_report_for command (Ok o.0) in (
+          Ok o.0,
+          o.1,
+          subst (λ (x : Result PolicyOf PolicyFault). EndsAs g links (accepted x) status all cut old new) (sym o.2) ends,
+        )
+
+    pub ended-unserved : (status : Status) → EndsUnopened status no_report no_report forms.Replay name files fails fails' old new
+        → Ended g links status (Some (commands.Serve name)) files fails fails' old new
+    ended-unserved status u =
+        let command = Some (commands.Serve name) in
+        (u.0, u.1, ends-unserved (served_by command u.0) status (report_for command u.0) (cut_report_for command u.0) old new u.2 u.3)
+
+-- a replay over the policy of a file
+pub replayed-unopened : (status : Status) (form : Form) (name : List ℕ) (files : Option (List MemFile)) (fails fails' : ℕ) (old new : Moment)
+    → EndsUnopened status report_of cut_report_of form name files fails fails' old new → EndsOver status form name files fails fails' old new
+replayed-unopened status form name files fails fails' old new u = (u.0, u.1, u.3)

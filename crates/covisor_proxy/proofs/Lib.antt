@@ -6,3 +6,4 @@ pub mod Reaching
 pub mod Finishing
 pub mod Statuses
 pub mod Running
+pub mod Linking

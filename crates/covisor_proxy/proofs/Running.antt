@@ -1,186 +1,131 @@
 -- What a run is, by its status.
-use Rattle.std.proofs.Common.{◌≡◌, ◌≢◌, ◌⊎◌, ◌↔◌, inl, inr, ℕ, Bool, true, false, List, [], Option, Some, None, Result, Ok, Err}
+use Rattle.std.proofs.Common.{◌≡◌, ◌≢◌, ◌⊎◌, inl, inr, ℕ, List, [], Option, Some, None, Result, Ok, Err}
 use Rattle.std.proofs.Common.{sym, ap, ◌∙◌, subst, refl, arith}
 use Rattle.cv_io.specs.Outside.{Rose}
 use Rattle.cv_io.specs.declared.files.FileFault.{FileFault}
 use Rattle.cv_io.specs.declared.files.FileFault.TheVariants as faults
 use Rattle.cv_io.specs.declared.files.MemFile.{MemFile}
+use Rattle.events.specs.declared.event.Event.{Event}
+use Rattle.events.specs.declared.event.Reply.{Reply}
+use Rattle.hyper_core.specs.Meanings.{StateData}
 use Rattle.policy_file.specs.Policies.{PolicyOf}
 use Rattle.policy_file.specs.declared.fault.PolicyFault.{PolicyFault}
+use Rattle.policy_lock.specs.declared.machine.Machine.{Ghosts}
 use Rattle.replay_report.specs.Reports.{Report, report_of}
 use Rattle.script_text.specs.declared.form.Form.{Form}
 use Rattle.script_text.specs.declared.form.Form.TheVariants as forms
-use Rattle.covisor_proxy.specs.Asked.{cut_report_for, over, over_built_in, over_file, report_for, stated}
+use Rattle.covisor_proxy.specs.Asked.{Scripts, cut_report_for, no_report, over, over_built_in, over_file, report_for, stated}
 use Rattle.covisor_proxy.specs.BuiltIn.{built_in_read}
-use Rattle.covisor_proxy.specs.Chunks.{IsAtEnd}
-use Rattle.covisor_proxy.specs.Opening.{Answers, AnswersTo, Holds}
-use Rattle.covisor_proxy.specs.Outcomes.{BreaksOff, Ends, IsScript, Moment, Settles, code_of}
-use Rattle.covisor_proxy.specs.Runs.{IsAbsent, IsComplete, IsQuiet, IsRefused, Runs, name_in}
+use Rattle.covisor_proxy.specs.Opening.{Answers, AnswersTo}
+use Rattle.covisor_proxy.specs.Outcomes.{BreaksOff, IsScript, Moment, Settles, code_of}
+use Rattle.covisor_proxy.specs.Runs.{Calls, IsAbsent, IsComplete, IsQuiet, IsRefused, name_in}
+use Rattle.covisor_proxy.specs.Serving.{EndsAs, EndsFor, LinksOf, NeverFail, served_by}
 use Rattle.covisor_proxy.specs.declared.status.Status.{Status}
 use Rattle.covisor_proxy.specs.declared.status.Status.TheVariants as statuses
 use Rattle.command_line.specs.declared.command.Command.{Command}
 use Rattle.command_line.specs.declared.command.Command.TheVariants as commands
-use Rattle.covisor_proxy.proofs.Statuses.{IsEither, either_report}
-
--- a status is known by its code
-pub done-by : (s : Status) → 0 ≡ code_of s → s ≡ statuses.Done
-done-by statuses.Done e = refl
-done-by statuses.Usage e = absurd (omega arith)
-done-by statuses.Policy e = absurd (omega arith)
-done-by statuses.Line e = absurd (omega arith)
-done-by statuses.Read e = absurd (omega arith)
-done-by statuses.Write e = absurd (omega arith)
-done-by statuses.Absent e = absurd (omega arith)
-done-by statuses.Memory e = absurd (omega arith)
-
-pub usage-by : (s : Status) → 2 ≡ code_of s → s ≡ statuses.Usage
-usage-by statuses.Usage e = refl
-usage-by statuses.Done e = absurd (omega arith)
-usage-by statuses.Policy e = absurd (omega arith)
-usage-by statuses.Line e = absurd (omega arith)
-usage-by statuses.Read e = absurd (omega arith)
-usage-by statuses.Write e = absurd (omega arith)
-usage-by statuses.Absent e = absurd (omega arith)
-usage-by statuses.Memory e = absurd (omega arith)
+use Rattle.covisor_proxy.proofs.Statuses.{IsEither, either_none, either_report, known_by}
 
 -- ---- why a report has a status
 
--- a script's report has status 0 or 4
-no_other : (form : Form) (p : PolicyOf) (script : List ℕ) (n : ℕ) → (n ≡ 0 → ⊥) → (n ≡ 4 → ⊥) → (report_of form p script).status ≡ n → ⊥
-no_other form p script n a b e = elim (either_report form p script) [ inl h ↦ a (sym e ∙ h) | inr h ↦ b (sym e ∙ h) ]
+-- what a script gives over a policy has status 0 or 4
+abbrev AreEither : Scripts → Type 0
+AreEither of = (form : Form) (p : PolicyOf) (script : List ℕ) → IsEither (of form p script)
 
--- where a policy is refused, its fault is known
-refused_over : (form : Form) (r : Result PolicyOf PolicyFault) (script : List ℕ) → (over report_of form r script).status ≡ 3 → (fault : PolicyFault) × (r ≡ Err fault)
-refused_over form (Ok p) script e = absurd (no_other form p script 3 (λ h. omega (arith, h)) (λ h. omega (arith, h)) e)
-refused_over form (Err fault) script e = (fault, refl)
+no_other : (r : Report) → IsEither r → (n : ℕ) → (n ≡ 0 → ⊥) → (n ≡ 4 → ⊥) → r.status ≡ n → ⊥
+no_other r (inl h) n a b e = a (sym e ∙ h)
+no_other r (inr h) n a b e = b (sym e ∙ h)
 
-refused_file : (command : Option Command) (files : Option (List MemFile)) (form : Form) (name : List ℕ) (fails fails' : ℕ) (file : Result (List ℕ) FileFault) (script : List ℕ)
-    → name_in command ≡ Some name → Answers files fails fails' name file → (over_file report_of form name file script).status ≡ 3 → IsRefused command files
-refused_file command files form name fails fails' (Ok bytes) script n a e =
-    let f = refused_over form (stated bytes) script e in
-    record { name = name; bytes = bytes; fault = f.0; named = n; held = a; refused = f.1 }
-refused_file command files form name fails fails' (Err faults.Absent) script n a e = absurd (omega arith)
-refused_file command files form name fails fails' (Err faults.Failed) script n a e = absurd (omega arith)
-refused_file command files form name fails fails' (Err faults.Memory) script n a e = absurd (omega arith)
+module _ (of : Scripts) (either : AreEither of) where
+  -- where a policy is refused, its fault is known
+  refused_over : (form : Form) (r : Result PolicyOf PolicyFault) (script : List ℕ) → (over of form r script).status ≡ 3 → (fault : PolicyFault) × (r ≡ Err fault)
+  refused_over form (Ok p) script e =
+      absurd (no_other (of form p script) (either form p script) 3 (λ h. omega (arith, h)) (λ h. omega (arith, h)) e)
+  refused_over form (Err fault) script e = (fault, refl)
 
-never_built_in : (r : Result PolicyOf PolicyFault) (script : List ℕ) (n : ℕ) → (n ≡ 0 → ⊥) → (n ≡ 4 → ⊥) → (n ≡ 10 → ⊥) → (over_built_in report_of r script).status ≡ n → ⊥
-never_built_in (Ok p) script n a b c e = no_other forms.Replay p script n a b e
+  over_other : (form : Form) (r : Result PolicyOf PolicyFault) (script : List ℕ) (n : ℕ) → (n ≡ 0 → ⊥) → (n ≡ 3 → ⊥) → (n ≡ 4 → ⊥)
+      → (over of form r script).status ≡ n → ⊥
+  over_other form (Ok p) script n a b c e = no_other (of form p script) (either form p script) n a c e
+  over_other form (Err fault) script n a b c e = b (sym e)
+
+  module _ (command : Option Command) (files : Option (List MemFile)) (form : Form) (name : List ℕ) (fails fails' : ℕ) where
+    refused_file : (file : Result (List ℕ) FileFault) (script : List ℕ) → name_in command ≡ Some name
+        → Answers files fails fails' name file → (over_file of form name file script).status ≡ 3 → IsRefused command files
+    refused_file (Ok bytes) script n a e =
+        let f = refused_over form (stated bytes) script e in
+        record { name = name; bytes = bytes; fault = f.0; named = n; held = a; refused = f.1 }
+    refused_file (Err faults.Absent) script n a e = absurd (omega arith)
+    refused_file (Err faults.Failed) script n a e = absurd (omega arith)
+    refused_file (Err faults.Memory) script n a e = absurd (omega arith)
+
+    absent_file : (file : Result (List ℕ) FileFault) (script : List ℕ) → name_in command ≡ Some name
+        → Answers files fails fails' name file → (over_file of form name file script).status ≡ 7 → IsAbsent command files
+    absent_file (Ok bytes) script n a e =
+        absurd (over_other form (stated bytes) script 7 (λ h. omega (arith, h)) (λ h. omega (arith, h)) (λ h. omega (arith, h)) e)
+    absent_file (Err faults.Absent) script n a e = record { name = name; named = n; absent = a }
+    absent_file (Err faults.Failed) script n a e = absurd (omega arith)
+    absent_file (Err faults.Memory) script n a e = absurd (omega arith)
+
+    unread_file : (file : Result (List ℕ) FileFault) (script : List ℕ)
+        → Answers files fails fails' name file → (over_file of form name file script).status ≡ 5 → Rose fails fails'
+    unread_file (Ok bytes) script a e =
+        absurd (over_other form (stated bytes) script 5 (λ h. omega (arith, h)) (λ h. omega (arith, h)) (λ h. omega (arith, h)) e)
+    unread_file (Err faults.Absent) script a e = absurd (omega arith)
+    unread_file (Err faults.Failed) script a e = a
+    unread_file (Err faults.Memory) script a e = absurd (omega arith)
+
+never_built_in : (r : Result PolicyOf PolicyFault) (script : List ℕ) (n : ℕ) → (n ≡ 0 → ⊥) → (n ≡ 4 → ⊥) → (n ≡ 10 → ⊥)
+    → (over_built_in report_of r script).status ≡ n → ⊥
+never_built_in (Ok p) script n a b c e = no_other (report_of forms.Replay p script) (either_report forms.Replay p script) n a b e
 never_built_in (Err fault) script n a b c e = c (sym e)
 
-pub refused-for : (command : Option Command) (files : Option (List MemFile)) (fails fails' : ℕ) (file : Result (List ℕ) FileFault) (script : List ℕ)
-    → AnswersTo command files fails fails' file → (report_for command file script).status ≡ 3 → IsRefused command files
-refused-for None files fails fails' file script a e = absurd (omega arith)
-refused-for (Some commands.Replay) files fails fails' file script a e =
-    absurd (never_built_in built_in_read script 3 (λ h. omega (arith, h)) (λ h. omega (arith, h)) (λ h. omega (arith, h)) e)
-refused-for (Some (commands.ReplayPolicy name)) files fails fails' file script a e =
-    refused_file (Some (commands.ReplayPolicy name)) files forms.Replay name fails fails' file script refl a e
-refused-for (Some (commands.ExplainPolicy name)) files fails fails' file script a e =
-    refused_file (Some (commands.ExplainPolicy name)) files forms.Explain name fails fails' file script refl a e
-refused-for (Some (commands.Make seed count)) files fails fails' file script a e = absurd (omega arith)
+module _ (files : Option (List MemFile)) (fails fails' : ℕ) where
+  refused_for : (command : Option Command) (file : Result (List ℕ) FileFault) (script : List ℕ)
+      → AnswersTo command files fails fails' file → (report_for command file script).status ≡ 3 → IsRefused command files
+  refused_for None file script a e = absurd (omega arith)
+  refused_for (Some commands.Replay) file script a e =
+      absurd (never_built_in built_in_read script 3 (λ h. omega (arith, h)) (λ h. omega (arith, h)) (λ h. omega (arith, h)) e)
+  refused_for (Some (commands.ReplayPolicy name)) file script a e =
+      refused_file report_of either_report (Some (commands.ReplayPolicy name)) files forms.Replay name fails fails' file script refl a e
+  refused_for (Some (commands.ExplainPolicy name)) file script a e =
+      refused_file report_of either_report (Some (commands.ExplainPolicy name)) files forms.Explain name fails fails' file script refl a e
+  refused_for (Some (commands.Serve name)) file script a e =
+      refused_file no_report either_none (Some (commands.Serve name)) files forms.Replay name fails fails' file script refl a e
+  refused_for (Some (commands.Make seed count)) file script a e = absurd (omega arith)
 
-over_other : (form : Form) (r : Result PolicyOf PolicyFault) (script : List ℕ) (n : ℕ) → (n ≡ 0 → ⊥) → (n ≡ 3 → ⊥) → (n ≡ 4 → ⊥) → (over report_of form r script).status ≡ n → ⊥
-over_other form (Ok p) script n a b c e = no_other form p script n a c e
-over_other form (Err fault) script n a b c e = b (sym e)
+  absent_for : (command : Option Command) (file : Result (List ℕ) FileFault) (script : List ℕ)
+      → AnswersTo command files fails fails' file → (report_for command file script).status ≡ 7 → IsAbsent command files
+  absent_for None file script a e = absurd (omega arith)
+  absent_for (Some commands.Replay) file script a e =
+      absurd (never_built_in built_in_read script 7 (λ h. omega (arith, h)) (λ h. omega (arith, h)) (λ h. omega (arith, h)) e)
+  absent_for (Some (commands.ReplayPolicy name)) file script a e =
+      absent_file report_of either_report (Some (commands.ReplayPolicy name)) files forms.Replay name fails fails' file script refl a e
+  absent_for (Some (commands.ExplainPolicy name)) file script a e =
+      absent_file report_of either_report (Some (commands.ExplainPolicy name)) files forms.Explain name fails fails' file script refl a e
+  absent_for (Some (commands.Serve name)) file script a e =
+      absent_file no_report either_none (Some (commands.Serve name)) files forms.Replay name fails fails' file script refl a e
+  absent_for (Some (commands.Make seed count)) file script a e = absurd (omega arith)
 
-absent_file : (command : Option Command) (files : Option (List MemFile)) (form : Form) (name : List ℕ) (fails fails' : ℕ) (file : Result (List ℕ) FileFault) (script : List ℕ)
-    → name_in command ≡ Some name → Answers files fails fails' name file → (over_file report_of form name file script).status ≡ 7 → IsAbsent command files
-absent_file command files form name fails fails' (Ok bytes) script n a e =
-    absurd (over_other form (stated bytes) script 7 (λ h. omega (arith, h)) (λ h. omega (arith, h)) (λ h. omega (arith, h)) e)
-absent_file command files form name fails fails' (Err faults.Absent) script n a e = record { name = name; named = n; absent = a }
-absent_file command files form name fails fails' (Err faults.Failed) script n a e = absurd (omega arith)
-absent_file command files form name fails fails' (Err faults.Memory) script n a e = absurd (omega arith)
+  unread_for : (command : Option Command) (file : Result (List ℕ) FileFault) (script : List ℕ)
+      → AnswersTo command files fails fails' file → (report_for command file script).status ≡ 5 → Rose fails fails'
+  unread_for None file script a e = absurd (omega arith)
+  unread_for (Some commands.Replay) file script a e =
+      absurd (never_built_in built_in_read script 5 (λ h. omega (arith, h)) (λ h. omega (arith, h)) (λ h. omega (arith, h)) e)
+  unread_for (Some (commands.ReplayPolicy name)) file script a e =
+      unread_file report_of either_report (Some (commands.ReplayPolicy name)) files forms.Replay name fails fails' file script a e
+  unread_for (Some (commands.ExplainPolicy name)) file script a e =
+      unread_file report_of either_report (Some (commands.ExplainPolicy name)) files forms.Explain name fails fails' file script a e
+  unread_for (Some (commands.Serve name)) file script a e =
+      unread_file no_report either_none (Some (commands.Serve name)) files forms.Replay name fails fails' file script a e
+  unread_for (Some (commands.Make seed count)) file script a e = absurd (omega arith)
 
-pub absent-for : (command : Option Command) (files : Option (List MemFile)) (fails fails' : ℕ) (file : Result (List ℕ) FileFault) (script : List ℕ)
-    → AnswersTo command files fails fails' file → (report_for command file script).status ≡ 7 → IsAbsent command files
-absent-for None files fails fails' file script a e = absurd (omega arith)
-absent-for (Some commands.Replay) files fails fails' file script a e =
-    absurd (never_built_in built_in_read script 7 (λ h. omega (arith, h)) (λ h. omega (arith, h)) (λ h. omega (arith, h)) e)
-absent-for (Some (commands.ReplayPolicy name)) files fails fails' file script a e =
-    absent_file (Some (commands.ReplayPolicy name)) files forms.Replay name fails fails' file script refl a e
-absent-for (Some (commands.ExplainPolicy name)) files fails fails' file script a e =
-    absent_file (Some (commands.ExplainPolicy name)) files forms.Explain name fails fails' file script refl a e
-absent-for (Some (commands.Make seed count)) files fails fails' file script a e = absurd (omega arith)
+-- ---- where the report of each script has status 0
 
-unread_file : (files : Option (List MemFile)) (form : Form) (name : List ℕ) (fails fails' : ℕ) (file : Result (List ℕ) FileFault) (script : List ℕ)
-    → Answers files fails fails' name file → (over_file report_of form name file script).status ≡ 5 → Rose fails fails'
-unread_file files form name fails fails' (Ok bytes) script a e =
-    absurd (over_other form (stated bytes) script 5 (λ h. omega (arith, h)) (λ h. omega (arith, h)) (λ h. omega (arith, h)) e)
-unread_file files form name fails fails' (Err faults.Absent) script a e = absurd (omega arith)
-unread_file files form name fails fails' (Err faults.Failed) script a e = a
-unread_file files form name fails fails' (Err faults.Memory) script a e = absurd (omega arith)
-
-pub unread-for : (command : Option Command) (files : Option (List MemFile)) (fails fails' : ℕ) (file : Result (List ℕ) FileFault) (script : List ℕ)
-    → AnswersTo command files fails fails' file → (report_for command file script).status ≡ 5 → Rose fails fails'
-unread-for None files fails fails' file script a e = absurd (omega arith)
-unread-for (Some commands.Replay) files fails fails' file script a e =
-    absurd (never_built_in built_in_read script 5 (λ h. omega (arith, h)) (λ h. omega (arith, h)) (λ h. omega (arith, h)) e)
-unread-for (Some (commands.ReplayPolicy name)) files fails fails' file script a e = unread_file files forms.Replay name fails fails' file script a e
-unread-for (Some (commands.ExplainPolicy name)) files fails fails' file script a e = unread_file files forms.Explain name fails fails' file script a e
-unread-for (Some (commands.Make seed count)) files fails fails' file script a e = absurd (omega arith)
-
--- ---- the clauses of a run
-
-pub refused-run : (s : Status) (command : Option Command) (files : Option (List MemFile)) (fails fails' : ℕ) (file : Result (List ℕ) FileFault) (old new : Moment)
-    → AnswersTo command files fails fails' file → Ends s (report_for command file) (cut_report_for command file) old new → 3 ≡ code_of s → IsRefused command files
-refused-run statuses.Policy command files fails fails' file old new a e n = refused-for command files fails fails' file e.script a e.status
-refused-run statuses.Done command files fails fails' file old new a e n = absurd (omega arith)
-refused-run statuses.Usage command files fails fails' file old new a e n = absurd (omega arith)
-refused-run statuses.Line command files fails fails' file old new a e n = absurd (omega arith)
-refused-run statuses.Read command files fails fails' file old new a e n = absurd (omega arith)
-refused-run statuses.Write command files fails fails' file old new a e n = absurd (omega arith)
-refused-run statuses.Absent command files fails fails' file old new a e n = absurd (omega arith)
-refused-run statuses.Memory command files fails fails' file old new a e n = absurd (omega arith)
-
-pub absent-run : (s : Status) (command : Option Command) (files : Option (List MemFile)) (fails fails' : ℕ) (file : Result (List ℕ) FileFault) (old new : Moment)
-    → AnswersTo command files fails fails' file → Ends s (report_for command file) (cut_report_for command file) old new → 7 ≡ code_of s → IsAbsent command files
-absent-run statuses.Absent command files fails fails' file old new a e n = absent-for command files fails fails' file e.script a e.status
-absent-run statuses.Done command files fails fails' file old new a e n = absurd (omega arith)
-absent-run statuses.Usage command files fails fails' file old new a e n = absurd (omega arith)
-absent-run statuses.Policy command files fails fails' file old new a e n = absurd (omega arith)
-absent-run statuses.Line command files fails fails' file old new a e n = absurd (omega arith)
-absent-run statuses.Read command files fails fails' file old new a e n = absurd (omega arith)
-absent-run statuses.Write command files fails fails' file old new a e n = absurd (omega arith)
-absent-run statuses.Memory command files fails fails' file old new a e n = absurd (omega arith)
-
-read_by : (command : Option Command) (files : Option (List MemFile)) (fails fails' : ℕ) (file : Result (List ℕ) FileFault) (old new : Moment)
-    → AnswersTo command files fails fails' file → Settles 5 (report_for command file) old new ⊎ BreaksOff (cut_report_for command file) old new
-    → Rose fails fails' ⊎ Rose old.reads new.reads
-read_by command files fails fails' file old new a (inl e) = inl (unread-for command files fails fails' file e.script a e.status)
-read_by command files fails fails' file old new a (inr e) = inr e.fault
-
-pub read-run : (s : Status) (command : Option Command) (files : Option (List MemFile)) (fails fails' : ℕ) (file : Result (List ℕ) FileFault) (old new : Moment)
-    → AnswersTo command files fails fails' file → Ends s (report_for command file) (cut_report_for command file) old new → 5 ≡ code_of s
-    → Rose fails fails' ⊎ Rose old.reads new.reads
-read-run statuses.Read command files fails fails' file old new a e n = read_by command files fails fails' file old new a e
-read-run statuses.Done command files fails fails' file old new a e n = absurd (omega arith)
-read-run statuses.Usage command files fails fails' file old new a e n = absurd (omega arith)
-read-run statuses.Policy command files fails fails' file old new a e n = absurd (omega arith)
-read-run statuses.Line command files fails fails' file old new a e n = absurd (omega arith)
-read-run statuses.Write command files fails fails' file old new a e n = absurd (omega arith)
-read-run statuses.Absent command files fails fails' file old new a e n = absurd (omega arith)
-read-run statuses.Memory command files fails fails' file old new a e n = absurd (omega arith)
-
-pub write-run : (s : Status) (all cut : List ℕ → Report) (old new : Moment) → Ends s all cut old new → 6 ≡ code_of s → Rose old.writes new.writes
-write-run statuses.Write all cut old new e n = e.0
-write-run statuses.Done all cut old new e n = absurd (omega arith)
-write-run statuses.Usage all cut old new e n = absurd (omega arith)
-write-run statuses.Policy all cut old new e n = absurd (omega arith)
-write-run statuses.Line all cut old new e n = absurd (omega arith)
-write-run statuses.Read all cut old new e n = absurd (omega arith)
-write-run statuses.Absent all cut old new e n = absurd (omega arith)
-write-run statuses.Memory all cut old new e n = absurd (omega arith)
-
--- the report of each script has status 0, over whatever the files answer but want of memory
+-- over whatever the files answer but want of memory
 abbrev AllDone : Option Command → Option (List MemFile) → ℕ → ℕ → Moment → Type 0
 AllDone command files fails fails' old =
     (file : Result (List ℕ) FileFault) (script : List ℕ) → file ≢ Err faults.Memory → AnswersTo command files fails fails' file
     → IsScript old.left script → (report_for command file script).status ≡ 0
-
--- so it has no other
-settled_as : (n : ℕ) (command : Option Command) (files : Option (List MemFile)) (fails fails' : ℕ) (file : Result (List ℕ) FileFault) (old new : Moment)
-    → (n ≡ 0 → ⊥) → file ≢ Err faults.Memory → AnswersTo command files fails fails' file → AllDone command files fails fails' old
-    → Settles n (report_for command file) old new → ⊥
-settled_as n command files fails fails' file old new low other a all e = low (sym e.status ∙ all file e.script other a e.is)
 
 ok_other : (bytes : List ℕ) (h : ◌≡◌ {A = Result (List ℕ) FileFault} (Ok bytes) (Err faults.Memory)) → ⊥
 ok_other bytes h = cc
@@ -191,47 +136,123 @@ absent_other h = cc
 failed_other : (h : ◌≡◌ {A = Result (List ℕ) FileFault} (Err faults.Failed) (Err faults.Memory)) → ⊥
 failed_other h = cc
 
-settled_not : (n : ℕ) (command : Option Command) (files : Option (List MemFile)) (fails fails' : ℕ) (file : Result (List ℕ) FileFault) (old new : Moment)
-    → (n ≡ 0 → ⊥) → (n ≡ 10 → ⊥) → AnswersTo command files fails fails' file → AllDone command files fails fails' old
-    → Settles n (report_for command file) old new → ⊥
-settled_not n None files fails fails' file old new low more a all e = settled_as n None files fails fails' (Ok []) old new low (ok_other []) tt all e
-settled_not n (Some commands.Replay) files fails fails' file old new low more a all e =
-    settled_as n (Some commands.Replay) files fails fails' (Ok []) old new low (ok_other []) tt all e
-settled_not n (Some (commands.Make seed count)) files fails fails' file old new low more a all e =
-    settled_as n (Some (commands.Make seed count)) files fails fails' (Ok []) old new low (ok_other []) tt all e
-settled_not n (Some (commands.ReplayPolicy name)) files fails fails' (Ok bytes) old new low more a all e =
-    settled_as n (Some (commands.ReplayPolicy name)) files fails fails' (Ok bytes) old new low (ok_other bytes) a all e
-settled_not n (Some (commands.ReplayPolicy name)) files fails fails' (Err faults.Absent) old new low more a all e =
-    settled_as n (Some (commands.ReplayPolicy name)) files fails fails' (Err faults.Absent) old new low absent_other a all e
-settled_not n (Some (commands.ReplayPolicy name)) files fails fails' (Err faults.Failed) old new low more a all e =
-    settled_as n (Some (commands.ReplayPolicy name)) files fails fails' (Err faults.Failed) old new low failed_other a all e
-settled_not n (Some (commands.ReplayPolicy name)) files fails fails' (Err faults.Memory) old new low more a all e = more (sym e.status)
-settled_not n (Some (commands.ExplainPolicy name)) files fails fails' (Ok bytes) old new low more a all e =
-    settled_as n (Some (commands.ExplainPolicy name)) files fails fails' (Ok bytes) old new low (ok_other bytes) a all e
-settled_not n (Some (commands.ExplainPolicy name)) files fails fails' (Err faults.Absent) old new low more a all e =
-    settled_as n (Some (commands.ExplainPolicy name)) files fails fails' (Err faults.Absent) old new low absent_other a all e
-settled_not n (Some (commands.ExplainPolicy name)) files fails fails' (Err faults.Failed) old new low more a all e =
-    settled_as n (Some (commands.ExplainPolicy name)) files fails fails' (Err faults.Failed) old new low failed_other a all e
-settled_not n (Some (commands.ExplainPolicy name)) files fails fails' (Err faults.Memory) old new low more a all e = more (sym e.status)
+is_wanted : (file : Result (List ℕ) FileFault) → (file ≢ Err faults.Memory) ⊎ (file ≡ Err faults.Memory)
+is_wanted (Ok bytes) = inl (ok_other bytes)
+is_wanted (Err faults.Absent) = inl absent_other
+is_wanted (Err faults.Failed) = inl failed_other
+is_wanted (Err faults.Memory) = inr refl
 
-read_not : (command : Option Command) (files : Option (List MemFile)) (fails fails' : ℕ) (file : Result (List ℕ) FileFault) (old new : Moment)
-    → AnswersTo command files fails fails' file → IsQuiet fails fails' old new
-    → Settles 5 (report_for command file) old new ⊎ BreaksOff (cut_report_for command file) old new → ⊥
-read_not command files fails fails' file old new a q e =
-    elim (read_by command files fails fails' file old new a e) [ inl h ↦ q.files h | inr h ↦ q.reads h ]
+module _ (n : ℕ) (files : Option (List MemFile)) (fails fails' : ℕ) (old new : Moment) (low : n ≡ 0 → ⊥) where
+  -- so it has no other
+  settled_as : (command : Option Command) (file : Result (List ℕ) FileFault) → file ≢ Err faults.Memory
+      → AnswersTo command files fails fails' file → AllDone command files fails fails' old → Settles n (report_for command file) old new → ⊥
+  settled_as command file other a all e = low (sym e.status ∙ all file e.script other a e.is)
 
-pub complete-run : (s : Status) (command : Option Command) (files : Option (List MemFile)) (fails fails' : ℕ) (file : Result (List ℕ) FileFault) (old new : Moment)
-    → AnswersTo command files fails fails' file → Ends s (report_for command file) (cut_report_for command file) old new
-    → IsComplete (code_of s) command files fails fails' old new
-complete-run statuses.Done command files fails fails' file old new a e = λ q all. inl refl
-complete-run statuses.Memory command files fails fails' file old new a e = λ q all. inr refl
-complete-run statuses.Usage command files fails fails' file old new a e =
-    λ q all. absurd (settled_not 2 command files fails fails' file old new (λ h. omega (arith, h)) (λ h. omega (arith, h)) a all e)
-complete-run statuses.Policy command files fails fails' file old new a e =
-    λ q all. absurd (settled_not 3 command files fails fails' file old new (λ h. omega (arith, h)) (λ h. omega (arith, h)) a all e)
-complete-run statuses.Line command files fails fails' file old new a e =
-    λ q all. absurd (settled_not 4 command files fails fails' file old new (λ h. omega (arith, h)) (λ h. omega (arith, h)) a all e)
-complete-run statuses.Absent command files fails fails' file old new a e =
-    λ q all. absurd (settled_not 7 command files fails fails' file old new (λ h. omega (arith, h)) (λ h. omega (arith, h)) a all e)
-complete-run statuses.Read command files fails fails' file old new a e = λ q all. absurd (read_not command files fails fails' file old new a q e)
-complete-run statuses.Write command files fails fails' file old new a e = λ q all. absurd (q.writes e.0)
+  -- where the file wasn't read for want of memory, its status is that
+  unless_wanted : (command : Option Command) → (n ≡ 10 → ⊥) → AllDone command files fails fails' old
+      → Settles n (report_for command (Err faults.Memory)) old new → ⊥
+  unless_wanted None more all e = settled_as None (Ok []) (ok_other []) tt all e
+  unless_wanted (Some commands.Replay) more all e = settled_as (Some commands.Replay) (Ok []) (ok_other []) tt all e
+  unless_wanted (Some (commands.Make seed count)) more all e = settled_as (Some (commands.Make seed count)) (Ok []) (ok_other []) tt all e
+  unless_wanted (Some (commands.ReplayPolicy name)) more all e = more (sym e.status)
+  unless_wanted (Some (commands.ExplainPolicy name)) more all e = more (sym e.status)
+  unless_wanted (Some (commands.Serve name)) more all e = more (sym e.status)
+
+  settled_not : (command : Option Command) (file : Result (List ℕ) FileFault) → (n ≡ 10 → ⊥)
+      → AnswersTo command files fails fails' file → AllDone command files fails fails' old → Settles n (report_for command file) old new → ⊥
+  settled_not command file more a all e =
+      elim (is_wanted file) [
+        | inl other ↦ settled_as command file other a all e
+        | inr is ↦ unless_wanted command more all (subst (λ (x : Result (List ℕ) FileFault). Settles n (report_for command x) old new) is e)
+      ]
+
+-- ---- the clauses of a run
+
+module _ {M : Type 0} (g : Ghosts M Event Reply StateData) (links : LinksOf) where
+  -- these statuses come only where no policy is served
+  module _ (all cut : List ℕ → Report) (old new : Moment) where
+    of_words : (served : Option PolicyOf) → EndsAs g links served statuses.Usage all cut old new → Settles 2 all old new
+    of_words (Some p) e = absurd e
+    of_words None e = e
+
+    of_policy : (served : Option PolicyOf) → EndsAs g links served statuses.Policy all cut old new → Settles 3 all old new
+    of_policy (Some p) e = absurd e
+    of_policy None e = e
+
+    of_line : (served : Option PolicyOf) → EndsAs g links served statuses.Line all cut old new → Settles 4 all old new
+    of_line (Some p) e = absurd e
+    of_line None e = e
+
+    of_read : (served : Option PolicyOf) → EndsAs g links served statuses.Read all cut old new → Settles 5 all old new ⊎ BreaksOff cut old new
+    of_read (Some p) e = absurd e
+    of_read None e = e
+
+    of_absent : (served : Option PolicyOf) → EndsAs g links served statuses.Absent all cut old new → Settles 7 all old new
+    of_absent (Some p) e = absurd e
+    of_absent None e = e
+
+    of_write : (served : Option PolicyOf) → EndsAs g links served statuses.Write all cut old new → Rose old.writes new.writes
+    of_write (Some p) e = e.0
+    of_write None e = e.0
+
+  module _ (command : Option Command) (files : Option (List MemFile)) (fails fails' : ℕ) (file : Result (List ℕ) FileFault) (old new : Moment)
+      (answers : AnswersTo command files fails fails' file) where
+    abbrev all : List ℕ → Report
+    all = report_for command file
+
+    abbrev cut : List ℕ → Report
+    cut = cut_report_for command file
+
+    with_code : (s t : Status) → EndsFor g links s command file old new → code_of t ≡ code_of s → EndsFor g links t command file old new
+    with_code s t e n = subst (λ (x : Status). EndsFor g links x command file old new) (known_by s t (sym n)) e
+
+    pub refused_run : (s : Status) → EndsFor g links s command file old new → 3 ≡ code_of s → IsRefused command files
+    refused_run s e n =
+        let settles = of_policy all cut old new (served_by command file) (with_code s statuses.Policy e n) in
+        refused_for files fails fails' command file settles.script answers settles.status
+
+    pub absent_run : (s : Status) → EndsFor g links s command file old new → 7 ≡ code_of s → IsAbsent command files
+    absent_run s e n =
+        let settles = of_absent all cut old new (served_by command file) (with_code s statuses.Absent e n) in
+        absent_for files fails fails' command file settles.script answers settles.status
+
+    read_by : Settles 5 all old new ⊎ BreaksOff cut old new → Rose fails fails' ⊎ Rose old.reads new.reads
+    read_by (inl e) = inl (unread_for files fails fails' command file e.script answers e.status)
+    read_by (inr e) = inr e.fault
+
+    pub read_run : (s : Status) → EndsFor g links s command file old new → 5 ≡ code_of s → Rose fails fails' ⊎ Rose old.reads new.reads
+    read_run s e n = read_by (of_read all cut old new (served_by command file) (with_code s statuses.Read e n))
+
+    pub write_run : (s : Status) → EndsFor g links s command file old new → 6 ≡ code_of s → Rose old.writes new.writes
+    write_run s e n = of_write all cut old new (served_by command file) (with_code s statuses.Write e n)
+
+    settled : (n : ℕ) → (n ≡ 0 → ⊥) → (n ≡ 10 → ⊥) → AllDone command files fails fails' old → Settles n all old new → ⊥
+    settled n low more done e = settled_not n files fails fails' old new low command file more answers done e
+
+  -- where the counts of failures tell of links and spawns
+  pub complete_run : (command : Option Command) (files : Option (List MemFile)) (before after : Calls) (file : Result (List ℕ) FileFault) (old new : Moment)
+      → AnswersTo command files before.files after.files file → (s : Status)
+      → (s ≡ statuses.Link → NeverFail links → Rose before.links after.links) → (s ≡ statuses.Spawn → Rose before.spawns after.spawns)
+      → EndsFor g links s command file old new → IsComplete links (code_of s) command files before after old new
+  complete_run command files before after file old new a statuses.Done link spawn e = λ quiet done. inl refl
+  complete_run command files before after file old new a statuses.Memory link spawn e = λ quiet done. inr refl
+  complete_run command files before after file old new a statuses.Usage link spawn e = λ quiet done.
+      absurd (settled command files before.files after.files file old new a 2 (λ h. omega (arith, h)) (λ h. omega (arith, h)) done
+      (of_words (report_for command file) (cut_report_for command file) old new (served_by command file) e))
+  complete_run command files before after file old new a statuses.Policy link spawn e = λ quiet done.
+      absurd (settled command files before.files after.files file old new a 3 (λ h. omega (arith, h)) (λ h. omega (arith, h)) done
+      (of_policy (report_for command file) (cut_report_for command file) old new (served_by command file) e))
+  complete_run command files before after file old new a statuses.Line link spawn e = λ quiet done.
+      absurd (settled command files before.files after.files file old new a 4 (λ h. omega (arith, h)) (λ h. omega (arith, h)) done
+      (of_line (report_for command file) (cut_report_for command file) old new (served_by command file) e))
+  complete_run command files before after file old new a statuses.Absent link spawn e = λ quiet done.
+      absurd (settled command files before.files after.files file old new a 7 (λ h. omega (arith, h)) (λ h. omega (arith, h)) done
+      (of_absent (report_for command file) (cut_report_for command file) old new (served_by command file) e))
+  complete_run command files before after file old new a statuses.Read link spawn e = λ quiet done.
+      absurd (elim (read_run command files before.files after.files file old new a statuses.Read e refl) [ inl h ↦ quiet.files h | inr h ↦ quiet.reads h ])
+  complete_run command files before after file old new a statuses.Write link spawn e = λ quiet done.
+      absurd (quiet.writes (write_run command files before.files after.files file old new a statuses.Write e refl))
+  complete_run command files before after file old new a statuses.Link link spawn e = λ quiet done.
+      absurd (quiet.links (link refl quiet.dials))
+  complete_run command files before after file old new a statuses.Spawn link spawn e = λ quiet done.
+      absurd (quiet.spawns (spawn refl))

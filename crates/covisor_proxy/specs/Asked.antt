@@ -13,7 +13,7 @@ use Rattle.script_text.specs.declared.form.Form.{Form}
 use Rattle.script_text.specs.declared.form.Form.TheVariants as forms
 use Rattle.covisor_proxy.specs.BuiltIn.{built_in_read}
 use Rattle.command_line.specs.declared.command.Command.{Command}
-use Rattle.command_line.specs.declared.command.Command.TheVariants.{Replay, ReplayPolicy, ExplainPolicy, Make}
+use Rattle.command_line.specs.declared.command.Command.TheVariants.{Replay, ReplayPolicy, ExplainPolicy, Serve, Make}
 
 -- the policy that the bytes of a file state, or the first fault of them
 unfoldable pub stated : List ℕ → Result PolicyOf PolicyFault
@@ -40,12 +40,17 @@ over_file gives form name (Err Absent) script = lone (codes "fault absent " ++ n
 over_file gives form name (Err Failed) script = lone (codes "fault read") 5
 over_file gives form name (Err Memory) script = lone [] 10
 
--- what a command gives
+-- over a policy that is served no script gives anything
+abbrev pub no_report : Scripts
+no_report form p script = lone [] 0
+
+-- what a command gives; of one that serves a policy only what is told where there is none
 abbrev pub gives : Scripts → Option Command → Result (List ℕ) FileFault → List ℕ → Report
 gives of None file script = lone (codes "fault usage") 2
 gives of (Some Replay) file script = over_built_in of built_in_read script
 gives of (Some (ReplayPolicy name)) file script = over_file of forms.Replay name file script
 gives of (Some (ExplainPolicy name)) file script = over_file of forms.Explain name file script
+gives of (Some (Serve name)) file script = over_file no_report forms.Replay name file script
 gives of (Some (Make seed count)) file script = lone (summary_text (made_of seed count)) 0
 
 -- the report of a script, and of one that can't be read further

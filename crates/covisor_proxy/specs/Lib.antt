@@ -5,4 +5,5 @@ pub mod Asked
 pub mod Outcomes
 pub mod Opening
 pub mod Following
+pub mod Serving
 pub mod Runs

@@ -10,7 +10,7 @@ use Rattle.covisor_proxy.specs.Asked.{stated}
 use Rattle.covisor_proxy.specs.declared.opening.NoPolicy.{NoPolicy}
 use Rattle.covisor_proxy.specs.declared.opening.NoPolicy.TheVariants as none
 use Rattle.command_line.specs.declared.command.Command.{Command}
-use Rattle.command_line.specs.declared.command.Command.TheVariants.{Replay, ReplayPolicy, ExplainPolicy, Make}
+use Rattle.command_line.specs.declared.command.Command.TheVariants.{Replay, ReplayPolicy, ExplainPolicy, Serve, Make}
 
 -- the files hold this under a name, where they tell what they hold
 abbrev pub Holds : Option (List MemFile) → List ℕ → Option (List ℕ) → Type 0
@@ -28,6 +28,7 @@ Answers files old new name (Err Memory) = ⊤
 abbrev pub AnswersTo : Option Command → Option (List MemFile) → ℕ → ℕ → Result (List ℕ) FileFault → Type 0
 AnswersTo (Some (ReplayPolicy name)) files old new file = Answers files old new name file
 AnswersTo (Some (ExplainPolicy name)) files old new file = Answers files old new name file
+AnswersTo (Some (Serve name)) files old new file = Answers files old new name file
 AnswersTo (Some Replay) files old new file = ⊤
 AnswersTo (Some (Make seed count)) files old new file = ⊤
 AnswersTo None files old new file = ⊤

@@ -5,7 +5,7 @@ use Rattle.replay_report.specs.Reports.{Report}
 use Rattle.covisor_proxy.specs.Chunks.{Gave}
 use Rattle.covisor_proxy.specs.Written.{Appends, AppendsSome}
 use Rattle.covisor_proxy.specs.declared.status.Status.{Status}
-use Rattle.covisor_proxy.specs.declared.status.Status.TheVariants.{Done, Usage, Policy, Line, Read, Write, Absent, Memory}
+use Rattle.covisor_proxy.specs.declared.status.Status.TheVariants.{Done, Usage, Policy, Line, Read, Write, Absent, Link, Spawn, Memory}
 
 -- the outside at a moment: what is left of the script and what was written, where these are told, and how many reads
 -- and writes failed
@@ -71,6 +71,8 @@ Ends Line all cut old new = Settles 4 all old new
 Ends Read all cut old new = Settles 5 all old new ⊎ BreaksOff cut old new
 Ends Write all cut old new = Rose old.writes new.writes × Begins all old new
 Ends Absent all cut old new = Settles 7 all old new
+Ends Link all cut old new = ⊥
+Ends Spawn all cut old new = ⊥
 Ends Memory all cut old new = Begins all old new
 
 -- the exit status
@@ -82,4 +84,6 @@ code_of Line = 4
 code_of Read = 5
 code_of Write = 6
 code_of Absent = 7
+code_of Link = 8
+code_of Spawn = 9
 code_of Memory = 10

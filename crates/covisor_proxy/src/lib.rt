@@ -1,9 +1,11 @@
-//! What the program `covisor` does, over files, an input and an output that its caller makes: `run`.
+//! What the program `covisor` does, over files, an input, an output, connections, works and a clock that its caller
+//! makes: `run`.
 #![tactic(auto)]
 
 mod ending;
 mod forms;
 mod lines;
+mod live;
 mod opening;
 mod program;
 mod replay;

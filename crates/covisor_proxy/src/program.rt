@@ -3,17 +3,23 @@ ghost use Rattle.std.specs.Prelude.{◌≡◌, ◌≢◌, ◌↔◌, ◌⊎◌, 
 ghost use Rattle.cv_io.specs.Outside.{Rose};
 ghost use Rattle.covisor_proxy.specs.Chunks.{IsAtEnd};
 ghost use Rattle.covisor_proxy.specs.Outcomes.{moment};
-ghost use Rattle.covisor_proxy.specs.Runs.{Ended, IsAbsent, IsComplete, IsRefused, Runs, has_script};
+ghost use Rattle.covisor_proxy.specs.Runs.{Ended, IsAbsent, IsComplete, IsRefused, Runs, calls, has_script};
+ghost use Rattle.covisor_proxy.specs.Serving.{NeverFail, links_of};
 ghost use Rattle.command_line.specs.Forms.{command_of};
 
 use crate::ending::write_fault;
 use crate::forms::{make, replay_built_in, replay_file};
+use crate::live::serve_file;
 use crate::status::Status;
 use command_line::{Command, asked};
-use cv_io::{Files, Sink, Source, Steps};
+use cv_io::{Clock, Dial, Files, Links, Sink, Source, Spawner, Steps};
+use hyper_core::Hyper;
+use policy_lock::Machine;
 use script_text::Form;
 use std::alloc::Global;
+use std::sync::Wait;
 use std::sync::ledger::Ledger;
+use std::thread::Threads;
 
 /// The exit status of want of memory.
 pub const MEMORY: u8 = 10;
@@ -21,20 +27,41 @@ pub const MEMORY: u8 = 10;
 /// Does what the words after the program's name say, and answers the exit status. `replay` and `replay POLICY` do the
 /// lines of the script that `input` gives, over the built-in policy or over that of a file, and write the report to
 /// `out`; so does `explain POLICY`, which also knows lines that ask why a packet goes where it goes. `make SEED N` does
-/// a script that it makes, and writes one line of numbers.
+/// a script that it makes, and writes one line of numbers. `serve POLICY` serves the controllers and the switches of a
+/// policy, which `links` dials, by works that `spawner` runs, and writes the audit to `out`, a line each; it waits for
+/// them.
 ///
 /// The exit status is 0 where all is done; 2 where the words are of no form; 3 where the policy file is refused; 4 at a
-/// line that isn't done; 5 where a file or the script can't be read; 6 where the report can't be written; 7 where there
-/// is no such file; 10 for want of memory. With 2, 3, 4, 5 and 7 the last line tells the fault.
-pub fn run<F: Files, S: Source, K: Sink, G: Ledger>(
+/// line that isn't done; 5 where a file or the script can't be read; 6 where the report or the audit can't be written; 7
+/// where there is no such file; 8 where an endpoint can't be dialled, and the others were served; 9 where the works that
+/// serve can't be run; 10 for want of memory. With 2, 3, 4, 5, 7, 8 and 9 the last line tells the fault.
+pub fn run<
+    R: Wait + Threads + Sync,
+    F: Files,
+    S: Source,
+    K: Sink + Send,
+    L: Links,
+    P: Spawner,
+    C: Clock + Send,
+    G: Ledger,
+>(
+    rt: &R,
     alloc: Global,
     words: &[String],
     files: &mut F,
     input: &mut S,
     out: &mut K,
+    links: &mut L,
+    spawner: &mut P,
+    clock: &mut C,
     _steps: &mut Steps<G>,
 ) -> u8
-    ensures runs { Runs result (command_of words.now) (F.files files.old) (F.faults files.old) (F.faults files.new)
+where
+    L::Dial: Drop,
+    <L::Dial as Dial>::In: Drop + Send,
+    <L::Dial as Dial>::Out: Drop + Send,
+    ensures runs { Runs ⟦<Hyper as Machine>⟧ (links_of (L.told links.old) (L.is_reliable links.old)) result
+        (command_of words.now) (F.files files.old) (F.faults files.old) (F.faults files.new)
         (moment (S.remaining input.old) (S.faults input.old) (K.held out.old) (K.faults out.old))
         (moment (S.remaining input.new) (S.faults input.new) (K.held out.new) (K.faults out.new)) }
     ensures usage { (result ≡ 2) ↔ (command_of words.now ≡ None) }
@@ -42,86 +69,145 @@ pub fn run<F: Files, S: Source, K: Sink, G: Ledger>(
     ensures absent { result ≡ 7 → IsAbsent (command_of words.now) (F.files files.old) }
     ensures read { result ≡ 5 → Rose (F.faults files.old) (F.faults files.new) ⊎ Rose (S.faults input.old) (S.faults input.new) }
     ensures write { result ≡ 6 → Rose (K.faults out.old) (K.faults out.new) }
+    ensures link { result ≡ 8 → NeverFail (links_of (L.told links.old) (L.is_reliable links.old))
+        → Rose (L.faults links.old) (L.faults links.new) }
+    ensures spawn { result ≡ 9 → Rose (P.faults spawner.old) (P.faults spawner.new) }
     ensures whole { result ≡ 0 → has_script (command_of words.now) ≡ true → IsAtEnd (S.remaining input.new) }
-    ensures complete { IsComplete result (command_of words.now) (F.files files.old) (F.faults files.old) (F.faults files.new)
+    ensures complete { IsComplete (links_of (L.told links.old) (L.is_reliable links.old)) result
+        (command_of words.now) (F.files files.old)
+        (calls (F.faults files.old) (L.faults links.old) (P.faults spawner.old))
+        (calls (F.faults files.new) (L.faults links.new) (P.faults spawner.new))
         (moment (S.remaining input.old) (S.faults input.old) (K.held out.old) (K.faults out.old))
         (moment (S.remaining input.new) (S.faults input.new) (K.held out.new) (K.faults out.new)) }
 {
-    answer(alloc, words, files, input, out).code()
+    answer(rt, alloc, words, files, input, out, links, spawner, clock).code()
 }
 
 /// Does what the words say.
-fn answer<F: Files, S: Source, K: Sink>(
+fn answer<
+    R: Wait + Threads + Sync,
+    F: Files,
+    S: Source,
+    K: Sink + Send,
+    L: Links,
+    P: Spawner,
+    C: Clock + Send,
+>(
+    rt: &R,
     alloc: Global,
     words: &[String],
     files: &mut F,
     input: &mut S,
     out: &mut K,
+    links: &mut L,
+    spawner: &mut P,
+    clock: &mut C,
 ) -> Status
-    ensures ends { Ended result (command_of words.now) (F.files files.old) (F.faults files.old) (F.faults files.new)
+where
+    L::Dial: Drop,
+    <L::Dial as Dial>::In: Drop + Send,
+    <L::Dial as Dial>::Out: Drop + Send,
+    ensures ends { Ended ⟦<Hyper as Machine>⟧ (links_of (L.told links.old) (L.is_reliable links.old)) result
+        (command_of words.now) (F.files files.old) (F.faults files.old) (F.faults files.new)
         (moment (S.remaining input.old) (S.faults input.old) (K.held out.old) (K.faults out.old))
         (moment (S.remaining input.new) (S.faults input.new) (K.held out.new) (K.faults out.new)) }
     ensures usage { (result ≡ Status.Usage) ↔ (command_of words.now ≡ None) }
+    ensures link { result ≡ Status.Link → NeverFail (links_of (L.told links.old) (L.is_reliable links.old))
+        → Rose (L.faults links.old) (L.faults links.new) }
+    ensures spawn { result ≡ Status.Spawn → Rose (P.faults spawner.old) (P.faults spawner.new) }
     ensures whole { result ≡ Status.Done → has_script (command_of words.now) ≡ true → IsAtEnd (S.remaining input.new) }
 {
     match asked(alloc, words) {
-        Ok(command) => respond(alloc, command, files, input, out),
+        Ok(command) => respond(rt, alloc, command, files, input, out, links, spawner, clock),
         Err(_) => Status::Memory,
     }
 }
 
 /// Does a command, if there is one.
-fn respond<F: Files, S: Source, K: Sink>(
+fn respond<
+    R: Wait + Threads + Sync,
+    F: Files,
+    S: Source,
+    K: Sink + Send,
+    L: Links,
+    P: Spawner,
+    C: Clock + Send,
+>(
+    rt: &R,
     alloc: Global,
     command: Option<Command>,
     files: &mut F,
     input: &mut S,
     out: &mut K,
+    links: &mut L,
+    spawner: &mut P,
+    clock: &mut C,
 ) -> Status
-    ensures ends { Ended result command (F.files files.old) (F.faults files.old) (F.faults files.new)
+where
+    L::Dial: Drop,
+    <L::Dial as Dial>::In: Drop + Send,
+    <L::Dial as Dial>::Out: Drop + Send,
+    ensures ends { Ended ⟦<Hyper as Machine>⟧ (links_of (L.told links.old) (L.is_reliable links.old)) result
+        (command) (F.files files.old) (F.faults files.old) (F.faults files.new)
         (moment (S.remaining input.old) (S.faults input.old) (K.held out.old) (K.faults out.old))
         (moment (S.remaining input.new) (S.faults input.new) (K.held out.new) (K.faults out.new)) }
     ensures usage { (result ≡ Status.Usage) ↔ (command ≡ None) }
-    ensures whole { result ≡ Status.Done → has_script command ≡ true → IsAtEnd (S.remaining input.new) }
+    ensures link { result ≡ Status.Link → NeverFail (links_of (L.told links.old) (L.is_reliable links.old))
+        → Rose (L.faults links.old) (L.faults links.new) }
+    ensures spawn { result ≡ Status.Spawn → Rose (P.faults spawner.old) (P.faults spawner.new) }
+    ensures whole { result ≡ Status.Done → has_script (command) ≡ true → IsAtEnd (S.remaining input.new) }
 {
     match command {
-        Some(command) => obey(alloc, command, files, input, out),
+        Some(command) => obey(rt, alloc, command, files, input, out, links, spawner, clock),
         None => write_fault(out, b"fault usage\n", Status::Usage),
     }
 }
 
 /// Does a command.
-fn obey<F: Files, S: Source, K: Sink>(
+fn obey<
+    R: Wait + Threads + Sync,
+    F: Files,
+    S: Source,
+    K: Sink + Send,
+    L: Links,
+    P: Spawner,
+    C: Clock + Send,
+>(
+    rt: &R,
     alloc: Global,
     command: Command,
     files: &mut F,
     input: &mut S,
     out: &mut K,
+    links: &mut L,
+    spawner: &mut P,
+    clock: &mut C,
 ) -> Status
-    ensures ends { Ended result (Some command) (F.files files.old) (F.faults files.old) (F.faults files.new)
+where
+    L::Dial: Drop,
+    <L::Dial as Dial>::In: Drop + Send,
+    <L::Dial as Dial>::Out: Drop + Send,
+    ensures ends { Ended ⟦<Hyper as Machine>⟧ (links_of (L.told links.old) (L.is_reliable links.old)) result
+        (Some command) (F.files files.old) (F.faults files.old) (F.faults files.new)
         (moment (S.remaining input.old) (S.faults input.old) (K.held out.old) (K.faults out.old))
         (moment (S.remaining input.new) (S.faults input.new) (K.held out.new) (K.faults out.new)) }
     ensures form { result ≢ Status.Usage }
+    ensures link { result ≡ Status.Link → NeverFail (links_of (L.told links.old) (L.is_reliable links.old))
+        → Rose (L.faults links.old) (L.faults links.new) }
+    ensures spawn { result ≡ Status.Spawn → Rose (P.faults spawner.old) (P.faults spawner.new) }
     ensures whole { result ≡ Status.Done → has_script (Some command) ≡ true → IsAtEnd (S.remaining input.new) }
 {
     match command {
         Command::Replay => replay_built_in(alloc, input, out),
-        Command::ReplayPolicy { name } => replay_file(
-            alloc,
-            Form::Replay,
-            &name,
-            files,
-            input,
-            out,
-        ),
-        Command::ExplainPolicy { name } => replay_file(
-            alloc,
-            Form::Explain,
-            &name,
-            files,
-            input,
-            out,
-        ),
+        Command::ReplayPolicy { name } => {
+            replay_file(alloc, Form::Replay, &name, files, input, out)
+        }
+        Command::ExplainPolicy { name } => {
+            replay_file(alloc, Form::Explain, &name, files, input, out)
+        }
+        Command::Serve { name } => {
+            serve_file(rt, alloc, &name, files, out, links, spawner, clock)
+        }
         Command::Make { seed, count } => make(alloc, seed, count, out),
     }
 }

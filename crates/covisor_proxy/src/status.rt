@@ -19,6 +19,10 @@ pub(crate) enum Status {
     Write,
     /// There is no such policy file.
     Absent,
+    /// An endpoint could not be dialled, or its dial failed; the others were served.
+    Link,
+    /// The works that serve could not be run.
+    Spawn,
     /// Want of memory.
     Memory,
 }
@@ -35,6 +39,8 @@ impl Status {
             Status::Read => 5,
             Status::Write => 6,
             Status::Absent => 7,
+            Status::Link => 8,
+            Status::Spawn => 9,
             Status::Memory => 10,
         }
     }

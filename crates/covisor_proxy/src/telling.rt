@@ -6,10 +6,11 @@ ghost use Rattle.policy_file.specs.Terse.{terse as terse_of};
 ghost use Rattle.replay_report.specs.Takings.{as_line};
 ghost use Rattle.cv_io.specs.declared.files.MemFile.{MemFile};
 ghost use Rattle.script_text.specs.declared.form.Form.{Form};
+ghost use Rattle.covisor_proxy.specs.Asked.{Scripts};
 ghost use Rattle.covisor_proxy.specs.Following.{Alone};
 ghost use Rattle.covisor_proxy.specs.Opening.{Opens};
 ghost use Rattle.covisor_proxy.specs.Outcomes.{moment};
-ghost use Rattle.covisor_proxy.specs.Runs.{EndsOver};
+ghost use Rattle.covisor_proxy.specs.Serving.{EndsUnopened};
 
 use crate::ending::write_fault;
 use crate::opening::NoPolicy;
@@ -21,9 +22,10 @@ use std::alloc::Global;
 
 /// There is no policy of a name.
 pub(crate) fn tell<K: Sink>(alloc: Global, name: &Text, fault: NoPolicy, out: &mut K) -> Status
-    ensures ends { (files : Option (List MemFile)) (fails fails' : ℕ) (form : Form) (left : Option (List ℕ)) (reads : ℕ)
+    ensures ends { (files : Option (List MemFile)) (fails fails' : ℕ) (all cut : Scripts) (form : Form)
+        (left : Option (List ℕ)) (reads : ℕ)
         → Opens files fails fails' name.now (Err fault)
-        → EndsOver result form name.now files fails fails'
+        → EndsUnopened result all cut form name.now files fails fails'
         (moment left reads (K.held out.old) (K.faults out.old)) (moment left reads (K.held out.new) (K.faults out.new)) }
     ensures form { result ≢ Status.Usage }
     ensures done { result ≢ Status.Done }

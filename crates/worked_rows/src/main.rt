@@ -1,34 +1,68 @@
-//! Runs worked examples of the program over files in memory, and prints what each writes and its status. Standard input
-//! has rows, one after the other:
+//! Runs worked examples of the program over files and connections in memory, and prints what each writes and its
+//! status. Standard input has rows, one after the other:
 //!
-//!     == TITLE            begins a row, without a script and without failing calls; the policy of the last one stands
+//!     == TITLE            begins a row, without a script, connections and failing calls; the policy of the last stands
 //!     -- policy           the file policy.toml is the lines that follow
 //!     -- script           the script is the lines that follow
 //!     -- cut              the script's last line lacks its line feed
 //!     -- pad N            the script has one more line, of N times #
-//!     -- fail WHAT        the first read of the script, or of a file, or the first write, fails: script, file, write
-//!     $ covisor WORDS..   runs the program with these words, over the file and the script
+//!     -- member N M       the controller of member N has a connection: it says what the lines that follow are the
+//!                         digits of, and ends once M bytes were written to it
+//!     -- switch N M       the same of switch N
+//!     -- fail WHAT        the first such call fails: a read of the script, of a file, a write, a dial, or the running
+//!                         of works: script, file, write, dial, spawn
+//!     $ covisor WORDS..   runs the program with these words; what was written to each connection stands behind the
+//!                         status
 #![tactic(auto)]
 
 mod row;
+mod wires;
 
-use cv_io::Memory;
+use cv_io::{Bytes, Memory};
 use row::{Row, play};
 use std::io::{self, ErrorKind};
+use std::sync::Wait;
+use std::thread::Threads;
+use wires::Party;
 
 fn wanted(_memory: Memory) -> io::Error {
     io::Error::from(ErrorKind::OutOfMemory)
 }
 
+/// Prints what was written to a connection.
+fn show_wire(rt: &HostRuntime, party: Party, written: &Bytes) -> io::Result<()> {
+    let digits = hex::encode(rt.alloc(), written.as_slice())?;
+    let shown = if digits.is_empty() {
+        "-"
+    } else {
+        digits.as_str()
+    };
+    match party {
+        Party::Member { index } => println!(rt; "member {index} {shown}"),
+        Party::Switch { index } => println!(rt; "switch {index} {shown}"),
+    }
+}
+
 /// Runs the program and prints what it writes, and its status.
-fn show(rt: &HostRuntime, row: &Row, words: &str) -> io::Result<()> {
-    println!(rt; "$ covisor{words}")?;
-    let (written, status) = play(rt.alloc(), row, words).map_err(wanted)?;
-    print!(rt;
+fn show<R: Wait + Threads + Sync>(
+    host: &HostRuntime,
+    rt: &R,
+    row: &Row,
+    words: &str,
+) -> io::Result<()> {
+    println!(host; "$ covisor{words}")?;
+    let played = play(rt, host.alloc(), row, words).map_err(wanted)?;
+    print!(host;
         "{}",
-        str::from_utf8(written.as_slice()).unwrap_or("(not text)\n")
+        str::from_utf8(played.out.as_slice()).unwrap_or("(not text)\n")
     )?;
-    println!(rt; "status {status}")
+    println!(host; "status {}", played.status)?;
+    for (number, written) in played.wires.as_slice().iter().enumerate() {
+        if let Some(party) = row.party(number) {
+            show_wire(host, party, written)?;
+        }
+    }
+    Ok(())
 }
 
 fn main(rt: HostRuntime) -> io::Result<()> {
@@ -40,12 +74,12 @@ fn main(rt: HostRuntime) -> io::Result<()> {
             println!(rt; "{line}")?;
             row.begin();
         } else if let Some(words) = line.strip_prefix("$ covisor") {
-            show(&rt, &row, words)?;
+            show(&rt, &rt, &row, words)?;
             row.pause();
         } else if let Some(mark) = line.strip_prefix("-- ") {
             row.mark(rt.alloc(), mark).map_err(wanted)?;
         } else {
-            row.line(line).map_err(wanted)?;
+            row.line(rt.alloc(), line).map_err(wanted)?;
         }
     }
     Ok(())

@@ -1,11 +1,14 @@
 //! A row: what a run of the program is given.
 ghost use Rattle.std.specs.Prelude.{◌≡◌, ◌<◌};
 
+use crate::wires::{Party, RowLinks, RowSpawner, Wire, Written};
 use covisor_proxy::run;
-use cv_io::{Bytes, List, MemFile, MemFiles, MemSink, MemSource, Memory, Steps, Text};
+use cv_io::{Bytes, List, MemClock, MemFile, MemFiles, MemSink, MemSource, Memory, Steps, Text};
 use std::alloc::Global;
 use std::marker::Brand;
+use std::sync::Wait;
 use std::sync::ledger::{Blank, Ledger};
+use std::thread::Threads;
 
 /// Where lines go.
 #[derive(Clone, Copy, PartialEq, Eq)]
@@ -14,17 +17,46 @@ enum Part {
     Remarks,
     Policy,
     Script,
+    /// To the last connection, which says what they are the digits of.
+    Wire,
 }
+
+/// Which first calls fail.
+#[derive(Clone, Copy, PartialEq, Eq)]
+struct Fails {
+    file: bool,
+    script: bool,
+    write: bool,
+    dial: bool,
+    spawn: bool,
+}
+
+const NONE: Fails = Fails {
+    file: false,
+    script: false,
+    write: false,
+    dial: false,
+    spawn: false,
+};
 
 #[derive(Drop)]
 pub struct Row {
     /// The file policy.toml, once it was given.
     policy: Option<Bytes>,
     script: Bytes,
+    wires: List<Wire>,
     part: Part,
-    fails_file: bool,
-    fails_script: bool,
-    fails_write: bool,
+    fails: Fails,
+}
+
+/// What a run came to.
+#[derive(Drop)]
+pub struct Played {
+    /// What was written to the output.
+    pub out: Bytes,
+    pub status: u8,
+    /// What was written to each connection of the row.
+    pub wires: List<Bytes>,
 }
 
 /// The calls that fail: the first, or none.
@@ -45,25 +77,36 @@ fn words_of(alloc: Global, line: &str) -> Result<Vec<String>, Memory> {
     Ok(words)
 }
 
+/// Whose connection a mark begins, and how many bytes end it.
+fn connection(mark: &str) -> Option<(Party, usize)> {
+    let mut words = mark.split_ascii_whitespace();
+    let (kind, index, until) = (words.next()?, words.next()?, words.next()?);
+    let index = index.parse::<u32>().ok()?;
+    let until = until.parse::<usize>().ok()?;
+    match kind {
+        "member" => Some((Party::Member { index }, until)),
+        "switch" => Some((Party::Switch { index }, until)),
+        _ => None,
+    }
+}
+
 impl Row {
     pub fn new(alloc: Global) -> Row {
         Row {
             policy: None,
             script: Bytes::new(alloc),
+            wires: List::new(alloc),
             part: Part::Remarks,
-            fails_file: false,
-            fails_script: false,
-            fails_write: false,
+            fails: NONE,
         }
     }
 
     /// Begins the next row, over the policy of this one.
     pub fn begin(&mut self) {
         self.script.clear();
+        self.wires.clear();
         self.part = Part::Remarks;
-        self.fails_file = false;
-        self.fails_script = false;
-        self.fails_write = false;
+        self.fails = NONE;
     }
 
     /// What follows is a remark.
@@ -85,12 +128,26 @@ impl Row {
             "cut" => {
                 let _feed = self.script.pop();
             }
-            "fail file" => self.fails_file = true,
-            "fail script" => self.fails_script = true,
-            "fail write" => self.fails_write = true,
-            _ => return self.pad(mark),
+            "fail file" => self.fails.file = true,
+            "fail script" => self.fails.script = true,
+            "fail write" => self.fails.write = true,
+            "fail dial" => self.fails.dial = true,
+            "fail spawn" => self.fails.spawn = true,
+            _ => return self.begin_wire(alloc, mark),
         }
         Ok(())
+    }
+
+    fn begin_wire(&mut self, alloc: Global, mark: &str) -> Result<(), Memory> {
+        let Some((party, until)) = connection(mark) else {
+            return self.pad(mark);
+        };
+        self.part = Part::Wire;
+        self.wires.push(Wire {
+            party,
+            says: Bytes::new(alloc),
+            until,
+        })
     }
 
     fn pad(&mut self, mark: &str) -> Result<(), Memory> {
@@ -103,8 +160,8 @@ impl Row {
         self.script.push(b'\n')
     }
 
-    /// A line of the policy or of the script.
-    pub fn line(&mut self, line: &str) -> Result<(), Memory> {
+    /// A line of the policy, of the script or of a connection.
+    pub fn line(&mut self, alloc: Global, line: &str) -> Result<(), Memory> {
         let bytes = match self.part {
             Part::Remarks => return Ok(()),
             Part::Policy => match &mut self.policy {
@@ -112,9 +169,21 @@ impl Row {
                 None => return Ok(()),
             },
             Part::Script => &mut self.script,
+            Part::Wire => return self.say(alloc, line),
         };
         bytes.extend_from_slice(line.as_bytes())?;
         bytes.push(b'\n')
+    }
+
+    /// The last connection says these digits' bytes too.
+    fn say(&mut self, alloc: Global, digits: &str) -> Result<(), Memory> {
+        let Ok(bytes) = hex::decode(alloc, digits) else {
+            return Ok(());
+        };
+        match self.wires.as_mut_slice().last_mut() {
+            Some(wire) => wire.says.extend_from_slice(bytes.as_slice()),
+            None => Ok(()),
+        }
     }
 
     fn files(&self, alloc: Global) -> Result<MemFiles, Memory> {
@@ -124,29 +193,66 @@ impl Row {
             let name = Text::from_slice(alloc, b"policy.toml")?;
             files.push(MemFile { name, bytes })?;
         }
-        Ok(MemFiles::new(files, first_if(alloc, self.fails_file)?))
+        Ok(MemFiles::new(files, first_if(alloc, self.fails.file)?))
+    }
+
+    /// A connection of the row, which says nothing more.
+    pub fn party(&self, number: usize) -> Option<Party> {
+        Some(self.wires.get(number)?.party)
     }
 }
 
-/// Runs the program with these words: what it wrote, and its status.
-pub fn play(alloc: Global, row: &Row, words: &str) -> Result<(Bytes, u8), Memory> {
+/// Runs the program with these words.
+pub fn play<R: Wait + Threads + Sync>(
+    rt: &R,
+    alloc: Global,
+    row: &Row,
+    words: &str,
+) -> Result<Played, Memory> {
     let words = words_of(alloc, words)?;
-    play_counted::<Brand>(alloc, row, words.as_slice(), Blank::new(1))
+    play_counted::<R, Brand>(rt, alloc, row, words.as_slice(), Blank::new(1))
 }
 
 /// The same, with a counter of steps of this ledger.
-fn play_counted<G: Ledger>(
+fn play_counted<R: Wait + Threads + Sync, G: Ledger>(
+    rt: &R,
     alloc: Global,
     row: &Row,
     words: &[String],
     blank: Blank,
-) -> Result<(Bytes, u8), Memory>
+) -> Result<Played, Memory>
     requires { (blank.name ≡ G.name) × (blank.parts ≡ G.parts) × (0 < blank.parts) }
 {
     let mut files = row.files(alloc)?;
-    let mut input = MemSource::new(row.script.copied()?, first_if(alloc, row.fails_script)?);
-    let mut out = MemSink::new(Bytes::new(alloc), first_if(alloc, row.fails_write)?);
+    let mut input = MemSource::new(row.script.copied()?, first_if(alloc, row.fails.script)?);
+    let mut out = MemSink::new(Bytes::new(alloc), first_if(alloc, row.fails.write)?);
+    let mut written = Vec::new(alloc);
+    for _ in row.wires.as_slice() {
+        written.push(Written::new(Bytes::new(alloc)))?;
+    }
+    let mut links = RowLinks::new(rt, row.wires.as_slice(), written.as_slice(), row.fails.dial);
+    let mut spawner = RowSpawner::new(row.fails.spawn);
+    let mut clock = MemClock::new(List::new(alloc));
     let mut steps = Steps::<G>::new(blank);
-    let status = run(alloc, words, &mut files, &mut input, &mut out, &mut steps);
-    Ok((out.held, status))
+    let status = run(
+        rt,
+        alloc,
+        words,
+        &mut files,
+        &mut input,
+        &mut out,
+        &mut links,
+        &mut spawner,
+        &mut clock,
+        &mut steps,
+    );
+    let mut wires = List::new(alloc);
+    for wire in written.as_slice() {
+        wires.push(wire.copy(rt)?)?;
+    }
+    Ok(Played {
+        out: out.held,
+        status,
+        wires,
+    })
 }

@@ -1,10 +1,8 @@
-use Rattle.std.proofs.Common.{◌≡◌, Err, Ok, Result, subst}
-use Rattle.policy_file.specs.Policies.{PolicyOf}
+use Rattle.std.proofs.Common.{Ok}
+use Rattle.replay_report.specs.Reports.{cut_report_of, report_of}
 use Rattle.covisor_proxy.specs.Asked.{stated}
-use Rattle.covisor_proxy.specs.Opening.{Opens}
 use Rattle.covisor_proxy.specs.Outcomes.{moment}
-use Rattle.covisor_proxy.specs.declared.opening.NoPolicy.{NoPolicy}
-use Rattle.covisor_proxy.proofs.Finishing.{over-policy}
+use Rattle.covisor_proxy.proofs.Finishing.{over-policy, replayed-unopened}
 use Rattle.covisor_proxy.proofs.forms.replay_file.Goals as goal
 
 pub returns-in-Ok-clause-ends : goal.returns-in-Ok-clause-ends
@@ -16,5 +14,11 @@ returns-in-Ok-clause-ends g c =
 
 pub returns-in-Err-clause-ends : goal.returns-in-Err-clause-ends
 returns-in-Err-clause-ends g c =
-    c.tell.ensures.ends (g.F.Files.files c.args.files.now) (g.F.Files.faults c.args.files.now) (g.F.Files.faults c.open.new.files) c.args.form
-    (g.S.Source.remaining c.args.input.now) (g.S.Source.faults c.args.input.now) c.in-Err.ensures
+    let old = moment (g.S.Source.remaining c.args.input.now) (g.S.Source.faults c.args.input.now) (g.K.Sink.held c.args.out.now) (g.K.Sink.faults c.args.out.now) in
+    let new = moment (g.S.Source.remaining c.args.input.now) (g.S.Source.faults c.args.input.now) (g.K.Sink.held c.tell.new.out) (g.K.Sink.faults c.tell.new.out) in
+    let files = g.F.Files.files c.args.files.now in
+    let fails = g.F.Files.faults c.args.files.now in
+    let fails' = g.F.Files.faults c.open.new.files in
+    replayed-unopened c.tell.result c.args.form c.args.name.now files fails fails' old new
+    (c.tell.ensures.ends files fails fails' report_of cut_report_of c.args.form
+    (g.S.Source.remaining c.args.input.now) (g.S.Source.faults c.args.input.now) c.in-Err.ensures)

@@ -1,5 +1,7 @@
 use Rattle.std.proofs.Common.{refl}
+use Rattle.hyper_core.specs.contracts.machine.HyperMachine.TheImpl.{ghosts as hyper}
 use Rattle.covisor_proxy.specs.Outcomes.{moment}
+use Rattle.covisor_proxy.specs.Serving.{links_of}
 use Rattle.command_line.specs.Forms.{command_of}
 use Rattle.covisor_proxy.proofs.Finishing.{ended-wanted}
 use Rattle.covisor_proxy.proofs.program.answer.Goals as goal
@@ -8,4 +10,5 @@ pub returns-in-Err-clause-ends : goal.returns-in-Err-clause-ends
 returns-in-Err-clause-ends g c =
     let here = moment (g.S.Source.remaining c.args.input.now) (g.S.Source.faults c.args.input.now) (g.K.Sink.held c.args.out.now) (g.K.Sink.faults c.args.out.now) in
     let fails = g.F.Files.faults c.args.files.now in
-    ended-wanted (command_of c.args.words.now) (g.F.Files.files c.args.files.now) fails fails here here refl
+    let links = links_of (g.L.Links.told c.args.links.now) (g.L.Links.is_reliable c.args.links.now) in
+    ended-wanted hyper links (command_of c.args.words.now) (g.F.Files.files c.args.files.now) fails fails here here refl

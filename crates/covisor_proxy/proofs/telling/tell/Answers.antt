@@ -2,7 +2,7 @@ use Rattle.std.proofs.Common.{◌≡◌, Err, Result, refl, subst, sym}
 use Rattle.policy_file.specs.Policies.{PolicyOf}
 use Rattle.covisor_proxy.specs.Opening.{Opens}
 use Rattle.covisor_proxy.specs.Outcomes.{moment}
-use Rattle.covisor_proxy.specs.Runs.{EndsOver}
+use Rattle.covisor_proxy.specs.Serving.{EndsUnopened}
 use Rattle.covisor_proxy.specs.declared.opening.NoPolicy.{NoPolicy}
 use Rattle.covisor_proxy.specs.declared.opening.NoPolicy.TheVariants.{Absent, Memory, Refused, Unread}
 use Rattle.covisor_proxy.specs.declared.status.Status.{Status}
@@ -10,29 +10,29 @@ use Rattle.covisor_proxy.proofs.Finishing.{told-absent, told-refused, told-unrea
 use Rattle.covisor_proxy.proofs.telling.tell.Goals as goal
 
 pub returns-in-Absent-clause-ends : goal.returns-in-Absent-clause-ends
-returns-in-Absent-clause-ends g c = λ files fails fails' form left reads o.
+returns-in-Absent-clause-ends g c = λ files fails fails' all cut form left reads o.
     let old = moment left reads (g.K.Sink.held c.args.out.now) (g.K.Sink.faults c.args.out.now) in
     let new = moment left reads (g.K.Sink.held c.tell_absent.new.out) (g.K.Sink.faults c.tell_absent.new.out) in
     let h : Opens files fails fails' c.args.name.now (Err Absent) = subst (λ (x : NoPolicy). Opens files fails fails' c.args.name.now (Err x)) c.in-Absent.is o in
-    told-absent c.tell_absent.result form c.args.name.now files fails fails' old new h c.tell_absent.ensures
+    told-absent all cut form c.args.name.now files fails fails' old new c.tell_absent.result h c.tell_absent.ensures
 
 pub returns-in-Unread-clause-ends : goal.returns-in-Unread-clause-ends
-returns-in-Unread-clause-ends g c = λ files fails fails' form left reads o.
+returns-in-Unread-clause-ends g c = λ files fails fails' all cut form left reads o.
     let old = moment left reads (g.K.Sink.held c.args.out.now) (g.K.Sink.faults c.args.out.now) in
     let new = moment left reads (g.K.Sink.held c.write_fault.new.out) (g.K.Sink.faults c.write_fault.new.out) in
     let h : Opens files fails fails' c.args.name.now (Err Unread) = subst (λ (x : NoPolicy). Opens files fails fails' c.args.name.now (Err x)) c.in-Unread.is o in
-    subst (λ (x : Status). EndsOver x form c.args.name.now files fails fails' old new) (sym c.write_fault.ensures.status)
-    (told-unread form c.args.name.now files fails fails' old new h c.write_fault.ensures.writes)
+    subst (λ (x : Status). EndsUnopened x all cut form c.args.name.now files fails fails' old new) (sym c.write_fault.ensures.status)
+    (told-unread all cut form c.args.name.now files fails fails' old new h c.write_fault.ensures.writes)
 
 pub returns-in-Refused-clause-ends : goal.returns-in-Refused-clause-ends
-returns-in-Refused-clause-ends g c = λ files fails fails' form left reads o.
+returns-in-Refused-clause-ends g c = λ files fails fails' all cut form left reads o.
     let old = moment left reads (g.K.Sink.held c.args.out.now) (g.K.Sink.faults c.args.out.now) in
     let new = moment left reads (g.K.Sink.held c.tell_refused.new.out) (g.K.Sink.faults c.tell_refused.new.out) in
     let h : Opens files fails fails' c.args.name.now (Err (Refused c.in-Refused.fault)) =
     subst (λ (x : NoPolicy). Opens files fails fails' c.args.name.now (Err x)) c.in-Refused.is o in
-    told-refused c.tell_refused.result form c.args.name.now c.in-Refused.fault files fails fails' old new h.0 h.1 h.2 c.tell_refused.ensures
+    told-refused all cut form c.args.name.now files fails fails' old new c.tell_refused.result c.in-Refused.fault h.0 h.1 h.2 c.tell_refused.ensures
 
 pub returns-in-Memory-clause-ends : goal.returns-in-Memory-clause-ends
-returns-in-Memory-clause-ends g c = λ files fails fails' form left reads o.
+returns-in-Memory-clause-ends g c = λ files fails fails' all cut form left reads o.
     let here = moment left reads (g.K.Sink.held c.args.out.now) (g.K.Sink.faults c.args.out.now) in
-    told-wanted form c.args.name.now files fails fails' here here refl
+    told-wanted all cut form c.args.name.now files fails fails' here here refl

@@ -1,0 +1,70 @@
+use Rattle.std.proofs.Common.{subst, sym}
+use Rattle.hyper_core.specs.contracts.machine.HyperMachine.TheImpl.{ghosts as hyper}
+use Rattle.policy_serving.specs.Places.{places_of}
+use Rattle.policy_serving.specs.Served.{ServesPolicy}
+use Rattle.covisor_proxy.specs.Outcomes.{moment}
+use Rattle.covisor_proxy.specs.Serving.{EndsServing, links_of}
+use Rattle.covisor_proxy.specs.declared.status.Status.{Status}
+use Rattle.covisor_proxy.proofs.Linking.{all_reliable}
+use Rattle.covisor_proxy.proofs.live.serve.Goals as goal
+
+pub returns-in-Done-clause-ends : goal.returns-in-Done-clause-ends
+returns-in-Done-clause-ends g c = λ left reads.
+    let told = g.L.Links.told c.args.links.now in
+    let reliable = g.L.Links.is_reliable c.args.links.now in
+    let held = g.K.Sink.held c.args.out.now in
+    let between = g.K.Sink.held c.serve_policy.new.out in
+    subst (ServesPolicy hyper told reliable c.args.policy held between) c.in-Done.is c.serve_policy.ensures.serves
+
+pub returns-in-Memory-clause-ends : goal.returns-in-Memory-clause-ends
+returns-in-Memory-clause-ends g c = λ left reads.
+    let told = g.L.Links.told c.args.links.now in
+    let reliable = g.L.Links.is_reliable c.args.links.now in
+    let held = g.K.Sink.held c.args.out.now in
+    let between = g.K.Sink.held c.serve_policy.new.out in
+    subst (ServesPolicy hyper told reliable c.args.policy held between) c.in-Memory.is c.serve_policy.ensures.serves
+
+pub returns-in-Write-clause-ends : goal.returns-in-Write-clause-ends
+returns-in-Write-clause-ends g c = λ left reads.
+    let told = g.L.Links.told c.args.links.now in
+    let reliable = g.L.Links.is_reliable c.args.links.now in
+    let held = g.K.Sink.held c.args.out.now in
+    let between = g.K.Sink.held c.serve_policy.new.out in
+    (c.serve_policy.ensures.write c.in-Write.is, subst (ServesPolicy hyper told reliable c.args.policy held between) c.in-Write.is c.serve_policy.ensures.serves)
+
+pub returns-in-Link-clause-ends : goal.returns-in-Link-clause-ends
+returns-in-Link-clause-ends g c = λ left reads.
+    let told = g.L.Links.told c.args.links.now in
+    let reliable = g.L.Links.is_reliable c.args.links.now in
+    let held = g.K.Sink.held c.args.out.now in
+    let between = g.K.Sink.held c.serve_policy.new.out in
+    let old = moment left reads held (g.K.Sink.faults c.args.out.now) in
+    let new = moment left reads (g.K.Sink.held c.write_fault.new.out) (g.K.Sink.faults c.write_fault.new.out) in
+    subst (λ (x : Status). EndsServing hyper (links_of told reliable) x c.args.policy old new) (sym c.write_fault.ensures.status)
+    (record {
+      between = between;
+      faults = g.K.Sink.faults c.serve_policy.new.out;
+      serves = subst (ServesPolicy hyper told reliable c.args.policy held between) c.in-Link.is c.serve_policy.ensures.serves;
+      tells = c.write_fault.ensures.writes;
+    })
+
+pub returns-in-Spawn-clause-ends : goal.returns-in-Spawn-clause-ends
+returns-in-Spawn-clause-ends g c = λ left reads.
+    let told = g.L.Links.told c.args.links.now in
+    let reliable = g.L.Links.is_reliable c.args.links.now in
+    let held = g.K.Sink.held c.args.out.now in
+    let between = g.K.Sink.held c.serve_policy.new.out in
+    let old = moment left reads held (g.K.Sink.faults c.args.out.now) in
+    let new = moment left reads (g.K.Sink.held c.write_fault-in-Spawn.new.out) (g.K.Sink.faults c.write_fault-in-Spawn.new.out) in
+    subst (λ (x : Status). EndsServing hyper (links_of told reliable) x c.args.policy old new) (sym c.write_fault-in-Spawn.ensures.status)
+    (record {
+      between = between;
+      faults = g.K.Sink.faults c.serve_policy.new.out;
+      serves = subst (ServesPolicy hyper told reliable c.args.policy held between) c.in-Spawn.is c.serve_policy.ensures.serves;
+      tells = c.write_fault-in-Spawn.ensures.writes;
+    })
+
+pub returns-in-Link-clause-link : goal.returns-in-Link-clause-link
+returns-in-Link-clause-link g c = λ is never.
+    let links = links_of (g.L.Links.told c.args.links.now) (g.L.Links.is_reliable c.args.links.now) in
+    c.serve_policy.ensures.link c.in-Link.is (all_reliable links never (places_of c.args.policy))

@@ -1,0 +1,88 @@
+//! The form `serve`.
+ghost use Rattle.std.specs.Prelude.{◌≡◌, ◌≢◌, List, Option, Some, ℕ};
+ghost use Rattle.cv_io.specs.Outside.{Rose};
+ghost use Rattle.command_line.specs.declared.command.Command.TheVariants as commands;
+ghost use Rattle.covisor_proxy.specs.Outcomes.{moment};
+ghost use Rattle.covisor_proxy.specs.Runs.{Ended};
+ghost use Rattle.covisor_proxy.specs.Serving.{EndsServing, NeverFail, links_of};
+
+use crate::ending::write_fault;
+use crate::opening::open;
+use crate::status::Status;
+use crate::telling::tell;
+use cv_io::{Clock, Dial, Files, Links, Sink, Spawner, Text};
+use hyper_core::Hyper;
+use policy_file::Policy;
+use policy_lock::Machine;
+use policy_serving::serve_policy;
+use serving::Served;
+use std::alloc::Global;
+use std::sync::Wait;
+use std::thread::Threads;
+
+/// Serves every endpoint of the policy of a file.
+pub(crate) fn serve_file<
+    R: Wait + Threads + Sync,
+    F: Files,
+    K: Sink + Send,
+    L: Links,
+    P: Spawner,
+    C: Clock + Send,
+>(
+    rt: &R,
+    alloc: Global,
+    name: &Text,
+    files: &mut F,
+    out: &mut K,
+    links: &mut L,
+    spawner: &mut P,
+    clock: &mut C,
+) -> Status
+where
+    L::Dial: Drop,
+    <L::Dial as Dial>::In: Drop + Send,
+    <L::Dial as Dial>::Out: Drop + Send,
+    ensures ends { (left : Option (List ℕ)) (reads : ℕ) → Ended ⟦<Hyper as Machine>⟧
+        (links_of (L.told links.old) (L.is_reliable links.old)) result (Some (commands.Serve name.now))
+        (F.files files.old) (F.faults files.old) (F.faults files.new)
+        (moment left reads (K.held out.old) (K.faults out.old)) (moment left reads (K.held out.new) (K.faults out.new)) }
+    ensures form { result ≢ Status.Usage }
+    ensures link { result ≡ Status.Link → NeverFail (links_of (L.told links.old) (L.is_reliable links.old))
+        → Rose (L.faults links.old) (L.faults links.new) }
+    ensures spawn { result ≡ Status.Spawn → Rose (P.faults spawner.old) (P.faults spawner.new) }
+{
+    match open(alloc, files, name) {
+        Ok(policy) => serve(rt, alloc, policy, out, links, spawner, clock),
+        Err(fault) => tell(alloc, name, fault, out),
+    }
+}
+
+/// Serves every endpoint of a policy.
+fn serve<R: Wait + Threads + Sync, K: Sink + Send, L: Links, P: Spawner, C: Clock + Send>(
+    rt: &R,
+    alloc: Global,
+    policy: Policy,
+    out: &mut K,
+    links: &mut L,
+    spawner: &mut P,
+    clock: &mut C,
+) -> Status
+where
+    L::Dial: Drop,
+    <L::Dial as Dial>::In: Drop + Send,
+    <L::Dial as Dial>::Out: Drop + Send,
+    ensures ends { (left : Option (List ℕ)) (reads : ℕ) → EndsServing ⟦<Hyper as Machine>⟧
+        (links_of (L.told links.old) (L.is_reliable links.old)) result policy
+        (moment left reads (K.held out.old) (K.faults out.old)) (moment left reads (K.held out.new) (K.faults out.new)) }
+    ensures link { result ≡ Status.Link → NeverFail (links_of (L.told links.old) (L.is_reliable links.old))
+        → Rose (L.faults links.old) (L.faults links.new) }
+    ensures spawn { result ≡ Status.Spawn → Rose (P.faults spawner.old) (P.faults spawner.new) }
+{
+    match serve_policy(rt, alloc, policy, out, links, spawner, clock) {
+        Served::Done => Status::Done,
+        Served::Link => write_fault(out, b"fault link\n", Status::Link),
+        Served::Spawn => write_fault(out, b"fault spawn\n", Status::Spawn),
+        Served::Write => Status::Write,
+        Served::Memory => Status::Memory,
+    }
+}
