@@ -41,13 +41,16 @@ served_by (Some (commands.ExplainPolicy name)) file = None
 served_by (Some (commands.Make seed count)) file = None
 served_by None file = None
 
--- what links tell: the connections of an endpoint, and whether its dial never fails
+-- what links tell: the connections of an endpoint, whether its dial never fails, and how many of their calls failed
+-- before and after
 pub record LinksOf : Type 0 where
   pub told : Endpoint → Option (List Connection)
   pub reliable : Endpoint → Bool
+  pub faults : ℕ
+  pub risen : ℕ
 
-abbrev pub links_of : (Endpoint → Option (List Connection)) → (Endpoint → Bool) → LinksOf
-links_of told reliable = record { told = told; reliable = reliable }
+abbrev pub links_of : (Endpoint → Option (List Connection)) → (Endpoint → Bool) → (faults risen : ℕ) → LinksOf
+links_of told reliable faults risen = record { told = told; reliable = reliable; faults = faults; risen = risen }
 
 -- no dial ever fails
 abbrev pub NeverFail : LinksOf → Type 0
@@ -58,17 +61,17 @@ module _ {M : Type 0} (g : Ghosts M Event Reply StateData) (links : LinksOf) whe
   pub record ServesAndTells (p : PolicyOf) (served : Served) (last : List ℕ) (old new : Moment) : Type 0 where
     pub between : Option (List ℕ)
     pub faults : ℕ
-    pub serves : ServesPolicy g links.told links.reliable p old.held between served
+    pub serves : ServesPolicy g links.told links.reliable p old.held between links.faults links.risen served
     pub tells : Writes between new.held faults new.writes last
 
   -- how serving a policy ends
   abbrev pub EndsServing : Status → PolicyOf → Moment → Moment → Type 0
-  EndsServing Done p old new = ServesPolicy g links.told links.reliable p old.held new.held serveds.Done
+  EndsServing Done p old new = ServesPolicy g links.told links.reliable p old.held new.held links.faults links.risen serveds.Done
   EndsServing Write p old new =
-      Rose old.writes new.writes × ServesPolicy g links.told links.reliable p old.held new.held serveds.Write
+      Rose old.writes new.writes × ServesPolicy g links.told links.reliable p old.held new.held links.faults links.risen serveds.Write
   EndsServing Link p old new = ServesAndTells p serveds.Link (as_line (codes "fault link")) old new
   EndsServing Spawn p old new = ServesAndTells p serveds.Spawn (as_line (codes "fault spawn")) old new
-  EndsServing Memory p old new = ServesPolicy g links.told links.reliable p old.held new.held serveds.Memory
+  EndsServing Memory p old new = ServesPolicy g links.told links.reliable p old.held new.held links.faults links.risen serveds.Memory
   EndsServing Usage p old new = ⊥
   EndsServing Policy p old new = ⊥
   EndsServing Line p old new = ⊥

@@ -43,11 +43,12 @@ where
     <L::Dial as Dial>::In: Drop + Send,
     <L::Dial as Dial>::Out: Drop + Send,
     ensures ends { (left : Option (List ℕ)) (reads : ℕ) → Ended ⟦<Hyper as Machine>⟧
-        (links_of (L.told links.old) (L.is_reliable links.old)) result (Some (commands.Serve name.now))
-        (F.files files.old) (F.faults files.old) (F.faults files.new)
+        (links_of (L.told links.old) (L.is_reliable links.old) (L.faults links.old) (L.faults links.new)) result
+        (Some (commands.Serve name.now)) (F.files files.old) (F.faults files.old) (F.faults files.new)
         (moment left reads (K.held out.old) (K.faults out.old)) (moment left reads (K.held out.new) (K.faults out.new)) }
     ensures form { result ≢ Status.Usage }
-    ensures link { result ≡ Status.Link → NeverFail (links_of (L.told links.old) (L.is_reliable links.old))
+    ensures link { result ≡ Status.Link
+        → NeverFail (links_of (L.told links.old) (L.is_reliable links.old) (L.faults links.old) (L.faults links.new))
         → Rose (L.faults links.old) (L.faults links.new) }
     ensures spawn { result ≡ Status.Spawn → Rose (P.faults spawner.old) (P.faults spawner.new) }
 {
@@ -72,9 +73,10 @@ where
     <L::Dial as Dial>::In: Drop + Send,
     <L::Dial as Dial>::Out: Drop + Send,
     ensures ends { (left : Option (List ℕ)) (reads : ℕ) → EndsServing ⟦<Hyper as Machine>⟧
-        (links_of (L.told links.old) (L.is_reliable links.old)) result policy
+        (links_of (L.told links.old) (L.is_reliable links.old) (L.faults links.old) (L.faults links.new)) result policy
         (moment left reads (K.held out.old) (K.faults out.old)) (moment left reads (K.held out.new) (K.faults out.new)) }
-    ensures link { result ≡ Status.Link → NeverFail (links_of (L.told links.old) (L.is_reliable links.old))
+    ensures link { result ≡ Status.Link
+        → NeverFail (links_of (L.told links.old) (L.is_reliable links.old) (L.faults links.old) (L.faults links.new))
         → Rose (L.faults links.old) (L.faults links.new) }
     ensures spawn { result ≡ Status.Spawn → Rose (P.faults spawner.old) (P.faults spawner.new) }
 {

@@ -60,7 +60,8 @@ where
     L::Dial: Drop,
     <L::Dial as Dial>::In: Drop + Send,
     <L::Dial as Dial>::Out: Drop + Send,
-    ensures runs { Runs ⟦<Hyper as Machine>⟧ (links_of (L.told links.old) (L.is_reliable links.old)) result
+    ensures runs { Runs ⟦<Hyper as Machine>⟧
+        (links_of (L.told links.old) (L.is_reliable links.old) (L.faults links.old) (L.faults links.new)) result
         (command_of words.now) (F.files files.old) (F.faults files.old) (F.faults files.new)
         (moment (S.remaining input.old) (S.faults input.old) (K.held out.old) (K.faults out.old))
         (moment (S.remaining input.new) (S.faults input.new) (K.held out.new) (K.faults out.new)) }
@@ -69,11 +70,13 @@ where
     ensures absent { result ≡ 7 → IsAbsent (command_of words.now) (F.files files.old) }
     ensures read { result ≡ 5 → Rose (F.faults files.old) (F.faults files.new) ⊎ Rose (S.faults input.old) (S.faults input.new) }
     ensures write { result ≡ 6 → Rose (K.faults out.old) (K.faults out.new) }
-    ensures link { result ≡ 8 → NeverFail (links_of (L.told links.old) (L.is_reliable links.old))
+    ensures link { result ≡ 8
+        → NeverFail (links_of (L.told links.old) (L.is_reliable links.old) (L.faults links.old) (L.faults links.new))
         → Rose (L.faults links.old) (L.faults links.new) }
     ensures spawn { result ≡ 9 → Rose (P.faults spawner.old) (P.faults spawner.new) }
     ensures whole { result ≡ 0 → has_script (command_of words.now) ≡ true → IsAtEnd (S.remaining input.new) }
-    ensures complete { IsComplete (links_of (L.told links.old) (L.is_reliable links.old)) result
+    ensures complete { IsComplete
+        (links_of (L.told links.old) (L.is_reliable links.old) (L.faults links.old) (L.faults links.new)) result
         (command_of words.now) (F.files files.old)
         (calls (F.faults files.old) (L.faults links.old) (P.faults spawner.old))
         (calls (F.faults files.new) (L.faults links.new) (P.faults spawner.new))
@@ -107,12 +110,14 @@ where
     L::Dial: Drop,
     <L::Dial as Dial>::In: Drop + Send,
     <L::Dial as Dial>::Out: Drop + Send,
-    ensures ends { Ended ⟦<Hyper as Machine>⟧ (links_of (L.told links.old) (L.is_reliable links.old)) result
+    ensures ends { Ended ⟦<Hyper as Machine>⟧
+        (links_of (L.told links.old) (L.is_reliable links.old) (L.faults links.old) (L.faults links.new)) result
         (command_of words.now) (F.files files.old) (F.faults files.old) (F.faults files.new)
         (moment (S.remaining input.old) (S.faults input.old) (K.held out.old) (K.faults out.old))
         (moment (S.remaining input.new) (S.faults input.new) (K.held out.new) (K.faults out.new)) }
     ensures usage { (result ≡ Status.Usage) ↔ (command_of words.now ≡ None) }
-    ensures link { result ≡ Status.Link → NeverFail (links_of (L.told links.old) (L.is_reliable links.old))
+    ensures link { result ≡ Status.Link
+        → NeverFail (links_of (L.told links.old) (L.is_reliable links.old) (L.faults links.old) (L.faults links.new))
         → Rose (L.faults links.old) (L.faults links.new) }
     ensures spawn { result ≡ Status.Spawn → Rose (P.faults spawner.old) (P.faults spawner.new) }
     ensures whole { result ≡ Status.Done → has_script (command_of words.now) ≡ true → IsAtEnd (S.remaining input.new) }
@@ -147,12 +152,14 @@ where
     L::Dial: Drop,
     <L::Dial as Dial>::In: Drop + Send,
     <L::Dial as Dial>::Out: Drop + Send,
-    ensures ends { Ended ⟦<Hyper as Machine>⟧ (links_of (L.told links.old) (L.is_reliable links.old)) result
+    ensures ends { Ended ⟦<Hyper as Machine>⟧
+        (links_of (L.told links.old) (L.is_reliable links.old) (L.faults links.old) (L.faults links.new)) result
         (command) (F.files files.old) (F.faults files.old) (F.faults files.new)
         (moment (S.remaining input.old) (S.faults input.old) (K.held out.old) (K.faults out.old))
         (moment (S.remaining input.new) (S.faults input.new) (K.held out.new) (K.faults out.new)) }
     ensures usage { (result ≡ Status.Usage) ↔ (command ≡ None) }
-    ensures link { result ≡ Status.Link → NeverFail (links_of (L.told links.old) (L.is_reliable links.old))
+    ensures link { result ≡ Status.Link
+        → NeverFail (links_of (L.told links.old) (L.is_reliable links.old) (L.faults links.old) (L.faults links.new))
         → Rose (L.faults links.old) (L.faults links.new) }
     ensures spawn { result ≡ Status.Spawn → Rose (P.faults spawner.old) (P.faults spawner.new) }
     ensures whole { result ≡ Status.Done → has_script (command) ≡ true → IsAtEnd (S.remaining input.new) }
@@ -187,12 +194,14 @@ where
     L::Dial: Drop,
     <L::Dial as Dial>::In: Drop + Send,
     <L::Dial as Dial>::Out: Drop + Send,
-    ensures ends { Ended ⟦<Hyper as Machine>⟧ (links_of (L.told links.old) (L.is_reliable links.old)) result
+    ensures ends { Ended ⟦<Hyper as Machine>⟧
+        (links_of (L.told links.old) (L.is_reliable links.old) (L.faults links.old) (L.faults links.new)) result
         (Some command) (F.files files.old) (F.faults files.old) (F.faults files.new)
         (moment (S.remaining input.old) (S.faults input.old) (K.held out.old) (K.faults out.old))
         (moment (S.remaining input.new) (S.faults input.new) (K.held out.new) (K.faults out.new)) }
     ensures form { result ≢ Status.Usage }
-    ensures link { result ≡ Status.Link → NeverFail (links_of (L.told links.old) (L.is_reliable links.old))
+    ensures link { result ≡ Status.Link
+        → NeverFail (links_of (L.told links.old) (L.is_reliable links.old) (L.faults links.old) (L.faults links.new))
         → Rose (L.faults links.old) (L.faults links.new) }
     ensures spawn { result ≡ Status.Spawn → Rose (P.faults spawner.old) (P.faults spawner.new) }
     ensures whole { result ≡ Status.Done → has_script (Some command) ≡ true → IsAtEnd (S.remaining input.new) }

@@ -82,9 +82,9 @@ module _ {M : Type 0} (g : Ghosts M Event Reply StateData) (kept : AuditIsKept g
       (sym (ap lines (made_is log legal) ∙ flat_map-append (λ (line : List ℕ). line ++ 10 ∷ []) taken waiting))
 
   module _ (idle : g.idle ≡ is_idle) (told : Endpoint → Option (List Connection)) (reliable : Endpoint → Bool)
-      (places : List Place) (held written : Option (List ℕ)) where
-    whole : (undialled failed wanted : Bool) → WritesAll g start told reliable lines_taken places held written undialled failed wanted
-        → WritesAll g start told reliable (lines_made g start) places held written undialled failed wanted
+      (places : List Place) (held written : Option (List ℕ)) (faults risen : ℕ) where
+    whole : (undialled failed wanted : Bool) → WritesAll g start told reliable lines_taken places held written faults risen undialled failed wanted
+        → WritesAll g start told reliable (lines_made g start) places held written faults risen undialled failed wanted
     whole undialled failed wanted w =
         let all = w.log ++ w.rest in
         let end = after g start all in
@@ -93,12 +93,13 @@ module _ {M : Type 0} (g : Ghosts M Event Reply StateData) (kept : AuditIsKept g
           log = w.log;
           rest = w.rest;
           run = w.run;
+          undials = w.undials;
           drained = w.drained;
           wrote = subst (λ (l : List (List ℕ)). Appends held written (lines l)) (all_made all w.run.legal empty) w.wrote;
         }
 
-    begun : WritesSome g start told reliable lines_taken places held written
-        → WritesSome g start told reliable (lines_made g start) places held written
+    begun : WritesSome g start told reliable lines_taken places held written faults risen
+        → WritesSome g start told reliable (lines_made g start) places held written faults risen
     begun w =
         let all = w.log ++ w.rest in
         record {
@@ -108,12 +109,13 @@ module _ {M : Type 0} (g : Ghosts M Event Reply StateData) (kept : AuditIsKept g
           log = w.log;
           rest = w.rest;
           run = w.run;
+          undials = w.undials;
           count = min w.count (length (lines (lines_taken all)));
           wrote = subst (Appends held written) (some_made all w.run.legal w.count) w.wrote;
         }
 
-    pub made : (served : Served) → Serves g start told reliable lines_taken places held written served
-        → Serves g start told reliable (lines_made g start) places held written served
+    pub made : (served : Served) → Serves g start told reliable lines_taken places held written faults risen served
+        → Serves g start told reliable (lines_made g start) places held written faults risen served
     made Done w = whole false false false w
     made Link w = (w.0, (w.1.0, (w.1.1.0, whole w.0 w.1.0 w.1.1.0 w.1.1.1)))
     made Spawn same = same

@@ -41,7 +41,7 @@ where
     <L::Dial as Dial>::In: Drop + Send,
     <L::Dial as Dial>::Out: Drop + Send,
     ensures serves { ServesPolicy ⟦<Hyper as Machine>⟧ (L.told links.old) (L.is_reliable links.old) policy
-        (K.held out.old) (K.held out.new) result }
+        (K.held out.old) (K.held out.new) (L.faults links.old) (L.faults links.new) result }
     ensures link { result ≡ Served.Link → All (λ place. L.is_reliable links.old place.end ≡ true) (places_of policy)
         → Rose (L.faults links.old) (L.faults links.new) }
     ensures spawn { result ≡ Served.Spawn → Rose (P.faults spawner.old) (P.faults spawner.new) }

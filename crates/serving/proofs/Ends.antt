@@ -128,7 +128,9 @@ module _ {M S D : Type 0} (g : Ghosts M Event Reply S) (lock : LockOf S) (told :
         by rests.Written false true e f = absurd (cc)
         by rests.Written false false e f = absurd (cc)
 
-    module _ (undialled : Bool) (places : List Place) (are : AreLinesOf told reliable left never_fails undialled places line_list)
+    -- links of which so many calls failed before and after, one where an endpoint could not be dialled
+    module _ (misses missed : ℕ) (undialled : Bool) (undials : undialled ≡ true → Rose misses missed) (places : List Place)
+        (are : AreLinesOf told reliable left never_fails undialled places line_list)
         (silent : All IsSilent old) (m : M) (c : IsClosed g lock.start new m) where
       mute : All IsSilent (w.front ++ w.last ∷ [])
       mute = subst (All IsSilent) w.were silent
@@ -199,11 +201,12 @@ module _ {M S D : Type 0} (g : Ghosts M Event Reply S) (lock : LockOf S) (told :
         module _ (wrote : Appends held mid (lines (taken_in more))) (written : Option (List ℕ)) where
           -- all that waited was written too
           pub writes-all : (t : S) → WroteRest g (g.meaning m) t mid written → g.idle t (Take audit) ≡ true
-              → WritesAll g lock.start told reliable lines_taken places held written undialled failed wanted
+              → WritesAll g lock.start told reliable lines_taken places held written misses missed undialled failed wanted
           writes-all t r idle = record {
             log = c.log;
             rest = r.rest;
             run = run-with r.rest r.takings (subst (λ (s : S). IsLegal g s r.rest) c.means r.legal);
+            undials = undials;
             drained =
                 subst (λ (s : S). g.idle s (Take audit) ≡ true)
                 (r.means ∙ (ap (λ (s : S). after g s r.rest) c.means ∙ sym (after-append g lock.start c.log r.rest))) idle;
@@ -213,7 +216,7 @@ module _ {M S D : Type 0} (g : Ghosts M Event Reply S) (lock : LockOf S) (told :
 
           -- some of it was
           pub writes-some : (s t : S) → s ≡ g.meaning m → WroteRestUpTo g s t mid written
-              → WritesSome g lock.start told reliable lines_taken places held written
+              → WritesSome g lock.start told reliable lines_taken places held written misses missed
           writes-some s t is r = record {
             undialled = undialled;
             failed = failed;
@@ -221,6 +224,7 @@ module _ {M S D : Type 0} (g : Ghosts M Event Reply S) (lock : LockOf S) (told :
             log = c.log;
             rest = r.rest;
             run = run-with r.rest r.takings (subst (λ (s : S). IsLegal g s r.rest) (is ∙ c.means) r.legal);
+            undials = undials;
             count = length (lines (taken_in more)) + r.count;
             wrote = subst (λ l. Appends held written (take (length (lines (taken_in more)) + r.count) l)) (sym (all-lines r.rest))
                 (subst (Appends held written) (sym (take-append-add (lines (taken_in more)) (lines (lines_taken r.rest)) r.count))
@@ -229,7 +233,7 @@ module _ {M S D : Type 0} (g : Ghosts M Event Reply S) (lock : LockOf S) (told :
 
         -- the end of what was taken is cut off
         pub writes-cut : (count : ℕ) → Appends held mid (take count (lines (taken_in more)))
-            → WritesSome g lock.start told reliable lines_taken places held mid
+            → WritesSome g lock.start told reliable lines_taken places held mid misses missed
         writes-cut count wrote = record {
           undialled = undialled;
           failed = failed;
@@ -237,16 +241,17 @@ module _ {M S D : Type 0} (g : Ghosts M Event Reply S) (lock : LockOf S) (told :
           log = c.log;
           rest = [];
           run = run-with [] (All-nil TakesLine) (record {});
+          undials = undials;
           count = count;
           wrote = subst (λ l. Appends held mid (take count l)) (sym (all-lines [] ∙ append-nil (lines (taken_in more)))) wrote;
         }
 
       -- a run whose audit could not be written
-      pub serves-cut : is_cut_off end ≡ true → Serves g lock.start told reliable lines_taken places held mid serveds.Write
+      pub serves-cut : is_cut_off end ≡ true → Serves g lock.start told reliable lines_taken places held mid misses missed serveds.Write
       serves-cut cut = by end cut w.audit
         where
           by : (e : Result AuditEnd Memory) → is_cut_off e ≡ true → HasWrittenAudit (own_posts w.last.pass) held mid faults risen (own_posts w.last_new.pass) e
-              → WritesSome g lock.start told reliable lines_taken places held mid
+              → WritesSome g lock.start told reliable lines_taken places held mid misses missed
           by (Ok ends.WriteFault) is h = writes-cut h.0.more h.0.each h.0.posted h.0.count h.0.wrote
           by (Ok ends.Ended) is h = absurd (cc)
           by (Err m) is h = absurd (cc)
@@ -261,8 +266,8 @@ module _ {M S D : Type 0} (g : Ghosts M Event Reply S) (lock : LockOf S) (told :
           by (Ok ends.Ended) is h = h.0
           by (Err m) is h = h.0
 
-      some-of : (written : Option (List ℕ)) → WritesAll g lock.start told reliable lines_taken places held written undialled failed wanted
-          → WritesSome g lock.start told reliable lines_taken places held written
+      some-of : (written : Option (List ℕ)) → WritesAll g lock.start told reliable lines_taken places held written misses missed undialled failed wanted
+          → WritesSome g lock.start told reliable lines_taken places held written misses missed
       some-of written a = record {
         undialled = undialled;
         failed = failed;
@@ -270,6 +275,7 @@ module _ {M S D : Type 0} (g : Ghosts M Event Reply S) (lock : LockOf S) (told :
         log = a.log;
         rest = a.rest;
         run = a.run;
+        undials = a.undials;
         count = length (lines (lines_taken (a.log ++ a.rest)));
         wrote = subst (Appends held written) (sym (take_all (length (lines (lines_taken (a.log ++ a.rest)))) (lines (lines_taken (a.log ++ a.rest))) (grind arith))) a.wrote;
       }
@@ -277,7 +283,7 @@ module _ {M S D : Type 0} (g : Ghosts M Event Reply S) (lock : LockOf S) (told :
       -- and what waited, as far as is told
       pub serves-rest : is_cut_off end ≡ false → (lost : Bool) (t : S) (written : Option (List ℕ)) (before after : ℕ) (rest : Rest)
           → EndsRest g (g.meaning m) t mid written before after rest
-          → Serves g lock.start told reliable lines_taken places held written (settled rest (undialled || failed) (wanted || lost))
+          → Serves g lock.start told reliable lines_taken places held written misses missed (settled rest (undialled || failed) (wanted || lost))
       serves-rest whole lost t written before after rests.WriteFault h =
           let a = audited whole in writes-some a.more a.each a.posted a.wrote written (g.meaning m) t refl h.0
       serves-rest whole lost t written before after rests.Memory h =
@@ -288,15 +294,15 @@ module _ {M S D : Type 0} (g : Ghosts M Event Reply S) (lock : LockOf S) (told :
           by (undialled || failed) (wanted || lost) refl refl (writes-all a.more a.each a.posted a.wrote written t h.0 h.1)
         where
           by : (x y : Bool) → (undialled || failed) ≡ x → (wanted || lost) ≡ y
-              → WritesAll g lock.start told reliable lines_taken places held written undialled failed wanted
-              → Serves g lock.start told reliable lines_taken places held written (settled rests.Written x y)
+              → WritesAll g lock.start told reliable lines_taken places held written misses missed undialled failed wanted
+              → Serves g lock.start told reliable lines_taken places held written misses missed (settled rests.Written x y)
           by true y e d a = (undialled, (failed, (wanted, a)))
           by false true e d a = inr (some-of written a)
           by false false e d a =
               let u = neither undialled failed e in let v = neither wanted lost d in
-              subst (λ (x : Bool). WritesAll g lock.start told reliable lines_taken places held written x false false) u.0
-              (subst (λ (x : Bool). WritesAll g lock.start told reliable lines_taken places held written undialled x false) u.1
-              (subst (λ (x : Bool). WritesAll g lock.start told reliable lines_taken places held written undialled failed x) v.0 a))
+              subst (λ (x : Bool). WritesAll g lock.start told reliable lines_taken places held written misses missed x false false) u.0
+              (subst (λ (x : Bool). WritesAll g lock.start told reliable lines_taken places held written misses missed undialled x false) u.1
+              (subst (λ (x : Bool). WritesAll g lock.start told reliable lines_taken places held written misses missed undialled failed x) v.0 a))
 
 -- no run ends so for want of works
 pub never-spawns : (rest : Rest) (x y : Bool) → settled rest x y ≡ serveds.Spawn → ⊥

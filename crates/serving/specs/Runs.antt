@@ -1,6 +1,7 @@
 -- What a run comes to: the history of its lock, whose works posted it, and what is written.
 use Rattle.std.specs.Prelude.{◌≡◌, ◌⊎◌, ℕ, Bool, true, false, List, [], ◌∷◌, ◌++◌, Option, All, IsTrue, take}
 use Rattle.cv_io.specs.Connections.{Connection}
+use Rattle.cv_io.specs.Outside.{Rose}
 use Rattle.cv_io.specs.declared.leaf.Session.{Session}
 use Rattle.cv_io.specs.declared.links.Endpoint.{Endpoint}
 use Rattle.events.specs.declared.event.Event.{Event}
@@ -83,13 +84,15 @@ module _ {M S : Type 0} (g : Ghosts M Event Reply S) (start : S)
     pub under : All (λ (x : Entry Event Reply). IsTrue (has_number x.by numbers)) log
     pub works : AreServed undialled failed wanted places log numbers
 
-  -- of the lines of the audit that a history has
-  module _ (audit_of : List (Entry Event Reply) → List (List ℕ)) (places : List Place) (held written : Option (List ℕ)) where
+  -- of the lines of the audit that a history has, and of links of which so many calls failed before and after
+  module _ (audit_of : List (Entry Event Reply) → List (List ℕ)) (places : List Place) (held written : Option (List ℕ))
+      (faults risen : ℕ) where
     -- each line of the audit is written, in its turn and once, and no further one can be taken
     pub record WritesAll (undialled failed wanted : Bool) : Type 0 where
       pub log : List (Entry Event Reply)
       pub rest : List (Entry Event Reply)
       pub run : IsRun undialled failed wanted places log rest
+      pub undials : undialled ≡ true → Rose faults risen
       pub drained : g.idle (after g start (log ++ rest)) (Take audit) ≡ true
       pub wrote : Appends held written (lines (audit_of (log ++ rest)))
 
@@ -101,10 +104,11 @@ module _ {M S : Type 0} (g : Ghosts M Event Reply S) (start : S)
       pub log : List (Entry Event Reply)
       pub rest : List (Entry Event Reply)
       pub run : IsRun undialled failed wanted places log rest
+      pub undials : undialled ≡ true → Rose faults risen
       pub count : ℕ
       pub wrote : Appends held written (take count (lines (audit_of (log ++ rest))))
 
-    -- how a run ends: where all is done, no dial failed and no memory was wanted
+    -- how a run ends: where all is done, every endpoint was dialled, no dial failed and no memory was wanted
     abbrev pub Serves : Served → Type 0
     Serves Done = WritesAll false false false
     Serves Link = (undialled : Bool) × ((failed : Bool) × ((wanted : Bool) × WritesAll undialled failed wanted))

@@ -1,6 +1,6 @@
 //! Attending to the endpoints that were dialled.
 ghost use Rattle.std.specs.Prelude.{◌≡◌, ◌≢◌, ◌<◌, ◌+◌, ◌*◌, ◌^◌, ◌||◌, [], All, Bool, IfOk, List, OnErr, Option, false, length, true};
-ghost use Rattle.std.specs.Prelude.{is_err, vec_capacity};
+ghost use Rattle.std.specs.Prelude.{ℕ, is_err, vec_capacity};
 ghost use Rattle.cv_io.specs.Connections.{Connection};
 ghost use Rattle.cv_io.specs.Outside.{Rose};
 ghost use Rattle.cv_io.specs.declared.links.Endpoint.{Endpoint};
@@ -57,8 +57,10 @@ where
     requires empty { room.items ≡ [] }
     requires room { 2 * length lines.lines < vec_capacity room }
     ensures serves { IfOk result (λ served. (told : Endpoint → Option (List Connection)) (reliable : Endpoint → Bool)
-        (places : List Place) → AreLinesOf told reliable D.left D.is_reliable lines.failed places lines.lines
-        → Serves ⟦<H::Machine as Machine>⟧ lock.start told reliable lines_taken places (K.held out.old) (K.held out.new) served) }
+        (places : List Place) (faults risen : ℕ) → (lines.failed ≡ true → Rose faults risen)
+        → AreLinesOf told reliable D.left D.is_reliable lines.failed places lines.lines
+        → Serves ⟦<H::Machine as Machine>⟧ lock.start told reliable lines_taken places (K.held out.old) (K.held out.new)
+        faults risen served) }
     ensures link { IfOk result (λ served. served ≡ Served.Link → lines.failed ≡ false
         → All (λ line. D.is_reliable line.dial ≡ true) lines.lines → ⊥) }
     ensures spawn { IfOk result (λ served. served ≢ Served.Spawn) }

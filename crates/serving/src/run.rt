@@ -61,7 +61,8 @@ where
     requires served { All (λ place. IsServedSide (H.knows (H.Machine.meaning machine)) place.side) places }
     requires few { 2 * length places + 1 < 2 ^ 32 }
     ensures serves { Serves ⟦<H::Machine as Machine>⟧ (H.Machine.meaning machine) (L.told links.old)
-        (L.is_reliable links.old) lines_taken places (K.held out.old) (K.held out.new) result }
+        (L.is_reliable links.old) lines_taken places (K.held out.old) (K.held out.new)
+        (L.faults links.old) (L.faults links.new) result }
     ensures link { result ≡ Served.Link → All (λ place. L.is_reliable links.old place.end ≡ true) places
         → Rose (L.faults links.old) (L.faults links.new) }
     ensures spawn { result ≡ Served.Spawn → Rose (P.faults spawner.old) (P.faults spawner.new) }
@@ -98,7 +99,8 @@ where
     requires served { All (λ place. IsServedSide (H.knows (H.Machine.meaning machine)) place.side) places }
     requires few { 2 * length places + 1 < 2 ^ 32 }
     ensures serves { IfOk result (Serves ⟦<H::Machine as Machine>⟧ (H.Machine.meaning machine) (L.told links.old)
-        (L.is_reliable links.old) lines_taken places (K.held out.old) (K.held out.new)) }
+        (L.is_reliable links.old) lines_taken places (K.held out.old) (K.held out.new)
+        (L.faults links.old) (L.faults links.new)) }
     ensures link { IfOk result (λ served. served ≡ Served.Link
         → All (λ place. L.is_reliable links.old place.end ≡ true) places
         → Rose (L.faults links.old) (L.faults links.new)) }

@@ -14,7 +14,9 @@ returns-in-Done-clause-ends g c = λ left reads.
     let reliable = g.L.Links.is_reliable c.args.links.now in
     let held = g.K.Sink.held c.args.out.now in
     let between = g.K.Sink.held c.serve_policy.new.out in
-    subst (ServesPolicy hyper told reliable c.args.policy held between) c.in-Done.is c.serve_policy.ensures.serves
+    let faults = g.L.Links.faults c.args.links.now in
+    let risen = g.L.Links.faults c.serve_policy.new.links in
+    subst (ServesPolicy hyper told reliable c.args.policy held between faults risen) c.in-Done.is c.serve_policy.ensures.serves
 
 pub returns-in-Memory-clause-ends : goal.returns-in-Memory-clause-ends
 returns-in-Memory-clause-ends g c = λ left reads.
@@ -22,7 +24,9 @@ returns-in-Memory-clause-ends g c = λ left reads.
     let reliable = g.L.Links.is_reliable c.args.links.now in
     let held = g.K.Sink.held c.args.out.now in
     let between = g.K.Sink.held c.serve_policy.new.out in
-    subst (ServesPolicy hyper told reliable c.args.policy held between) c.in-Memory.is c.serve_policy.ensures.serves
+    let faults = g.L.Links.faults c.args.links.now in
+    let risen = g.L.Links.faults c.serve_policy.new.links in
+    subst (ServesPolicy hyper told reliable c.args.policy held between faults risen) c.in-Memory.is c.serve_policy.ensures.serves
 
 pub returns-in-Write-clause-ends : goal.returns-in-Write-clause-ends
 returns-in-Write-clause-ends g c = λ left reads.
@@ -30,7 +34,9 @@ returns-in-Write-clause-ends g c = λ left reads.
     let reliable = g.L.Links.is_reliable c.args.links.now in
     let held = g.K.Sink.held c.args.out.now in
     let between = g.K.Sink.held c.serve_policy.new.out in
-    (c.serve_policy.ensures.write c.in-Write.is, subst (ServesPolicy hyper told reliable c.args.policy held between) c.in-Write.is c.serve_policy.ensures.serves)
+    let faults = g.L.Links.faults c.args.links.now in
+    let risen = g.L.Links.faults c.serve_policy.new.links in
+    (c.serve_policy.ensures.write c.in-Write.is, subst (ServesPolicy hyper told reliable c.args.policy held between faults risen) c.in-Write.is c.serve_policy.ensures.serves)
 
 pub returns-in-Link-clause-ends : goal.returns-in-Link-clause-ends
 returns-in-Link-clause-ends g c = λ left reads.
@@ -38,13 +44,15 @@ returns-in-Link-clause-ends g c = λ left reads.
     let reliable = g.L.Links.is_reliable c.args.links.now in
     let held = g.K.Sink.held c.args.out.now in
     let between = g.K.Sink.held c.serve_policy.new.out in
+    let faults = g.L.Links.faults c.args.links.now in
+    let risen = g.L.Links.faults c.serve_policy.new.links in
     let old = moment left reads held (g.K.Sink.faults c.args.out.now) in
     let new = moment left reads (g.K.Sink.held c.write_fault.new.out) (g.K.Sink.faults c.write_fault.new.out) in
-    subst (λ (x : Status). EndsServing hyper (links_of told reliable) x c.args.policy old new) (sym c.write_fault.ensures.status)
+    subst (λ (x : Status). EndsServing hyper (links_of told reliable faults risen) x c.args.policy old new) (sym c.write_fault.ensures.status)
     (record {
       between = between;
       faults = g.K.Sink.faults c.serve_policy.new.out;
-      serves = subst (ServesPolicy hyper told reliable c.args.policy held between) c.in-Link.is c.serve_policy.ensures.serves;
+      serves = subst (ServesPolicy hyper told reliable c.args.policy held between faults risen) c.in-Link.is c.serve_policy.ensures.serves;
       tells = c.write_fault.ensures.writes;
     })
 
@@ -54,17 +62,20 @@ returns-in-Spawn-clause-ends g c = λ left reads.
     let reliable = g.L.Links.is_reliable c.args.links.now in
     let held = g.K.Sink.held c.args.out.now in
     let between = g.K.Sink.held c.serve_policy.new.out in
+    let faults = g.L.Links.faults c.args.links.now in
+    let risen = g.L.Links.faults c.serve_policy.new.links in
     let old = moment left reads held (g.K.Sink.faults c.args.out.now) in
     let new = moment left reads (g.K.Sink.held c.write_fault-in-Spawn.new.out) (g.K.Sink.faults c.write_fault-in-Spawn.new.out) in
-    subst (λ (x : Status). EndsServing hyper (links_of told reliable) x c.args.policy old new) (sym c.write_fault-in-Spawn.ensures.status)
+    subst (λ (x : Status). EndsServing hyper (links_of told reliable faults risen) x c.args.policy old new) (sym c.write_fault-in-Spawn.ensures.status)
     (record {
       between = between;
       faults = g.K.Sink.faults c.serve_policy.new.out;
-      serves = subst (ServesPolicy hyper told reliable c.args.policy held between) c.in-Spawn.is c.serve_policy.ensures.serves;
+      serves = subst (ServesPolicy hyper told reliable c.args.policy held between faults risen) c.in-Spawn.is c.serve_policy.ensures.serves;
       tells = c.write_fault-in-Spawn.ensures.writes;
     })
 
 pub returns-in-Link-clause-link : goal.returns-in-Link-clause-link
 returns-in-Link-clause-link g c = λ is never.
-    let links = links_of (g.L.Links.told c.args.links.now) (g.L.Links.is_reliable c.args.links.now) in
+    let links = links_of (g.L.Links.told c.args.links.now) (g.L.Links.is_reliable c.args.links.now)
+    (g.L.Links.faults c.args.links.now) (g.L.Links.faults c.serve_policy.new.links) in
     c.serve_policy.ensures.link c.in-Link.is (all_reliable links never (places_of c.args.policy))

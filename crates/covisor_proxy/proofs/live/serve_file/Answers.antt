@@ -12,7 +12,8 @@ pub returns-in-Ok-clause-ends : goal.returns-in-Ok-clause-ends
 returns-in-Ok-clause-ends g c = λ left reads.
     let old = moment left reads (g.K.Sink.held c.args.out.now) (g.K.Sink.faults c.args.out.now) in
     let new = moment left reads (g.K.Sink.held c.serve.new.out) (g.K.Sink.faults c.serve.new.out) in
-    let links = links_of (g.L.Links.told c.args.links.now) (g.L.Links.is_reliable c.args.links.now) in
+    let links = links_of (g.L.Links.told c.args.links.now) (g.L.Links.is_reliable c.args.links.now)
+    (g.L.Links.faults c.args.links.now) (g.L.Links.faults c.serve.new.links) in
     let files = g.F.Files.files c.args.files.now in
     ended-served hyper links c.args.name.now files (g.F.Files.faults c.args.files.now) (g.F.Files.faults c.open.new.files) old new
     c.serve.result c.in-Ok.policy c.in-Ok.ensures (c.serve.ensures.ends left reads)
@@ -21,7 +22,8 @@ pub returns-in-Err-clause-ends : goal.returns-in-Err-clause-ends
 returns-in-Err-clause-ends g c = λ left reads.
     let old = moment left reads (g.K.Sink.held c.args.out.now) (g.K.Sink.faults c.args.out.now) in
     let new = moment left reads (g.K.Sink.held c.tell.new.out) (g.K.Sink.faults c.tell.new.out) in
-    let links = links_of (g.L.Links.told c.args.links.now) (g.L.Links.is_reliable c.args.links.now) in
+    let links = links_of (g.L.Links.told c.args.links.now) (g.L.Links.is_reliable c.args.links.now)
+    (g.L.Links.faults c.args.links.now) (g.L.Links.faults c.args.links.now) in
     let files = g.F.Files.files c.args.files.now in
     let fails = g.F.Files.faults c.args.files.now in
     let fails' = g.F.Files.faults c.open.new.files in
@@ -32,7 +34,8 @@ pub returns-in-Ok-clause-form : goal.returns-in-Ok-clause-form
 returns-in-Ok-clause-form g c = λ is.
     let old = moment None 0 (g.K.Sink.held c.args.out.now) (g.K.Sink.faults c.args.out.now) in
     let new = moment None 0 (g.K.Sink.held c.serve.new.out) (g.K.Sink.faults c.serve.new.out) in
-    let links = links_of (g.L.Links.told c.args.links.now) (g.L.Links.is_reliable c.args.links.now) in
+    let links = links_of (g.L.Links.told c.args.links.now) (g.L.Links.is_reliable c.args.links.now)
+    (g.L.Links.faults c.args.links.now) (g.L.Links.faults c.serve.new.links) in
     subst (λ (x : Status). EndsServing hyper links x c.in-Ok.policy old new) is (c.serve.ensures.ends None 0)
 
 pub returns-in-Err-clause-link : goal.returns-in-Err-clause-link

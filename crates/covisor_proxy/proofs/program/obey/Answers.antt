@@ -16,7 +16,8 @@ pub returns-in-Replay-clause-ends : goal.returns-in-Replay-clause-ends
 returns-in-Replay-clause-ends g c =
     let old = moment (g.S.Source.remaining c.args.input.now) (g.S.Source.faults c.args.input.now) (g.K.Sink.held c.args.out.now) (g.K.Sink.faults c.args.out.now) in
     let new = moment (g.S.Source.remaining c.replay_built_in.new.input) (g.S.Source.faults c.replay_built_in.new.input) (g.K.Sink.held c.replay_built_in.new.out) (g.K.Sink.faults c.replay_built_in.new.out) in
-    let links = links_of (g.L.Links.told c.args.links.now) (g.L.Links.is_reliable c.args.links.now) in
+    let links = links_of (g.L.Links.told c.args.links.now) (g.L.Links.is_reliable c.args.links.now)
+    (g.L.Links.faults c.args.links.now) (g.L.Links.faults c.args.links.now) in
     subst (λ (x : Command). Ended hyper links c.replay_built_in.result (Some x) (g.F.Files.files c.args.files.now) (g.F.Files.faults c.args.files.now) (g.F.Files.faults c.args.files.now) old new) (sym c.in-Replay.is)
     (Err faults.Memory, tt, c.replay_built_in.ensures.ends)
 
@@ -25,7 +26,8 @@ returns-in-Make-clause-ends g c =
     let old = moment (g.S.Source.remaining c.args.input.now) (g.S.Source.faults c.args.input.now) (g.K.Sink.held c.args.out.now) (g.K.Sink.faults c.args.out.now) in
     let new = moment (g.S.Source.remaining c.args.input.now) (g.S.Source.faults c.args.input.now) (g.K.Sink.held c.make.new.out) (g.K.Sink.faults c.make.new.out) in
     let making = Some (Make c.in-Make.seed c.in-Make.count) in
-    let links = links_of (g.L.Links.told c.args.links.now) (g.L.Links.is_reliable c.args.links.now) in
+    let links = links_of (g.L.Links.told c.args.links.now) (g.L.Links.is_reliable c.args.links.now)
+    (g.L.Links.faults c.args.links.now) (g.L.Links.faults c.args.links.now) in
     subst (λ (x : Command). Ended hyper links c.make.result (Some x) (g.F.Files.files c.args.files.now) (g.F.Files.faults c.args.files.now) (g.F.Files.faults c.args.files.now) old new) (sym c.in-Make.is) (
       Err faults.Memory,
       tt,
@@ -36,7 +38,8 @@ pub returns-in-ReplayPolicy-clause-ends : goal.returns-in-ReplayPolicy-clause-en
 returns-in-ReplayPolicy-clause-ends g c =
     let old = moment (g.S.Source.remaining c.args.input.now) (g.S.Source.faults c.args.input.now) (g.K.Sink.held c.args.out.now) (g.K.Sink.faults c.args.out.now) in
     let new = moment (g.S.Source.remaining c.replay_file.new.input) (g.S.Source.faults c.replay_file.new.input) (g.K.Sink.held c.replay_file.new.out) (g.K.Sink.faults c.replay_file.new.out) in
-    let links = links_of (g.L.Links.told c.args.links.now) (g.L.Links.is_reliable c.args.links.now) in
+    let links = links_of (g.L.Links.told c.args.links.now) (g.L.Links.is_reliable c.args.links.now)
+    (g.L.Links.faults c.args.links.now) (g.L.Links.faults c.args.links.now) in
     let fails' = g.F.Files.faults c.replay_file.new.files in
     subst (λ (x : Command). Ended hyper links c.replay_file.result (Some x) (g.F.Files.files c.args.files.now) (g.F.Files.faults c.args.files.now) fails' old new) (sym c.in-ReplayPolicy.is)
     c.replay_file.ensures.ends
@@ -45,7 +48,8 @@ pub returns-in-ExplainPolicy-clause-ends : goal.returns-in-ExplainPolicy-clause-
 returns-in-ExplainPolicy-clause-ends g c =
     let old = moment (g.S.Source.remaining c.args.input.now) (g.S.Source.faults c.args.input.now) (g.K.Sink.held c.args.out.now) (g.K.Sink.faults c.args.out.now) in
     let new = moment (g.S.Source.remaining c.replay_file-in-ExplainPolicy.new.input) (g.S.Source.faults c.replay_file-in-ExplainPolicy.new.input) (g.K.Sink.held c.replay_file-in-ExplainPolicy.new.out) (g.K.Sink.faults c.replay_file-in-ExplainPolicy.new.out) in
-    let links = links_of (g.L.Links.told c.args.links.now) (g.L.Links.is_reliable c.args.links.now) in
+    let links = links_of (g.L.Links.told c.args.links.now) (g.L.Links.is_reliable c.args.links.now)
+    (g.L.Links.faults c.args.links.now) (g.L.Links.faults c.args.links.now) in
     let fails' = g.F.Files.faults c.replay_file-in-ExplainPolicy.new.files in
     subst (λ (x : Command). Ended hyper links c.replay_file-in-ExplainPolicy.result (Some x) (g.F.Files.files c.args.files.now) (g.F.Files.faults c.args.files.now) fails' old new) (sym c.in-ExplainPolicy.is)
     c.replay_file-in-ExplainPolicy.ensures.ends
@@ -54,7 +58,8 @@ pub returns-in-Serve-clause-ends : goal.returns-in-Serve-clause-ends
 returns-in-Serve-clause-ends g c =
     let old = moment (g.S.Source.remaining c.args.input.now) (g.S.Source.faults c.args.input.now) (g.K.Sink.held c.args.out.now) (g.K.Sink.faults c.args.out.now) in
     let new = moment (g.S.Source.remaining c.args.input.now) (g.S.Source.faults c.args.input.now) (g.K.Sink.held c.serve_file.new.out) (g.K.Sink.faults c.serve_file.new.out) in
-    let links = links_of (g.L.Links.told c.args.links.now) (g.L.Links.is_reliable c.args.links.now) in
+    let links = links_of (g.L.Links.told c.args.links.now) (g.L.Links.is_reliable c.args.links.now)
+    (g.L.Links.faults c.args.links.now) (g.L.Links.faults c.serve_file.new.links) in
     let fails' = g.F.Files.faults c.serve_file.new.files in
     subst (λ (x : Command). Ended hyper links c.serve_file.result (Some x) (g.F.Files.files c.args.files.now) (g.F.Files.faults c.args.files.now) fails' old new) (sym c.in-Serve.is)
     (c.serve_file.ensures.ends (g.S.Source.remaining c.args.input.now) (g.S.Source.faults c.args.input.now))

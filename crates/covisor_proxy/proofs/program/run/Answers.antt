@@ -13,7 +13,8 @@ pub returns-clause-refused : goal.returns-clause-refused
 returns-clause-refused g c =
     let old = moment (g.S.Source.remaining c.args.input.now) (g.S.Source.faults c.args.input.now) (g.K.Sink.held c.args.out.now) (g.K.Sink.faults c.args.out.now) in
     let new = moment (g.S.Source.remaining c.answer.new.input) (g.S.Source.faults c.answer.new.input) (g.K.Sink.held c.answer.new.out) (g.K.Sink.faults c.answer.new.out) in
-    let links = links_of (g.L.Links.told c.args.links.now) (g.L.Links.is_reliable c.args.links.now) in
+    let links = links_of (g.L.Links.told c.args.links.now) (g.L.Links.is_reliable c.args.links.now)
+    (g.L.Links.faults c.args.links.now) (g.L.Links.faults c.answer.new.links) in
     let command = command_of c.args.words.now in
     let files = g.F.Files.files c.args.files.now in
     let fails = g.F.Files.faults c.args.files.now in
@@ -25,7 +26,8 @@ pub returns-clause-absent : goal.returns-clause-absent
 returns-clause-absent g c =
     let old = moment (g.S.Source.remaining c.args.input.now) (g.S.Source.faults c.args.input.now) (g.K.Sink.held c.args.out.now) (g.K.Sink.faults c.args.out.now) in
     let new = moment (g.S.Source.remaining c.answer.new.input) (g.S.Source.faults c.answer.new.input) (g.K.Sink.held c.answer.new.out) (g.K.Sink.faults c.answer.new.out) in
-    let links = links_of (g.L.Links.told c.args.links.now) (g.L.Links.is_reliable c.args.links.now) in
+    let links = links_of (g.L.Links.told c.args.links.now) (g.L.Links.is_reliable c.args.links.now)
+    (g.L.Links.faults c.args.links.now) (g.L.Links.faults c.answer.new.links) in
     let command = command_of c.args.words.now in
     let files = g.F.Files.files c.args.files.now in
     let fails = g.F.Files.faults c.args.files.now in
@@ -37,7 +39,8 @@ pub returns-clause-read : goal.returns-clause-read
 returns-clause-read g c =
     let old = moment (g.S.Source.remaining c.args.input.now) (g.S.Source.faults c.args.input.now) (g.K.Sink.held c.args.out.now) (g.K.Sink.faults c.args.out.now) in
     let new = moment (g.S.Source.remaining c.answer.new.input) (g.S.Source.faults c.answer.new.input) (g.K.Sink.held c.answer.new.out) (g.K.Sink.faults c.answer.new.out) in
-    let links = links_of (g.L.Links.told c.args.links.now) (g.L.Links.is_reliable c.args.links.now) in
+    let links = links_of (g.L.Links.told c.args.links.now) (g.L.Links.is_reliable c.args.links.now)
+    (g.L.Links.faults c.args.links.now) (g.L.Links.faults c.answer.new.links) in
     let command = command_of c.args.words.now in
     let files = g.F.Files.files c.args.files.now in
     let fails = g.F.Files.faults c.args.files.now in
@@ -49,7 +52,8 @@ pub returns-clause-write : goal.returns-clause-write
 returns-clause-write g c =
     let old = moment (g.S.Source.remaining c.args.input.now) (g.S.Source.faults c.args.input.now) (g.K.Sink.held c.args.out.now) (g.K.Sink.faults c.args.out.now) in
     let new = moment (g.S.Source.remaining c.answer.new.input) (g.S.Source.faults c.answer.new.input) (g.K.Sink.held c.answer.new.out) (g.K.Sink.faults c.answer.new.out) in
-    let links = links_of (g.L.Links.told c.args.links.now) (g.L.Links.is_reliable c.args.links.now) in
+    let links = links_of (g.L.Links.told c.args.links.now) (g.L.Links.is_reliable c.args.links.now)
+    (g.L.Links.faults c.args.links.now) (g.L.Links.faults c.answer.new.links) in
     let command = command_of c.args.words.now in
     let files = g.F.Files.files c.args.files.now in
     let fails = g.F.Files.faults c.args.files.now in
@@ -67,7 +71,8 @@ pub returns-clause-complete : goal.returns-clause-complete
 returns-clause-complete g c =
     let old = moment (g.S.Source.remaining c.args.input.now) (g.S.Source.faults c.args.input.now) (g.K.Sink.held c.args.out.now) (g.K.Sink.faults c.args.out.now) in
     let new = moment (g.S.Source.remaining c.answer.new.input) (g.S.Source.faults c.answer.new.input) (g.K.Sink.held c.answer.new.out) (g.K.Sink.faults c.answer.new.out) in
-    let links = links_of (g.L.Links.told c.args.links.now) (g.L.Links.is_reliable c.args.links.now) in
+    let links = links_of (g.L.Links.told c.args.links.now) (g.L.Links.is_reliable c.args.links.now)
+    (g.L.Links.faults c.args.links.now) (g.L.Links.faults c.answer.new.links) in
     let command = command_of c.args.words.now in
     let files = g.F.Files.files c.args.files.now in
     let fails = g.F.Files.faults c.args.files.now in

@@ -29,13 +29,13 @@ unreachable-requires g c =
     grind arith
 
 pub returns-then-is_cut-clause-serves : goal.returns-then-is_cut-clause-serves
-returns-then-is_cut-clause-serves g c = λ told reliable places are.
+returns-then-is_cut-clause-serves g c = λ told reliable places misses missed undials are.
     let e = c.in_ok-worked.worked in
     let w = subst (λ l. HaveWorked g.H.Machine.Machine l g.D.Dial.left g.D.Dial.is_reliable e.failed e.wanted c.args.lines.lines c.args.seats
     e.seats (g.K.Sink.held c.args.out.now) (g.K.Sink.held c.work.new.out) (g.K.Sink.faults c.args.out.now) (g.K.Sink.faults c.work.new.out) e.end)
     c.new-office.ensures.lock c.in_ok-worked.ensures.worked in
     serves-cut g.H.Machine.Machine c.args.lock told reliable g.D.Dial.left g.D.Dial.is_reliable e.failed e.wanted c.args.lines.lines
-    c.args.seats e.seats (g.K.Sink.held c.args.out.now) (g.K.Sink.held c.work.new.out) w c.args.lines.failed places are c.requires.silent
+    c.args.seats e.seats (g.K.Sink.held c.args.out.now) (g.K.Sink.held c.work.new.out) w misses missed c.args.lines.failed undials places are c.requires.silent
     c.in-Ok.machine c.in-Ok.ensures.closed (sym c.if-is_cut.ensures)
 
 pub returns-then-is_cut-clause-write : goal.returns-then-is_cut-clause-write
@@ -43,15 +43,15 @@ returns-then-is_cut-clause-write g c = λ _.
     cut-rises c.in_ok-worked.worked.end _ _ _ _ _ _ (sym c.if-is_cut.ensures) c.in_ok-worked.ensures.worked.audit
 
 pub returns-clause-serves : goal.returns-clause-serves
-returns-clause-serves g c = λ told reliable places are.
+returns-clause-serves g c = λ told reliable places misses missed undials are.
     let e = c.in_ok-worked.worked in
     let w = subst (λ l. HaveWorked g.H.Machine.Machine l g.D.Dial.left g.D.Dial.is_reliable e.failed e.wanted c.args.lines.lines c.args.seats
     e.seats (g.K.Sink.held c.args.out.now) (g.K.Sink.held c.work.new.out) (g.K.Sink.faults c.args.out.now) (g.K.Sink.faults c.work.new.out) e.end)
     c.new-office.ensures.lock c.in_ok-worked.ensures.worked in
     subst (Serves g.H.Machine.Machine c.args.lock.start told reliable lines_taken places (g.K.Sink.held c.args.out.now)
-    (g.K.Sink.held c.write_rest-rest.new.out)) (sym c.settle.ensures)
+    (g.K.Sink.held c.write_rest-rest.new.out) misses missed) (sym c.settle.ensures)
     (serves-rest g.H.Machine.Machine c.args.lock told reliable g.D.Dial.left g.D.Dial.is_reliable e.failed e.wanted c.args.lines.lines
-    c.args.seats e.seats (g.K.Sink.held c.args.out.now) (g.K.Sink.held c.work.new.out) w c.args.lines.failed places are c.requires.silent
+    c.args.seats e.seats (g.K.Sink.held c.args.out.now) (g.K.Sink.held c.work.new.out) w misses missed c.args.lines.failed undials places are c.requires.silent
     c.in-Ok.machine c.in-Ok.ensures.closed (sym c.if-is_cut.ensures) c.is_err-lost.result
     (g.H.Machine.Machine.meaning c.write_rest-rest.new.machine) (g.K.Sink.held c.write_rest-rest.new.out)
     (g.K.Sink.faults c.work.new.out) (g.K.Sink.faults c.write_rest-rest.new.out) c.write_rest-rest.result c.write_rest-rest.ensures)

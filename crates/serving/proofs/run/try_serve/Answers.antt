@@ -70,8 +70,10 @@ pub returns-clause-serves : goal.returns-clause-serves
 returns-clause-serves g c =
     IfOk-weaker c.attend.result _ _
     (λ served h. subst (λ s. Serves g.H.Machine.Machine s (g.L.Links.told c.args.links.now) (g.L.Links.is_reliable c.args.links.now)
-    lines_taken c.args.places (g.K.Sink.held c.args.out.now) (g.K.Sink.held c.attend.new.out) served) c.in_ok-lock.ensures.start
-    (h (g.L.Links.told c.args.links.now) (g.L.Links.is_reliable c.args.links.now) c.args.places c.in_ok-lines.ensures.lines))
+    lines_taken c.args.places (g.K.Sink.held c.args.out.now) (g.K.Sink.held c.attend.new.out)
+    (g.L.Links.faults c.args.links.now) (g.L.Links.faults c.dial_all.new.links) served) c.in_ok-lock.ensures.start
+    (h (g.L.Links.told c.args.links.now) (g.L.Links.is_reliable c.args.links.now) c.args.places (g.L.Links.faults c.args.links.now)
+    (g.L.Links.faults c.dial_all.new.links) c.in_ok-lines.ensures.fault c.in_ok-lines.ensures.lines))
     c.attend.ensures.serves
 
 pub returns-clause-link : goal.returns-clause-link
