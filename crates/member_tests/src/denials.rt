@@ -1,3 +1,4 @@
+//! What a grant refuses, and how a denial is shown.
 use cv_io::{Duplicate, List};
 use grants::{Denial, Detail, Grant, Why, check_flow, check_kind, check_out, sees_all};
 use of10_actions::{Action, PortView, port};

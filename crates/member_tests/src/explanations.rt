@@ -1,3 +1,4 @@
+//! Lines of explanations, and the entry that a switch uses.
 use cv_io::List;
 use explain_path::LeafTrace;
 use explain_text::{Finding, finding_line, used_for};

@@ -1,3 +1,4 @@
+//! Policy files, their faults, and the policies that need no file.
 use cv_io::Duplicate;
 use policy_file::{Policy, PolicyFault, bench, built_in, read};
 use std::alloc::Global;

@@ -1,3 +1,4 @@
+//! What waits for the answers of switches.
 use cv_io::{List, Memory};
 use member_replies::Filter;
 use std::alloc::Global;

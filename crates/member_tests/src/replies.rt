@@ -1,3 +1,4 @@
+//! Messages to members, and a line of the audit.
 use cv_io::{Bytes, Text};
 use member_replies::{config_reply, port_status, slow_line};
 use std::alloc::Global;

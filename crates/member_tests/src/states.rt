@@ -1,3 +1,4 @@
+//! The levels of a member's ranks.
 ghost use Rattle.std.specs.Prelude.{IfOk};
 ghost use Rattle.of10_actions.specs.Actions.{AreInRange};
 ghost use Rattle.of10_actions.specs.Ports.{AreRising};

@@ -1,3 +1,4 @@
+//! The flow table of one member: its commands, its timeouts, and what is found in it.
 ghost use Rattle.std.specs.Prelude.{IfOk};
 ghost use Rattle.of10_actions.specs.Actions.{AreInRange};
 

@@ -1,3 +1,4 @@
+//! Lists of actions as bytes, and what they do.
 ghost use Rattle.std.specs.Prelude.{◌<◌, ◌^◌, length};
 
 use cv_io::List;

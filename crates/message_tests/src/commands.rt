@@ -1,3 +1,4 @@
+//! Words of the command line.
 use command_line::{Command, asked};
 use std::alloc::Global;
 use std::test::*;

@@ -1,3 +1,4 @@
+//! An event as bytes.
 use cv_io::{Session, Who};
 use events::{Event, read_event, write_event};
 use std::test::Fail;

@@ -1,3 +1,4 @@
+//! Streams that are cut into frames, and the ERROR message.
 use cv_io::{Bytes, List};
 use of10_frames::{FrameFault, Framer, error, frames_of, header, is_frame};
 use std::alloc::Global;

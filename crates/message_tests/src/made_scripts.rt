@@ -1,3 +1,4 @@
+//! The script of a seed, and the line that tells what it gave.
 use made_script::{Made, Summary, summary_line};
 use std::test::*;
 

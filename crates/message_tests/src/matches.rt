@@ -1,3 +1,4 @@
+//! Matches as bytes, and which headers they hold.
 ghost use Rattle.std.specs.Prelude.{◌≤◌};
 
 use of10_match::ofp_match::wildcard;

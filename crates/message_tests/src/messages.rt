@@ -1,3 +1,4 @@
+//! Messages, read and written, and why others are refused.
 ghost use Rattle.std.specs.Prelude.{IfOk};
 ghost use Rattle.of10_msgs.specs.Ranges.{CanWrite};
 

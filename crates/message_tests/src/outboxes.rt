@@ -1,3 +1,4 @@
+//! What waits for a session.
 use cv_io::{Bytes, Duplicate, Memory};
 use outbox::{Letters, Outbox, Taking};
 use std::alloc::Global;

@@ -1,3 +1,4 @@
+//! Frames of Ethernet, read and rewritten.
 use byteorder::{BigEndian, ByteOrder};
 use of10_actions::Rewrite;
 use pkt_bytes::{header_of, rewrite};

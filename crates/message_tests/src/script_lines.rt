@@ -1,3 +1,4 @@
+//! Lines of scripts, of their reports and of the audit.
 use cv_io::{Bytes, Text};
 use script_text::{Audit, DownCause, Form, Line, audit_line, read_line, report_line};
 use std::alloc::Global;

@@ -1,3 +1,4 @@
+//! Messages of statistics, read and written, and why others are refused.
 ghost use Rattle.std.specs.Prelude.{◌≡◌, ◌≤◌, ◌<◌, All, IfOk, length};
 ghost use Rattle.of10_stats.specs.Ranges.{CanWriteBody, CanWriteEntry, CanWriteReply, CanWriteRequest};
 

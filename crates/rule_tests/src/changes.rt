@@ -1,3 +1,4 @@
+//! What is in both lists of a change.
 use list_change::{Place, net};
 use std::alloc::Global;
 use std::test::Fail;

@@ -1,3 +1,4 @@
+//! The rules of pairs, and those that stand alone.
 ghost use Rattle.std.specs.Prelude.{◌≡◌, ◌<◌, ◌^◌, IfOk, true};
 ghost use Rattle.op_compose.specs.Composition.{Joins, StandsAlone, alone_level, joined_level};
 

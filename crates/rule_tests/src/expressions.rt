@@ -1,3 +1,4 @@
+//! Expressions as they are written, and their faults.
 use cv_io::{Bytes, List, Text};
 use policy_expr::{Expr, ExprFault, MemberName, parse};
 use std::alloc::Global;

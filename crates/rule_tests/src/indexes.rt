@@ -1,3 +1,4 @@
+//! An index of matches, beside a look at each of them.
 ghost use Rattle.std.specs.Prelude.{◌<◌, IfSome};
 ghost use Rattle.of10_match.specs.Ranges.{IsPrefix};
 

@@ -1,3 +1,4 @@
+//! Levels of ranks.
 use cv_io::Duplicate;
 use level_map::{LevelMap, PlaceFault, Placed};
 use std::test::Fail;

@@ -1,3 +1,4 @@
+//! Levels and sizes of compositions.
 use alg_priority::{TooWide, concat, fits, shift, size_concat, size_shift, size_sum, sum};
 
 #[test]

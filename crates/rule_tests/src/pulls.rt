@@ -1,3 +1,4 @@
+//! Matches before and after a rewrite.
 use of10_actions::Rewrite;
 use of10_match::{Match, Prefix};
 use pull_back::{image, pull};

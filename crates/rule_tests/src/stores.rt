@@ -1,3 +1,4 @@
+//! What is found by names.
 use cv_io::{Duplicate, Leaf, List, Memory, Named};
 use rule_ancestry::{ByLeaves, Filed, Store};
 use std::alloc::Global;

@@ -1,3 +1,4 @@
+//! The endpoints of a policy.
 use cv_io::{Endpoint, List};
 use endpoint_works::Side;
 use policy_file::read;

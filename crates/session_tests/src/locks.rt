@@ -1,3 +1,4 @@
+//! A lock over small machines, and threads that post beside each other.
 ghost use Rattle.std.specs.Prelude.{◌≡◌, ◌∷◌, [], IfOk};
 ghost use Rattle.policy_lock.specs.Seat.{IsSeatOf, IsSameSeat};
 

@@ -1,4 +1,4 @@
-//! Tests of what is installed, and of the change from one table to the next.
+//! What is installed, and the change from one table to the next.
 use crate::samples::{by_port, in_a_row};
 use cv_io::{Leaf, List};
 use of10_match::{Match, Prefix};

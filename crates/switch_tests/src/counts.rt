@@ -1,3 +1,4 @@
+//! Counts of leaves, by the cookies that name them.
 use cv_io::{Duplicate, Leaf, List};
 use install_plan::Written;
 use of10_match::Match;

@@ -1,3 +1,4 @@
+//! What stands on a switch behind its gate.
 use cv_io::{Leaf, List};
 use exact_gate::GateDelta;
 use install_plan::Batch;

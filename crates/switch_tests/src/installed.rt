@@ -1,3 +1,4 @@
+//! What stands on a switch, and the batches that make it.
 use cv_io::{Duplicate, Leaf, List};
 use install_plan::{Batch, Installed, Written};
 use of10_actions::Action;

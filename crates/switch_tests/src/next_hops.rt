@@ -1,3 +1,4 @@
+//! Ways between switches, and tags.
 use cv_io::{Bytes, Duplicate, List, Text};
 use inner_paths::{PathFault, Paths};
 use std::alloc::Global;

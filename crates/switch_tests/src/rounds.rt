@@ -1,3 +1,4 @@
+//! What a switch is sent in its round, and what it answers.
 use cv_io::{Duplicate, List, Memory};
 use install_plan::{Batch, Written};
 use of10_match::Match;

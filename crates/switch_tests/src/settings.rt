@@ -1,3 +1,4 @@
+//! The entries and the table of a setting.
 use agreement::{PhysicalSwitch, Setting, expected, levels_fit, placed, table_of};
 use cv_io::{Leaf, List};
 use of10_actions::{Action, Dest, Effects, Out, Rewrite, Tail};

@@ -1,3 +1,4 @@
+//! Topologies, and the faults of their plans.
 use cv_io::{Bytes, Duplicate, List, Text};
 use std::alloc::Global;
 use std::test::Fail;

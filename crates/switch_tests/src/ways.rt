@@ -1,4 +1,4 @@
-//! Tests of what stands on a switch for a rule, and of the ways of packets.
+//! What stands on a switch for a rule, and the ways of packets.
 use crate::samples::{by_port, by_tag, entry, in_a_row, one, output, ping};
 use cv_io::List;
 use of10_actions::{Action, Dest, Out, Rewrite};

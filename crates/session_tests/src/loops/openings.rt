@@ -1,3 +1,4 @@
+//! How a connection is opened.
 use cv_io::{Bytes, List, MemSink, MemSource, Memory};
 use of10_frames::Framer;
 use sessions::{Greeted, OpenEnd, open_member, open_switch};

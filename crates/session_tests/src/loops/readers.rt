@@ -1,3 +1,4 @@
+//! The loop that posts what a peer sends.
 use super::desks::{Book, Call, Log, SESSION};
 use cv_io::{Bytes, List, MemSource, Memory};
 use of10_frames::Framer;

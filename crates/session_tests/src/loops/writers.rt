@@ -1,3 +1,4 @@
+//! The loop that writes to a peer.
 use super::desks::{Book, Call, Log, SESSION};
 use cv_io::{Bytes, List, MemClock, MemSink};
 use sessions::{WriteEnd, run_writer};

@@ -1,3 +1,4 @@
+//! The work that writes the audit.
 use super::desks::{Book, Log, letters};
 use cv_io::{Bytes, List, MemClock, MemSink, Memory};
 use endpoint_works::{AuditEnd, Others, write_audit};

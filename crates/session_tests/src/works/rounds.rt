@@ -1,3 +1,4 @@
+//! The works of an endpoint.
 ghost use Rattle.std.specs.Prelude.{⊤};
 ghost use Rattle.endpoint_works.specs.Sides.{IsServedSide};
 
