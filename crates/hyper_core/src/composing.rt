@@ -16,7 +16,6 @@ ghost use Rattle.machine_meaning.specs.Sessions.{is_switch};
 ghost use Rattle.hyper_core.specs.Settled.{WasSettled};
 ghost use Rattle.hyper_core.specs.SwitchDrafts.{with_written};
 
-use crate::batches::{Change, can_send, change_between};
 use crate::composed::{fitting, wanted};
 use crate::keeping::compose_kept;
 use crate::outcome::Outcome;
@@ -31,6 +30,7 @@ use machine_meaning::Letter;
 use outbox::Letters;
 use stats_map::Pending;
 use std::alloc::Global;
+use told_batches::{Change, can_send, change_between};
 
 /// Whether the round of the switch of a number begins.
 pub(crate) fn begins(begun: &Option<Who>, n: u32) -> bool

@@ -1,8 +1,6 @@
 //! The composed part is kept beside what the machine holds, under changes of members' tables.
-use crate::batches::{Change, change_between};
 use crate::composing::{begins, count_all, write};
 use crate::held::Held;
-use crate::merging::change_told;
 use crate::outcome::Outcome;
 use crate::settings::ups;
 use crate::setup::Setup;
@@ -15,6 +13,7 @@ use std::alloc::Global;
 use std::marker::Brand;
 use std::sync::ledger::{Blank, Ledger};
 use switch_meaning::PhysEntry;
+use told_batches::{Change, change_between, change_told};
 
 /// The entries that are to stand on a switch.
 fn wanted(alloc: Global, composed: &Composed, n: usize) -> Result<List<PhysEntry>, Memory> {
