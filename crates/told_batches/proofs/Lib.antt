@@ -3,3 +3,4 @@ pub mod ToldBatches
 pub mod Sorting
 pub mod OnePass
 pub mod Cookies
+pub mod AnyOrder

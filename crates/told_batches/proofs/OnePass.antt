@@ -26,15 +26,6 @@ first_found : (ts : List Written) (w : Written) → is_first ts w ≡ true
 first_found [] w e = cc
 first_found (t ∷ ts) w e = ap (λ b. b || list_any (same_key w.entry) (map entry_of ts)) e
 
--- the row at a place
-pub at_place : (rows : List Written) (k : ℕ) (x w : Written) → k < length rows → x ≡ get_or rows k x
-    → is_first (drop k rows) w ≡ same_key w.entry x.entry
-at_place rows k x w lt is =
-    ap (λ xs. is_first xs w) (drop_more rows k x lt ∙ ap (λ y. y ∷ drop (k + 1) rows) (sym is))
-
-pub no_place : (rows : List Written) (k : ℕ) (w : Written) → length rows ≤ k → is_first (drop k rows) w ≡ false
-no_place rows k w end = ap (λ xs. is_first xs w) (drop_all k rows end)
-
 pub at_most_one : (b : Bool) → from_bool b ≤ 1
 at_most_one true = omega arith
 at_most_one false = omega arith
