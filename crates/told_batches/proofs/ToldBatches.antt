@@ -18,7 +18,8 @@ use Rattle.switch_meaning.proofs.Members.{IsIn, any-passes, filter-in, here, in-
 use Rattle.switch_meaning.proofs.Members.{in-permuted, one-alike, passes-any, there}
 use Rattle.machine_meaning.specs.Batches.{by_key, is_among, staying}
 use Rattle.machine_meaning.proofs.StandingAfter.{batch_is_difference}
-use Rattle.told_batches.specs.Told.{AreListed, BatchesAreTold, IsBetween, IsLower, IsToldOf, ToldChangesAreBetween, has_key_in}
+use Rattle.told_batches.specs.Told.{AreListed, BatchesAreTold, IsBetween, IsLower, IsToldOf, ToldChangesAreBetween}
+use Rattle.told_batches.specs.Told.{has_key_in}
 use Rattle.told_batches.proofs.Rising.{in_order, keys_apart, pairs_kept}
 
 -- tests -------------------------------------------------------------------------------------------------------------
@@ -149,5 +150,5 @@ told_between next stood wanted told h = between stood wanted told h next
 pub batches-told : BatchIsTheSame → BatchesAreTold
 batches-told same old new k told batch one other ranged ranged' stood wanted p q =
     batch.difference
-    ∙ same (map entry_of old.standing) (map entry_of new.standing) (map entry_of stood) wanted one other ranged ranged' p
-    q
+    ∙ same (map entry_of old.standing) (map entry_of new.standing) (map entry_of stood) wanted one other ranged
+    ranged' p q

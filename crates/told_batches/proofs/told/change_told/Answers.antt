@@ -10,7 +10,8 @@ use Rattle.told_batches.specs.declared.change.Change.{Change}
 use Rattle.told_batches.proofs.ToldBatches.{told_between}
 use Rattle.told_batches.proofs.told.change_told.Goals as goal
 
-module _ (next : ℕ) (stood : List Written) (wanted : List PhysEntry) (told : Batch) (b : IsBetween next stood wanted told) where
+module _ (next : ℕ) (stood : List Written) (wanted : List PhysEntry) (told : Batch)
+    (b : IsBetween next stood wanted told) where
   goes_is : (ds went : List Written) → ds ≡ told.deletes
       → (AreListed (map entry_of ds) stood → went ≡ filter (has_key_in (map entry_of ds)) stood)
       → by_key went ≡ going stood wanted
