@@ -16,22 +16,24 @@ ghost use Rattle.machine_meaning.specs.Sessions.{is_switch};
 ghost use Rattle.hyper_core.specs.Settled.{WasSettled};
 ghost use Rattle.hyper_core.specs.SwitchDrafts.{with_written};
 
-use crate::batches::{Change, can_send, change_between};
 use crate::composed::{fitting, wanted};
+use crate::keeping::compose_kept;
 use crate::outcome::Outcome;
 use crate::setup::Setup;
 use crate::switch_draft::SwitchDraft;
 use crate::unchanged::is_unchanged;
 use agreement::Setting;
+use composed_tables::Composed;
 use cv_io::{List, Memory, Who};
 use install_plan::Written;
 use machine_meaning::Letter;
 use outbox::Letters;
 use stats_map::Pending;
 use std::alloc::Global;
+use told_batches::{Change, can_send, change_between};
 
 /// Whether the round of the switch of a number begins.
-fn begins(begun: &Option<Who>, n: u32) -> bool
+pub(crate) fn begins(begun: &Option<Who>, n: u32) -> bool
     ensures { result ≡ is_switch n begun.now }
 {
     match begun {
@@ -41,7 +43,7 @@ fn begins(begun: &Option<Who>, n: u32) -> bool
 }
 
 /// The cookies of entries that are written to a switch are counted.
-fn count_all(counts: &mut Pending<'_>, n: u32, adds: &[Written]) -> Result<(), Memory>
+pub(crate) fn count_all(counts: &mut Pending<'_>, n: u32, adds: &[Written]) -> Result<(), Memory>
     ensures base { OnOk result (counts.new.base ≡ counts.old.base) }
     ensures counted { OnOk result (told counts.new.now ≡ counts_after n adds.now (told counts.old.now)) }
 {
@@ -62,7 +64,7 @@ fn say_all(batches: &mut List<Letter>, n: u32, mut messages: Letters) -> Result<
 }
 
 /// A change is written to a switch, after its installation where its round begins.
-fn write(
+pub(crate) fn write(
     alloc: Global,
     begins: bool,
     n: u32,
@@ -221,7 +223,11 @@ fn compose_anew(setup: &Setup, draft: &mut Outcome<'_>) -> Result<(), Memory>
 
 /// Each switch that is up is written the change from the entries that stand to those that the setting gives. There is
 /// none where the event changed nothing that composition reads.
-pub(crate) fn compose(setup: &Setup, draft: &mut Outcome<'_>) -> Result<(), Memory>
+pub(crate) fn compose(
+    setup: &Setup,
+    draft: &mut Outcome<'_>,
+    composed: &mut Option<Composed>,
+) -> Result<(), Memory>
     requires { WasSettled setup.now (bases draft.old) }
     ensures drafted { OnOk result (draft_in draft.new ≡ compose_of setup.now (draft_in draft.old)) }
     ensures bases { OnOk result (bases draft.new ≡ bases draft.old) }
@@ -229,5 +235,12 @@ pub(crate) fn compose(setup: &Setup, draft: &mut Outcome<'_>) -> Result<(), Memo
     if is_unchanged(draft) {
         return Ok(());
     }
-    compose_anew(setup, draft)
+    match composed.take() {
+        Some(mut kept) if draft.exprs.is_kept() => {
+            compose_kept(setup, draft, &mut kept)?;
+            *composed = Some(kept);
+            Ok(())
+        }
+        _ => compose_anew(setup, draft),
+    }
 }

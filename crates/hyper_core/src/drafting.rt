@@ -25,6 +25,7 @@ use crate::rounds;
 use crate::settling::settle;
 use crate::setup::Setup;
 use crate::telling::tell;
+use composed_tables::Composed;
 use cv_io::Memory;
 use events::Event;
 use std::alloc::Global;
@@ -60,6 +61,7 @@ fn draft<'a>(
     judged: Option<Judged>,
     heard: &Heard,
     closing: &Closing,
+    composed: &mut Option<Composed>,
 ) -> Result<Outcome<'a>, Memory>
     requires numbers { HaveNumbers (bases_of (moment_of_event event.now held.now.moment) held.now) }
     requires whole { IsWhole event.now }
@@ -77,7 +79,7 @@ fn draft<'a>(
     act(setup, &mut draft, event, judged, heard)?;
     close(alloc, &mut draft, closing)?;
     settle(setup, &mut draft)?;
-    compose(setup, &mut draft)?;
+    compose(setup, &mut draft, composed)?;
     tell(setup, &mut draft)?;
     Ok(draft)
 }
@@ -91,6 +93,7 @@ fn attempt(
     heard: &Heard,
     closing: &Closing,
     last: bool,
+    composed: &mut Option<Composed>,
 ) -> Result<Trial, Memory>
     requires numbers { HaveNumbers (bases_of (moment_of_event event.now held.old.moment) held.old) }
     requires whole { IsWhole event.now }
@@ -100,7 +103,7 @@ fn attempt(
     ensures state { state_in_held held.new ≡ state_in_held held.old }
 {
     let judged = judge_event(setup, held, event)?;
-    let drafted = draft(setup, held, event, judged, heard, closing)?;
+    let drafted = draft(setup, held, event, judged, heard, closing, composed)?;
     put(setup, drafted, last)
 }
 
@@ -110,6 +113,7 @@ pub(crate) fn draft_event(
     held: &mut Held,
     event: &Event,
     heard: &Heard,
+    composed: &mut Option<Composed>,
 ) -> Result<Drafted, Memory>
     requires numbers { HaveNumbers (bases_of (moment_of_event event.now held.old.moment) held.old) }
     requires whole { IsWhole event.now }
@@ -122,10 +126,12 @@ pub(crate) fn draft_event(
     let mut closing = Closing::nobody(setup.alloc());
     let mut left = held.switches.len() + held.members.len();
     loop {
-        match attempt(setup, held, event, heard, &closing, left == 0)? {
+        match attempt(setup, held, event, heard, &closing, left == 0, composed)? {
             Trial::Ready(drafted) => return Ok(drafted),
             Trial::Slow(more) => closing.join(more)?,
         }
+        // It may have followed the draft that is dropped.
+        *composed = None;
         left -= 1;
     }
 }

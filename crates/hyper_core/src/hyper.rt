@@ -18,6 +18,7 @@ use crate::starting::open as open_held;
 use crate::stepping::step as step_held;
 use crate::views::{installed, round, rules};
 use crate::worlds::{Tables, copied_tables, followed};
+use composed_tables::Composed;
 use cv_io::{Duplicate, Memory, Who};
 use events::{Event, Reply};
 use install_plan::Written;
@@ -32,6 +33,8 @@ use virtual_topology::Topology;
 pub struct Hyper {
     setup: Setup,
     held: Held,
+    /// The composed part of what is held, where it is kept; else it is composed from scratch.
+    composed: Option<Composed>,
 }
 
 impl Model for Hyper {
@@ -59,7 +62,11 @@ impl Hyper {
     {
         let setup = Setup::make(alloc, policy)?;
         let held = open_held(&setup)?;
-        Ok(Hyper { setup, held })
+        Ok(Hyper {
+            setup,
+            held,
+            composed: None,
+        })
     }
 
     /// The reply of an event that changes nothing, and None for every other.
@@ -76,7 +83,7 @@ impl Hyper {
         ensures plan { self.new.plan ≡ self.old.plan }
         ensures memory { OnErr result (state_of self.new ≡ state_of self.old) }
     {
-        step_held(&self.setup, &mut self.held, event)
+        step_held(&self.setup, &mut self.held, event, &mut self.composed)
     }
 }
 
@@ -142,6 +149,10 @@ impl Duplicate for Hyper {
     fn copy(&self) -> Result<Hyper, Memory> {
         let setup = self.setup.copy()?;
         let held = copied_held(&setup, &self.held)?;
-        Ok(Hyper { setup, held })
+        Ok(Hyper {
+            setup,
+            held,
+            composed: None,
+        })
     }
 }

@@ -10,12 +10,16 @@ ghost use Rattle.machine_meaning.specs.Removing.{due_in, with_kept};
 ghost use Rattle.machine_meaning.specs.Rounds.{begun_member, ended_member};
 ghost use Rattle.hyper_core.specs.Views.{member_of};
 
+use crate::leaf_delta::leaf_delta;
 use crate::session::Member;
 use cv_io::{List, Memory};
+use grants::Grant;
+use incr_compile::LeafDelta;
 use machine_meaning::Config;
 use member_state::{MemberState, Planned};
 use member_table::{Entry, Table};
 use outbox::{Letters, Outbox, Turn};
+use std::alloc::Global;
 use std::marker::Model;
 
 /// The configuration that a round begins with.
@@ -231,6 +235,26 @@ impl<'a> MemberDraft<'a> {
             Some(planned) => Ok(Kept::Drafted(self.base.kept.drafted(planned, self.moment)?)),
             None => Ok(Kept::Standing(&self.base.kept)),
         }
+    }
+
+    /// How its rules change with what is planned, if anything of them does: its number, its grant, and the ports of its
+    /// virtual switch.
+    pub(crate) fn leaf_delta(
+        &self,
+        alloc: Global,
+        n: u32,
+        grant: &Grant,
+        ports: &List<u16>,
+    ) -> Result<Option<LeafDelta>, Memory> {
+        let Some(planned) = &self.planned else {
+            return Ok(None);
+        };
+        let kept = &self.base.kept;
+        let delta = leaf_delta(alloc, n, grant, kept, planned, self.moment, ports)?;
+        if delta.gone.is_empty() && delta.come.is_empty() {
+            return Ok(None);
+        }
+        Ok(Some(delta))
     }
 
     /// What is moved in, with what the member is put. There is a place for that on any machine.

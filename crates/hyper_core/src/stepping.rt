@@ -12,16 +12,24 @@ use crate::drafting::draft_event;
 use crate::glances::glance;
 use crate::heard::Heard;
 use crate::held::Held;
+use crate::keeping::kept_of;
 use crate::moving::move_in;
 use crate::overtaking::hear;
 use crate::putting::Drafted;
 use crate::setup::Setup;
 use crate::takings::take;
+use composed_tables::Composed;
 use cv_io::{Memory, Session};
 use events::{Event, Reply};
 
 /// An event is drafted, and what it leaves is moved in.
-fn drive(setup: &Setup, held: &mut Held, event: &Event, heard: &Heard) -> Result<Reply, Memory>
+fn drive(
+    setup: &Setup,
+    held: &mut Held,
+    event: &Event,
+    heard: &Heard,
+    composed: &mut Option<Composed>,
+) -> Result<Reply, Memory>
     requires all { HasAll setup.now held.old }
     requires whole { IsWhole event.now }
     requires heard { IsHeardOf event.now heard.now (state_in_held held.old) }
@@ -39,14 +47,19 @@ fn drive(setup: &Setup, held: &mut Held, event: &Event, heard: &Heard) -> Result
         reply,
         counts,
         parts,
-    } = draft_event(setup, held, event, heard)?;
+    } = draft_event(setup, held, event, heard, composed)?;
     held.counts.make(counts)?;
     move_in(held, parts);
     Ok(reply)
 }
 
 /// One step of such an event: what it tells is heard before, and taken back where memory is wanted.
-pub(crate) fn proceed(setup: &Setup, held: &mut Held, event: &Event) -> Result<Reply, Memory>
+pub(crate) fn proceed(
+    setup: &Setup,
+    held: &mut Held,
+    event: &Event,
+    composed: &mut Option<Composed>,
+) -> Result<Reply, Memory>
     requires all { HasAll setup.now held.old }
     requires whole { IsWhole event.now }
     requires settled { IsSettledState setup.now (state_in_held held.old) }
@@ -57,9 +70,16 @@ pub(crate) fn proceed(setup: &Setup, held: &mut Held, event: &Event) -> Result<R
     ensures memory { OnErr result (state_in_held held.new ≡ state_in_held held.old) }
 {
     let overtaken = hear(setup.alloc(), held, event)?;
-    match drive(setup, held, event, &overtaken.heard) {
-        Ok(reply) => Ok(reply),
+    match drive(setup, held, event, &overtaken.heard, composed) {
+        Ok(reply) => {
+            if composed.is_none() {
+                *composed = kept_of(setup, held);
+            }
+            Ok(reply)
+        }
         Err(Memory) => {
+            // It may have followed the event.
+            *composed = None;
             overtaken.take_back(&mut held.counts);
             Err(Memory)
         }
@@ -78,7 +98,12 @@ fn taking_in(event: &Event) -> Option<Session>
 
 /// One step.
 #[tactic(auto, using(crate::proofs::Stepped::step_glanced, crate::proofs::Stepped::step_taking, crate::proofs::Stepped::step_other, crate::proofs::Stepped::has_all_taken, crate::proofs::Stepped::settled_taken, crate::proofs::Whole::whole_event))]
-pub(crate) fn step(setup: &Setup, held: &mut Held, event: &Event) -> Result<Reply, Memory>
+pub(crate) fn step(
+    setup: &Setup,
+    held: &mut Held,
+    event: &Event,
+    composed: &mut Option<Composed>,
+) -> Result<Reply, Memory>
     requires all { HasAll setup.now held.old }
     requires settled { IsSettledState setup.now (state_in_held held.old) }
     ensures step { IfOk result (λ reply. (reply, state_in_held held.new)
@@ -93,5 +118,5 @@ pub(crate) fn step(setup: &Setup, held: &mut Held, event: &Event) -> Result<Repl
     if let Some(session) = taking_in(event) {
         return Ok(take(held, session));
     }
-    proceed(setup, held, event)
+    proceed(setup, held, event, composed)
 }

@@ -1,0 +1,8 @@
+//! Each function's contract is a law.
+ghost use Rattle.leaf_changes.specs.Leaves.{LeavesChange};
+
+/// Where the leaves of some entries go and the rules of those that are there then come, the rules are those of the
+/// table that differs in these entries alone.
+pub fn leaves_change()
+    ensures { LeavesChange }
+{}

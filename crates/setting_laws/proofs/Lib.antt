@@ -1,0 +1,4 @@
+pub mod Links
+pub mod Ready
+pub mod Ups
+pub mod Members

@@ -1,0 +1,6 @@
+pub mod Rising
+pub mod ToldBatches
+pub mod Sorting
+pub mod OnePass
+pub mod Cookies
+pub mod AnyOrder
