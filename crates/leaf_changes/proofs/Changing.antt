@@ -30,7 +30,7 @@ and_true_right : (b : Bool) → (b && true) ≡ b
 and_true_right true = refl
 and_true_right false = refl
 
-both_false : (a b : Bool) → (a || b) ≡ false → (a ≡ false) × (b ≡ false)
+pub both_false : (a b : Bool) → (a || b) ≡ false → (a ≡ false) × (b ≡ false)
 both_false true b h = absurd (true≢false h)
 both_false false b h = (refl, h)
 

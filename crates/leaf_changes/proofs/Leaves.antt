@@ -16,6 +16,7 @@ use Rattle.policy_meaning.specs.declared.leaf.LeafTable.{LeafTable}
 use Rattle.policy_meaning.specs.declared.rule.Rule.{Rule}
 use Rattle.leaf_changes.specs.Leaves.{LeavesChange, entries_among, entries_apart, entry_rules, leaf_at}
 use Rattle.leaf_changes.proofs.Lists.{all_pass, behind, filter_joined, joined, none_pass, weaker}
+use Rattle.leaf_changes.proofs.Rules.{all_met}
 
 -- leaves ------------------------------------------------------------------------------------------------------------
 
@@ -64,15 +65,6 @@ same_numbers n (s ∷ ss) =
     ∙ ap (λ b. (s == n) || b) (same_numbers n ss)
 
 -- rules -------------------------------------------------------------------------------------------------------------
-
-met_next : (a : Rule) (o : Option MatchOf) (rest : List Rule) → AllByRecursion (λ (r : Rule). r.ancestry ≡ a.ancestry) rest
-    → AllByRecursion (λ (r : Rule). r.ancestry ≡ a.ancestry) (cons_option (option_map (λ m. record a { m = m }) o) rest)
-met_next a None rest h = h
-met_next a (Some m) rest h = (refl, h)
-
-all_met : (boxes : List MatchOf) (a : Rule) → AllByRecursion (λ (r : Rule). r.ancestry ≡ a.ancestry) (in_cells boxes a)
-all_met [] a = tt
-all_met (n ∷ ns) a = met_next a (meet a.m n) (in_cells ns a) (all_met ns a)
 
 module _ (ports serials : List ℕ) (t : LeafTable) where
   abbrev goes : List Leaf

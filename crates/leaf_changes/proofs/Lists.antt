@@ -112,3 +112,7 @@ left_out q front some back none =
     filter_joined q front (some ++ back)
     ∙ (ap (λ ys. filter q front ++ ys) (filter_joined q some back ∙ ap (λ ys. ys ++ filter q back) none)
     ∙ sym (filter_joined q front back))
+
+pub map_joined : {A B : Type 0} (f : A → B) (xs ys : List A) → map f (xs ++ ys) ≡ map f xs ++ map f ys
+map_joined f [] ys = refl
+map_joined f (x ∷ xs) ys = ap (λ zs. f x ∷ zs) (map_joined f xs ys)

@@ -2,11 +2,14 @@
 use Rattle.std.specs.Prelude.{◌≡◌, ◌==◌, ℕ, true, Some, is_some, map}
 use Rattle.std.specs.List.{IsDistinct, list_any}
 use Rattle.level_map.specs.Levels.{Levels, level_of}
+use Rattle.of10_msgs.specs.declared.message.FlowMod.{FlowMod}
 use Rattle.member_table.specs.Changes.{is_among, replaced}
+use Rattle.member_table.specs.Planning.{change_of}
+use Rattle.member_table.specs.Sound.{IsSound}
 use Rattle.member_table.specs.Tables.{has_rank}
 use Rattle.member_table.specs.declared.change.Modified.{Modified}
-use Rattle.member_state.specs.Changes.{levels_with}
-use Rattle.member_state.specs.Plans.{planned_table}
+use Rattle.member_state.specs.Changes.{accepted, levels_with}
+use Rattle.member_state.specs.Plans.{after_planned, planned_table}
 use Rattle.member_state.specs.States.{MemberStateOf}
 use Rattle.member_state.specs.declared.planned.Planned.{Planned}
 
@@ -23,3 +26,9 @@ pub record IsPlanOf (x : MemberStateOf) (p : Planned) : Type 0 where
 -- each rank that had a level has it
 abbrev pub KeepsLevels : Levels → Levels → Type 0
 KeepsLevels old new = (rank : ℕ) → is_some (level_of old rank) ≡ true → level_of new rank ≡ level_of old rank
+
+-- what judging a message plans is so
+abbrev pub MessagesArePlans : Type 0
+MessagesArePlans =
+    (x : MemberStateOf) (m : FlowMod) (p : Planned) (now : ℕ) → IsSound x.table → p.change ≡ change_of x.table m now
+    → after_planned x p now ≡ accepted m now x → IsPlanOf x p

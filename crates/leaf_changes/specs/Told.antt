@@ -19,7 +19,7 @@ pub record IsFitting (size : ℕ) (e : LeafEntry) : Type 0 where
 -- the second table differs from the first in the entries of these numbers alone, and these are the ones that it has
 pub record IsTold (t u : LeafTable) (serials : List ℕ) (come : List LeafEntry) : Type 0 where
   pub differs : DiffersAt (filter has_kind serials) t u
-  pub come : IsPermutation come (entries_among (filter has_kind serials) u.entries)
+  pub are : IsPermutation come (entries_among (filter has_kind serials) u.entries)
   pub fitting : AllByRecursion (IsFitting u.size) come
 
 -- the table of the member of this number with this grant, of so many levels, with these entries

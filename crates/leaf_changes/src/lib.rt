@@ -7,5 +7,6 @@ mod delta;
 pub mod laws;
 mod making;
 mod numbers;
+pub mod plans;
 
 pub use delta::leaf_delta;
