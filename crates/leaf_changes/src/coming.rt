@@ -2,11 +2,10 @@
 ghost use Rattle.std.specs.Prelude.{◌≡◌, IfOk, IfSome, map, option_map};
 ghost use Rattle.of10_actions.specs.Actions.{AreInRange};
 ghost use Rattle.of10_actions.specs.Ports.{AreRising};
-ghost use Rattle.member_table.specs.Changes.{CanCommit, IsInRange};
+ghost use Rattle.member_table.specs.Changes.{CanCommit, is_among};
 ghost use Rattle.member_table.specs.Tables.{with_actions as with_actions_of};
 ghost use Rattle.member_table.specs.declared.entry.Entry.{Entry as EntryOf};
 ghost use Rattle.member_state.specs.Leaves.{leaf_by};
-ghost use Rattle.member_state.specs.Plans.{IsReady};
 ghost use Rattle.member_state.specs.States.{held_table};
 ghost use Rattle.leaf_changes.specs.Touched.{changed_in, coming_in, goes as goes_in, staying};
 
@@ -18,12 +17,18 @@ use of10_actions::{Action, PortView};
 use policy_meaning::LeafEntry;
 use std::alloc::Global;
 
+/// Whether the entry of a number goes after another came.
+fn is_dropped(planned: &Planned, serial: u64) -> bool
+    ensures { result ≡ is_among planned.now.dropped serial }
+{
+    planned.dropped.as_slice().contains(&serial)
+}
+
 /// Whether the entry of a number goes, before another comes or afterwards.
 fn goes(planned: &Planned, serial: u64) -> bool
     ensures { result ≡ goes_in planned.now serial }
 {
-    planned.change.removed.as_slice().contains(&serial)
-        || planned.dropped.as_slice().contains(&serial)
+    planned.change.removed.as_slice().contains(&serial) || is_dropped(planned, serial)
 }
 
 /// An entry with other actions.
@@ -76,7 +81,7 @@ fn added(
     let Some(entry) = &planned.change.added else {
         return Ok(None);
     };
-    if planned.dropped.as_slice().contains(&entry.serial) {
+    if is_dropped(planned, entry.serial) {
         return Ok(None);
     }
     Ok(Some(leaf_entry(alloc, &planned.levels, member, ports, entry)?))

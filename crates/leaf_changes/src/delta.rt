@@ -39,7 +39,8 @@ fn told(
 {
     // The proof learns what is true of every state.
     let _ = kept.table();
-    if keeps_levels(kept.levels(), &planned.change.added)? {
+    let keeps = keeps_levels(kept.levels(), &planned.change.added)?;
+    if keeps {
         let serials = touched(planned)?;
         let entries = coming(alloc, member, &grant.ports, kept, planned)?;
         return Ok((serials, entries));
