@@ -142,3 +142,8 @@ made_next f g xs i x done less e =
     (sym (ap (λ ys. map f (filter_map g ys))
     (rw add-one (drop-cons xs i x less) ∙ ap (λ y. y ∷ drop (i + 1) xs) (sym e))
     ∙ filtered_split f (g x) (filter_map g (drop (i + 1) xs))))
+
+pub map_added : {A B : Type 0} (f : A → B) (xs : List A) (o : Option A)
+    → map f (xs ++ option_to_list o) ≡ map f xs ++ option_to_list (option_map f o)
+map_added f xs None = map_joined f xs []
+map_added f xs (Some x) = map_joined f xs (x ∷ [])

@@ -1,8 +1,9 @@
 //! The entries that come or get other actions.
-ghost use Rattle.std.specs.Prelude.{◌≡◌, IfOk, IfSome, map, option_map};
+ghost use Rattle.std.specs.Prelude.{◌≡◌, IfOk, IfSome, filter_map, map, option_map};
+ghost use Rattle.std.specs.List.{AllByRecursion};
 ghost use Rattle.of10_actions.specs.Actions.{AreInRange};
 ghost use Rattle.of10_actions.specs.Ports.{AreRising};
-ghost use Rattle.member_table.specs.Changes.{CanCommit, is_among};
+ghost use Rattle.member_table.specs.Changes.{CanCommit, IsInRange, is_among};
 ghost use Rattle.member_table.specs.Tables.{with_actions as with_actions_of};
 ghost use Rattle.member_table.specs.declared.entry.Entry.{Entry as EntryOf};
 ghost use Rattle.member_state.specs.Leaves.{leaf_by};
@@ -87,6 +88,26 @@ fn added(
     Ok(Some(leaf_entry(alloc, &planned.levels, member, ports, entry)?))
 }
 
+/// The entries that get other actions, as they are then.
+fn all_changed(
+    alloc: Global,
+    member: u32,
+    ports: &PortView,
+    kept: &MemberState,
+    planned: &Planned,
+) -> Result<List<LeafEntry>, Memory>
+    requires in_range { AllByRecursion IsInRange planned.now.change.modified }
+    requires rising { AreRising ports.now }
+    ensures { IfOk result (λ entries. entries ≡ map (leaf_by planned.now.levels member ports.now)
+        (filter_map (changed_in kept.now.state.table.entries planned.now) planned.now.change.modified)) }
+{
+    let mut entries = List::new(alloc);
+    for one in planned.change.modified.as_slice() {
+        entries.push_some(changed(alloc, member, ports, kept, planned, one)?)?;
+    }
+    Ok(entries)
+}
+
 /// The entries that come or get other actions, as they are then.
 pub(crate) fn coming(
     alloc: Global,
@@ -100,10 +121,7 @@ pub(crate) fn coming(
     ensures { IfOk result (λ entries. entries ≡ map (leaf_by planned.now.levels member ports.now)
         (coming_in kept.now.state.table.entries planned.now)) }
 {
-    let mut entries = List::new(alloc);
-    for one in planned.change.modified.as_slice() {
-        entries.push_some(changed(alloc, member, ports, kept, planned, one)?)?;
-    }
+    let mut entries = all_changed(alloc, member, ports, kept, planned)?;
     entries.push_some(added(alloc, member, ports, planned)?)?;
     Ok(entries)
 }

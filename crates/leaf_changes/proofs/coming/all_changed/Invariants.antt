@@ -2,7 +2,7 @@ use Rattle.std.proofs.Common.{◌≡◌, ◌++◌, drop, map}
 use Rattle.std.specs.Prelude.{filter_map}
 use Rattle.member_state.specs.Leaves.{leaf_by}
 use Rattle.leaf_changes.specs.Touched.{changed_in}
-use Rattle.leaf_changes.proofs.coming.coming.Given as goal
+use Rattle.leaf_changes.proofs.coming.all_changed.Given as goal
 
 -- what is there, and what is left gives the rest
 abbrev pub invariant-loop-one : goal.invariant-loop-one
