@@ -157,9 +157,9 @@ module _ (removed : List ℕ) (mods : List Modified) (new : Entry) where
           → IsPut place (x ∷ es)
       taken t a g =
           let stay : stays removed place x ≡ true
-              = ap (λ o. is_left removed x || is_number o x.serial) g
-              ∙ (ap (λ b. is_left removed x || b) (eq-eqb x.serial x.serial refl)
-              ∙ or_true_right (is_left removed x)) in
+          = ap (λ o. is_left removed x || is_number o x.serial) g
+          ∙ (ap (λ b. is_left removed x || b) (eq-eqb x.serial x.serial refl)
+          ∙ or_true_right (is_left removed x)) in
           let gone : is_left removed x ≡ false = ap not (named x.serial g) in
           record {
             front = [];

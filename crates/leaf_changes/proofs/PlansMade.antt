@@ -114,7 +114,7 @@ level_stays es l rank t =
 pub messages-are-plans : MessagesArePlans
 messages-are-plans x m p now sound change made =
     let naming : IsNaming x.table.entries p.change
-        = subst (IsNaming x.table.entries) (sym change) (change_names x.table m now sound) in
+    = subst (IsNaming x.table.entries) (sym change) (change_names x.table m now sound) in
     let placed : Levels = levels_with (change_of x.table m now).added x.levels in
     record {
       named = naming.named;
@@ -122,8 +122,8 @@ messages-are-plans x m p now sound change made =
       size = ap (λ (y : MemberStateOf). y.levels.size) made ∙ with_size (change_of x.table m now).added x.levels;
       placed = λ rank t.
           let there : list_any (has_rank rank) (after x.table m now).entries ≡ true
-              = sym (ap (λ (y : MemberStateOf). list_any (has_rank rank) y.table.entries) made)
-              ∙ (has_touched p.touched now rank (planned_table x.table p).entries ∙ t) in
+          = sym (ap (λ (y : MemberStateOf). list_any (has_rank rank) y.table.entries) made)
+          ∙ (has_touched p.touched now rank (planned_table x.table p).entries ∙ t) in
           sym (level_stays (planned_table x.table p).entries p.levels rank t)
           ∙ (ap (λ (y : MemberStateOf). level_of y.levels rank) made
           ∙ (level_stays (after x.table m now).entries placed rank there
