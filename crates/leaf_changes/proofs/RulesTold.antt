@@ -11,7 +11,7 @@ use Rattle.policy_meaning.specs.LeafRules.{cells, entry_rule, in_cells, leaf_rul
 use Rattle.policy_meaning.specs.declared.leaf.LeafEntry.{LeafEntry}
 use Rattle.policy_meaning.specs.declared.leaf.LeafTable.{LeafTable}
 use Rattle.policy_meaning.specs.declared.rule.Rule.{Rule}
-use Rattle.leaf_changes.specs.Leaves.{delta_of, entries_among, entry_rules, leaf_at}
+use Rattle.leaf_changes.specs.Leaves.{entries_among, entry_rules, leaf_at}
 use Rattle.leaf_changes.specs.Told.{IsTold}
 use Rattle.leaf_changes.specs.Touched.{has_kind}
 use Rattle.leaf_changes.proofs.Leaves.{leaves-change}

@@ -1,5 +1,5 @@
 -- What is told of a member's table that changes with what is planned.
-use Rattle.std.proofs.Common.{◌≡◌, ◌∙◌, ℕ, ◌+◌, ◌<◌, ◌≤◌, ◌^◌, ◌==◌, Bool, true, false, not, ◌||◌, List, [], ◌∷◌, ◌++◌, map, filter, find, Option, Some, None, IfSome, is_some, option_map, arith, refl, sym, ap, subst, eq-eqb, eqb-true, true≢false}
+use Rattle.std.proofs.Common.{◌≡◌, ◌∙◌, ℕ, ◌+◌, ◌<◌, ◌≤◌, ◌^◌, ◌==◌, Bool, true, false, not, ◌||◌, List, [], ◌∷◌, ◌++◌, map, filter, find, Option, Some, None, IfSome, option_map, arith, refl, sym, ap, subst, eq-eqb, eqb-true, true≢false}
 use Rattle.std.specs.Prelude.{IsPermutation, filter_map, if◌then◌else◌, option_to_list}
 use Rattle.std.specs.List.{AllByRecursion, list_any}
 use Rattle.std.proofs.lemmas.Bool.{lt-ltb, ne_eqb}
@@ -9,7 +9,7 @@ use Rattle.of10_match.specs.Normal.{IsNormal}
 use Rattle.of10_actions.specs.Effects.{effects_of}
 use Rattle.of10_actions.specs.declared.effects.PortView.{PortView}
 use Rattle.grants.specs.declared.grant.Grant.{Grant}
-use Rattle.level_map.specs.Levels.{FollowsRanks, IsLevelling, Levels, level_of}
+use Rattle.level_map.specs.Levels.{IsLevelling, Levels, level_of}
 use Rattle.level_map.proofs.Properties.{follows}
 use Rattle.member_table.specs.Changes.{CanAdd, is_among}
 use Rattle.member_table.specs.Entries.{has_serial}
