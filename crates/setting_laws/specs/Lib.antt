@@ -1,2 +1,5 @@
 pub mod Ready
 pub mod Members
+pub mod Taking
+pub mod Drafted
+pub mod Staying

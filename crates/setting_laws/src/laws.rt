@@ -1,6 +1,9 @@
 //! Each function's contract is a law.
+ghost use Rattle.setting_laws.specs.Drafted.{DraftsAreReady, DraftsAreSound};
 ghost use Rattle.setting_laws.specs.Members.{MembersChange};
 ghost use Rattle.setting_laws.specs.Ready.{SettingsAreReady, UpsAreFree};
+ghost use Rattle.setting_laws.specs.Staying.{PhasesKeepTables, SettingsStay, StepsKeepTables, TakingsKeepTables};
+ghost use Rattle.setting_laws.specs.Taking.{ChangesCanBeTaken, DeltasCanBeTaken};
 
 /// The setting of a state whose tables are sound is as the composed part asks of a setting.
 pub fn settings_are_ready()
@@ -18,4 +21,47 @@ pub fn ups_are_free()
 /// with that member alone.
 pub fn members_change()
     ensures { MembersChange }
+{}
+
+/// What is kept of a setting can take the change of a member where what comes are rules that the member has then.
+pub fn deltas_can_be_taken()
+    ensures { DeltasCanBeTaken }
+{}
+
+/// What is kept of a setting can take a change by which a member's rules change as they do.
+pub fn changes_can_be_taken()
+    ensures { ChangesCanBeTaken }
+{}
+
+/// What settles after an event has sound tables, as long as serial numbers are left.
+pub fn drafts_are_sound()
+    ensures { DraftsAreSound }
+{}
+
+/// So its setting is as the composed part asks.
+pub fn drafts_are_ready()
+    ensures { DraftsAreReady }
+{
+    settings_are_ready();
+    drafts_are_sound();
+}
+
+/// What changes no expression and no member's table leaves what is kept of a setting as it is.
+pub fn settings_stay()
+    ensures { SettingsStay }
+{}
+
+/// Composing, telling and putting change no expression and no member's table.
+pub fn phases_keep_tables()
+    ensures { PhasesKeepTables }
+{}
+
+/// A step leaves those that settled.
+pub fn steps_keep_tables()
+    ensures { StepsKeepTables }
+{}
+
+/// A taking changes no expression and no member's table.
+pub fn takings_keep_tables()
+    ensures { TakingsKeepTables }
 {}

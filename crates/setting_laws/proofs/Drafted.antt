@@ -1,0 +1,111 @@
+-- What an event leaves before it is composed has sound tables.
+use Rattle.std.proofs.Common.{◌≡◌, ◌∙◌, ℕ, ◌+◌, true, List, [], ◌∷◌, map, Option, Some, None, IfSome, refl, sym, ap}
+use Rattle.std.specs.Prelude.{slice_get}
+use Rattle.std.specs.List.{AllByRecursion, enumerate_from}
+use Rattle.cv_io.specs.declared.leaf.Who.TheVariants.{Switch}
+use Rattle.events.specs.declared.event.Event.{Event}
+use Rattle.events.specs.declared.event.Event.TheVariants as events
+use Rattle.policy_file.specs.Policies.{PolicyOf}
+use Rattle.waitings.specs.Waitings.{asker_of}
+use Rattle.waitings.specs.declared.state.Asker.{Asker}
+use Rattle.waitings.specs.declared.state.Part.{Part}
+use Rattle.waitings.specs.declared.state.Waiting.{Waiting}
+use Rattle.machine_meaning.specs.Acting.{act}
+use Rattle.machine_meaning.specs.Composing.{compose}
+use Rattle.machine_meaning.specs.Drafts.{Draft}
+use Rattle.machine_meaning.specs.Events.{IsEvent}
+use Rattle.machine_meaning.specs.Glances.{glance_of}
+use Rattle.machine_meaning.specs.Hearing.{heard}
+use Rattle.machine_meaning.specs.Phases.{draft_of, settled_of}
+use Rattle.machine_meaning.specs.Putting.{put_to_member}
+use Rattle.machine_meaning.specs.Rounds.{Closing, close}
+use Rattle.machine_meaning.specs.Sessions.{is_up}
+use Rattle.machine_meaning.specs.Sound.{AreSoundTables, IsSoundState, IsSoundWaiting, IsUpAsker}
+use Rattle.machine_meaning.specs.States.{MemberOf, State}
+use Rattle.machine_meaning.proofs.KeptNumbers.{composed_members, next_of, nexts, nexts_after, same_nexts, told_members}
+use Rattle.machine_meaning.proofs.KeptWaiting.{DownUnknown, IsAwaited, IsPartOfUp}
+use Rattle.machine_meaning.proofs.Readied.{long_map}
+use Rattle.machine_meaning.proofs.SoundActs.{act_holds}
+use Rattle.machine_meaning.proofs.SoundPhases.{closed_holds, settled_holds}
+use Rattle.machine_meaning.proofs.SoundShapes.{IsShaped}
+use Rattle.machine_meaning.proofs.Unchanged.{all_weaker}
+use Rattle.machine_meaning.proofs.WhoIsUp.{IsUpAt, is_up_member, is_up_switch, member_up, switch_up}
+use Rattle.setting_laws.specs.Drafted.{DraftsAreReady, DraftsAreSound, HaveSerials}
+use Rattle.setting_laws.specs.Ready.{SettingsAreReady}
+
+-- a sound state, as an event finds it -------------------------------------------------------------------------------
+
+module _ (s : State) where
+  abbrev IsAwaitedIn : Waiting → Type 0
+  IsAwaitedIn w = IsAwaited (map switch_up s.switches) (map member_up s.members) w
+
+  awaited : (w : Waiting) → IsSoundWaiting s w → IsAwaitedIn w
+  awaited w h = record {
+    parts =
+        all_weaker (λ (part : Part). is_up s (Switch part.switch) ≡ true) (IsPartOfUp (map switch_up s.switches))
+        (λ part k. sym (is_up_switch s part.switch) ∙ k) w.parts h.parts;
+    asker = by (asker_of w.purpose) h.asker;
+  }
+    where
+      by : (o : Option Asker) → IfSome o (IsUpAsker s)
+          → IfSome o (λ (a : Asker). IsUpAt (map member_up s.members) a.member)
+      by None h = tt
+      by (Some a) h = sym (is_up_member s a.member) ∙ h
+
+begins : (p : PolicyOf) (s : State) → IsSoundState p s → IsShaped p s
+begins p s h = record {
+  exprs = h.exprs;
+  all_members = h.all_members;
+  members = h.members;
+  all_switches = long_map switch_up s.switches ∙ h.all_switches;
+  all_standing = h.all_standing;
+  waiting = all_weaker (IsSoundWaiting s) (IsAwaitedIn s) (awaited s) s.waiting h.waiting;
+  begun = h.written.0;
+  fits = h.written.1;
+}
+
+down_unknown : (p : PolicyOf) (s : State) → IsSoundState p s → DownUnknown s
+down_unknown p s h n x at e = ((h.switches n x at).down e).0
+
+-- serial numbers ----------------------------------------------------------------------------------------------------
+
+put_nexts : (d : Draft) (k : ℕ) (xs : List MemberOf)
+    → map next_of (map (put_to_member d) (enumerate_from k xs)) ≡ map next_of xs
+put_nexts d k [] = refl
+put_nexts d k (x ∷ xs) = ap (λ (ns : List ℕ). next_of x ∷ ns) (put_nexts d (k + 1) xs)
+
+-- what settles gives no entry a number
+settled_nexts : (p : PolicyOf) (s : State) (e : Event) (c : Closing)
+    → nexts (settled_of p s e c).state ≡ nexts (act p s e).state
+settled_nexts p s e c =
+    let settled = settled_of p s e c in
+    let final = draft_of p s e c in
+    sym (put_nexts final 0 final.state.members
+    ∙ (ap (map next_of) (told_members p s (compose p settled)) ∙ ap (map next_of) (composed_members p settled)))
+    ∙ nexts_after p s e c
+
+-- drafts ------------------------------------------------------------------------------------------------------------
+
+-- what is heard of counts doesn't matter to whether an event changes anything
+glanced : (p : PolicyOf) (s : State) (e : Event) → glance_of p s e ≡ None → glance_of p (heard s e) e ≡ None
+glanced p s (events.Up who arp) h = h
+glanced p s (events.Msg session frame) h = h
+glanced p s (events.Gone session) h = h
+glanced p s (events.Tick second) h = h
+glanced p s (events.Take session) h = h
+glanced p s (events.Policy v text) h = h
+
+pub drafts_sound : DraftsAreSound
+drafts_sound p s sound e given none c serials =
+    let start = heard s e in
+    let acted = act p start e in
+    let settled = settled_of p start e c in
+    let left = same_nexts settled.state.members acted.state.members (settled_nexts p start e c) serials in
+    let begun : IsShaped p start = begins p s sound in
+    let done = act_holds p start begun (down_unknown p s sound) e given (glanced p s e none) left in
+    let shape = (settled_holds p (close c acted) (closed_holds p c acted done)).shape in
+    record { exprs = shape.exprs; all_members = shape.all_members; members = shape.members }
+
+pub drafts_ready : SettingsAreReady → DraftsAreSound → DraftsAreReady
+drafts_ready ready drafts p h s sound e given none c serials =
+    ready p h (settled_of p (heard s e) e c).state (drafts p s sound e given none c serials)
