@@ -6,3 +6,4 @@ pub mod Named
 pub mod Taking
 pub mod Drafted
 pub mod Staying
+pub mod Mixed

@@ -40,8 +40,8 @@ use Rattle.machine_meaning.specs.declared.said.Asked.{Asked}
 use Rattle.machine_meaning.specs.declared.said.Sent.{Sent}
 use Rattle.machine_meaning.proofs.Composed.{fold_holds}
 use Rattle.machine_meaning.proofs.Numbered.{changed_unseen}
-use Rattle.setting_laws.specs.Staying.{PhasesKeepTables, SettingsStay, StepsKeepTables, TablesStay, TakingsKeepTables}
-use Rattle.setting_laws.specs.Staying.{kept_of}
+use Rattle.setting_laws.specs.Staying.{LeavesAreOfTables, PhasesKeepTables, SettingsStay, StepsKeepTables, TablesStay}
+use Rattle.setting_laws.specs.Staying.{TakingsKeepTables, kept_of}
 use Rattle.setting_laws.proofs.Ups.{of_alike}
 
 -- settings ----------------------------------------------------------------------------------------------------------
@@ -58,10 +58,13 @@ same_tables k (m ∷ ms) (x ∷ xs) (y ∷ ys) e =
     let rest : map kept_of xs ≡ map kept_of ys = cc in
     ap₂ (λ (z : MemberStateOf) (ts : List LeafTable). leaf_of k m.grant z ∷ ts) first (same_tables (k + 1) ms xs ys rest)
 
+pub leaves_stay : LeavesAreOfTables
+leaves_stay p s t h = record { exprs = h.exprs; leaves = same_tables 0 p.members t.members s.members h.kept }
+
 pub settings_stay : SettingsStay
 settings_stay p s t k c h =
     subst (λ (tables : List LeafTable). IsOf (of_policies.setting_of p t.exprs tables (ups_with t.switches)) c)
-    (sym (same_tables 0 p.members t.members s.members k.kept))
+    (sym k.leaves)
     (subst (λ (exprs : List Policy). IsOf (setting_with p exprs s.members t.switches) c) (sym k.exprs)
     (of_alike p s.exprs s.members s.switches t.switches c h))
 

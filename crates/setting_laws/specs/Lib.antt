@@ -3,3 +3,4 @@ pub mod Members
 pub mod Taking
 pub mod Drafted
 pub mod Staying
+pub mod Mixed

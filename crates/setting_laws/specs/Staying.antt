@@ -10,7 +10,7 @@ use Rattle.machine_meaning.specs.Drafts.{Draft}
 use Rattle.machine_meaning.specs.Phases.{draft_of, settled_of}
 use Rattle.machine_meaning.specs.Putting.{put}
 use Rattle.machine_meaning.specs.Rounds.{Closing}
-use Rattle.machine_meaning.specs.Settings.{setting_of}
+use Rattle.machine_meaning.specs.Settings.{setting_of, tables_with}
 use Rattle.machine_meaning.specs.States.{MemberOf, State}
 use Rattle.machine_meaning.specs.Takings.{left_after}
 use Rattle.machine_meaning.specs.Telling.{tell}
@@ -24,10 +24,19 @@ pub record TablesStay (s t : State) : Type 0 where
   pub exprs : t.exprs ≡ s.exprs
   pub kept : map kept_of t.members ≡ map kept_of s.members
 
+-- so do the tables as composition reads them
+pub record LeavesStay (p : PolicyOf) (s t : State) : Type 0 where
+  pub exprs : t.exprs ≡ s.exprs
+  pub leaves : tables_with p.members t.members ≡ tables_with p.members s.members
+
+abbrev pub LeavesAreOfTables : Type 0
+LeavesAreOfTables = (p : PolicyOf) (s t : State) → TablesStay s t → LeavesStay p s t
+
 -- then what is kept of the setting stays
 abbrev pub SettingsStay : Type 0
 SettingsStay =
-    (p : PolicyOf) (s t : State) → TablesStay s t → (c : ComposedOf) → IsOf (setting_of p s) c → IsOf (setting_of p t) c
+    (p : PolicyOf) (s t : State) → LeavesStay p s t → (c : ComposedOf) → IsOf (setting_of p s) c
+    → IsOf (setting_of p t) c
 
 -- composing, telling and putting change neither
 pub record PhasesStay (p : PolicyOf) (before : State) (d : Draft) : Type 0 where

@@ -1,8 +1,10 @@
 //! Each function's contract is a law.
 ghost use Rattle.setting_laws.specs.Drafted.{DraftsAreReady, DraftsAreSound};
 ghost use Rattle.setting_laws.specs.Members.{MembersChange};
+ghost use Rattle.setting_laws.specs.Mixed.{MixturesAreSound, MixturesChange, MixturesLead, MixturesStay};
 ghost use Rattle.setting_laws.specs.Ready.{SettingsAreReady, UpsAreFree};
-ghost use Rattle.setting_laws.specs.Staying.{PhasesKeepTables, SettingsStay, StepsKeepTables, TakingsKeepTables};
+ghost use Rattle.setting_laws.specs.Staying.{LeavesAreOfTables, PhasesKeepTables, SettingsStay, StepsKeepTables};
+ghost use Rattle.setting_laws.specs.Staying.{TakingsKeepTables};
 ghost use Rattle.setting_laws.specs.Taking.{ChangesCanBeTaken, DeltasCanBeTaken};
 
 /// The setting of a state whose tables are sound is as the composed part asks of a setting.
@@ -46,7 +48,12 @@ pub fn drafts_are_ready()
     drafts_are_sound();
 }
 
-/// What changes no expression and no member's table leaves what is kept of a setting as it is.
+/// Where members' tables stay, they stay as composition reads them.
+pub fn leaves_are_of_tables()
+    ensures { LeavesAreOfTables }
+{}
+
+/// What changes no expression, and no member's table as composition reads it, leaves what is kept of a setting as it is.
 pub fn settings_stay()
     ensures { SettingsStay }
 {}
@@ -64,4 +71,24 @@ pub fn steps_keep_tables()
 /// A taking changes no expression and no member's table.
 pub fn takings_keep_tables()
     ensures { TakingsKeepTables }
+{}
+
+/// States between two with sound tables, whose first so many members are as they are after, have sound tables.
+pub fn mixtures_are_sound()
+    ensures { MixturesAreSound }
+{}
+
+/// From one of them to the next a member changes from how it is before to how it is after.
+pub fn mixtures_change()
+    ensures { MixturesChange }
+{}
+
+/// Where the member keeps the same, nothing does.
+pub fn mixtures_stay()
+    ensures { MixturesStay }
+{}
+
+/// They lead from the one state to the tables of the other.
+pub fn mixtures_lead()
+    ensures { MixturesLead }
 {}

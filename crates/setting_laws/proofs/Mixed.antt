@@ -1,0 +1,137 @@
+-- Between two states members change one after the other.
+use Rattle.std.proofs.Common.{◌≡◌, ◌≢◌, ◌∙◌, ℕ, zero, suc, ◌+◌, List, [], ◌∷◌, ◌++◌, add-one, arith, drop, length, map}
+use Rattle.std.proofs.Common.{Option, Some, None, refl, sym, ap, subst, take}
+use Rattle.std.specs.Prelude.{slice_get}
+use Rattle.member_state.specs.States.{MemberStateOf}
+use Rattle.policy_file.specs.Policies.{PolicyOf}
+use Rattle.policy_file.specs.declared.policy.MemberItem.{MemberItem}
+use Rattle.machine_meaning.specs.Sound.{AreSoundTables, IsSoundMember}
+use Rattle.machine_meaning.specs.States.{MemberOf, State}
+use Rattle.setting_laws.specs.Members.{ChangesAt}
+use Rattle.setting_laws.specs.Mixed.{IsNextMixture, MixturesAreSound, MixturesChange, MixturesLead, MixturesStay, mixed}
+use Rattle.setting_laws.specs.Staying.{TablesStay, kept_of}
+
+-- lists -------------------------------------------------------------------------------------------------------------
+
+module _ {A : Type 0} where
+  abbrev mix : ℕ → List A → List A → List A
+  mix k xs ys = take k ys ++ drop k xs
+
+  long_mix : (k : ℕ) (xs ys : List A) → length ys ≡ length xs → length (mix k xs ys) ≡ length xs
+  long_mix zero xs ys e = refl
+  long_mix (suc k) [] [] e = refl
+  long_mix (suc k) [] (y ∷ ys) e = absurd (omega (arith, e))
+  long_mix (suc k) (x ∷ xs) [] e = absurd (omega (arith, e))
+  long_mix (suc k) (x ∷ xs) (y ∷ ys) e = ap suc (long_mix k xs ys (omega (arith, e)))
+
+  -- what holds of the items of a number holds of that of the mixture
+  mix_has : (P : Option A → Type 0) (k n : ℕ) (xs ys : List A) → length ys ≡ length xs → P (slice_get xs n)
+      → P (slice_get ys n) → P (slice_get (mix k xs ys) n)
+  mix_has P zero n xs ys e h g = h
+  mix_has P (suc k) n [] [] e h g = h
+  mix_has P (suc k) n [] (y ∷ ys) e h g = absurd (omega (arith, e))
+  mix_has P (suc k) n (x ∷ xs) [] e h g = absurd (omega (arith, e))
+  mix_has P (suc k) zero (x ∷ xs) (y ∷ ys) e h g = g
+  mix_has P (suc k) (suc n) (x ∷ xs) (y ∷ ys) e h g = mix_has P k n xs ys (omega (arith, e)) h g
+
+  -- the item that is next, and that was last
+  mix_next : (i : ℕ) (xs ys : List A) → length ys ≡ length xs → slice_get (mix i xs ys) i ≡ slice_get xs i
+  mix_next zero xs ys e = refl
+  mix_next (suc i) [] [] e = refl
+  mix_next (suc i) [] (y ∷ ys) e = absurd (omega (arith, e))
+  mix_next (suc i) (x ∷ xs) [] e = absurd (omega (arith, e))
+  mix_next (suc i) (x ∷ xs) (y ∷ ys) e = mix_next i xs ys (omega (arith, e))
+
+  mix_last : (i : ℕ) (xs ys : List A) → length ys ≡ length xs → slice_get (mix (suc i) xs ys) i ≡ slice_get ys i
+  mix_last i [] [] e = refl
+  mix_last i [] (y ∷ ys) e = absurd (omega (arith, e))
+  mix_last i (x ∷ xs) [] e = absurd (omega (arith, e))
+  mix_last zero (x ∷ xs) (y ∷ ys) e = refl
+  mix_last (suc i) (x ∷ xs) (y ∷ ys) e = mix_last i xs ys (omega (arith, e))
+
+  -- all others stay
+  mix_rest : (i j : ℕ) (xs ys : List A) → length ys ≡ length xs → j ≢ i
+      → slice_get (mix (suc i) xs ys) j ≡ slice_get (mix i xs ys) j
+  mix_rest zero j [] [] e ne = refl
+  mix_rest (suc i) j [] [] e ne = refl
+  mix_rest i j [] (y ∷ ys) e ne = absurd (omega (arith, e))
+  mix_rest i j (x ∷ xs) [] e ne = absurd (omega (arith, e))
+  mix_rest zero zero (x ∷ xs) (y ∷ ys) e ne = absurd (ne refl)
+  mix_rest zero (suc j) (x ∷ xs) (y ∷ ys) e ne = refl
+  mix_rest (suc i) zero (x ∷ xs) (y ∷ ys) e ne = refl
+  mix_rest (suc i) (suc j) (x ∷ xs) (y ∷ ys) e ne =
+      mix_rest i j xs ys (omega (arith, e)) (λ f. ne (ap suc f))
+
+  mix_all : (xs ys : List A) → length ys ≡ length xs → mix (length xs) xs ys ≡ ys
+  mix_all [] [] e = refl
+  mix_all [] (y ∷ ys) e = absurd (omega (arith, e))
+  mix_all (x ∷ xs) [] e = absurd (omega (arith, e))
+  mix_all (x ∷ xs) (y ∷ ys) e = ap (λ (zs : List A). y ∷ zs) (mix_all xs ys (omega (arith, e)))
+
+some_same : {A : Type 0} {x y : A} → Some x ≡ Some y → x ≡ y
+some_same e = cc
+
+-- where the item of a number is seen as before, all are
+mix_same : {A B : Type 0} (f : A → B) (i : ℕ) (xs ys : List A) → length ys ≡ length xs
+    → ((x y : A) → slice_get xs i ≡ Some x → slice_get ys i ≡ Some y → f y ≡ f x)
+    → map f (mix (suc i) xs ys) ≡ map f (mix i xs ys)
+mix_same f zero [] [] e h = refl
+mix_same f (suc i) [] [] e h = refl
+mix_same f i [] (y ∷ ys) e h = absurd (omega (arith, e))
+mix_same f i (x ∷ xs) [] e h = absurd (omega (arith, e))
+mix_same {B = B} f zero (x ∷ xs) (y ∷ ys) e h = ap (λ (z : B). z ∷ map f xs) (h x y refl refl)
+mix_same {B = B} f (suc i) (x ∷ xs) (y ∷ ys) e h =
+    ap (λ (zs : List B). f y ∷ zs) (mix_same f i xs ys (omega (arith, e)) h)
+
+-- states ------------------------------------------------------------------------------------------------------------
+
+pub mixtures_sound : MixturesAreSound
+mixtures_sound p s t h k n =
+    let long : length t.members ≡ length s.members = k.all_members ∙ sym h.all_members in
+    record {
+      exprs = h.exprs;
+      all_members = long_mix n s.members t.members long ∙ h.all_members;
+      members = λ i m x there at.
+          mix_has (λ (o : Option MemberOf). o ≡ Some x → IsSoundMember p m x) n i s.members t.members long
+          (λ e. h.members i m x there e) (λ e. k.members i m x there e) at;
+    }
+
+pub mixtures_change : MixturesChange
+mixtures_change p s t long i m x y there was is = record {
+  changes = record {
+    item = m;
+    before = x;
+    after = y;
+    there = there;
+    was = mix_next i s.members t.members long ∙ was;
+    is =
+        subst (λ (k : ℕ). slice_get (mix k s.members t.members) i ≡ Some y) (sym (add-one i))
+        (mix_last i s.members t.members long ∙ is);
+    exprs = refl;
+    rest = λ j ne.
+        subst (λ (k : ℕ). slice_get (mix k s.members t.members) j ≡ slice_get (mix i s.members t.members) j)
+        (sym (add-one i)) (mix_rest i j s.members t.members long ne);
+  };
+  item = refl;
+  before = refl;
+  after = refl;
+}
+
+pub mixtures_stay : MixturesStay
+mixtures_stay s t long i x y was is same = record {
+  exprs = refl;
+  kept =
+      subst (λ (k : ℕ). map kept_of (mix k s.members t.members) ≡ map kept_of (mix i s.members t.members))
+      (sym (add-one i))
+      (mix_same kept_of i s.members t.members long
+      (λ (a b : MemberOf) f g.
+      let e : a ≡ x = some_same (sym f ∙ was) in
+      let d : b ≡ y = some_same (sym g ∙ is) in
+      ap kept_of d ∙ (same ∙ sym (ap kept_of e))));
+}
+
+pub mixtures_lead : MixturesLead
+mixtures_lead s t exprs long = record {
+  first = refl;
+  last = record { exprs = exprs; kept = ap (map kept_of) (sym (mix_all s.members t.members long)) };
+}
