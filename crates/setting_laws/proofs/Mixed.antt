@@ -1,15 +1,19 @@
 -- Between two states members change one after the other.
 use Rattle.std.proofs.Common.{◌≡◌, ◌≢◌, ◌∙◌, ℕ, zero, suc, ◌+◌, List, [], ◌∷◌, ◌++◌, add-one, arith, drop, length, map}
 use Rattle.std.proofs.Common.{Option, Some, None, refl, sym, ap, subst, take}
-use Rattle.std.specs.Prelude.{slice_get}
-use Rattle.member_state.specs.States.{MemberStateOf}
+use Rattle.std.specs.Prelude.{slice_get, zip}
+use Rattle.std.specs.List.{enumerate_from}
+use Rattle.member_state.specs.Leaves.{leaf_of}
 use Rattle.policy_file.specs.Policies.{PolicyOf}
 use Rattle.policy_file.specs.declared.policy.MemberItem.{MemberItem}
+use Rattle.policy_meaning.specs.declared.leaf.LeafTable.{LeafTable}
+use Rattle.machine_meaning.specs.Settings.{table_of, tables_with}
 use Rattle.machine_meaning.specs.Sound.{AreSoundTables, IsSoundMember}
 use Rattle.machine_meaning.specs.States.{MemberOf, State}
+use Rattle.machine_meaning.proofs.Numbered.{behind, from_zero, here}
 use Rattle.setting_laws.specs.Members.{ChangesAt}
 use Rattle.setting_laws.specs.Mixed.{IsNextMixture, MixturesAreSound, MixturesChange, MixturesLead, MixturesStay, mixed}
-use Rattle.setting_laws.specs.Staying.{TablesStay, kept_of}
+use Rattle.setting_laws.specs.Staying.{LeavesStay, TablesStay, kept_of}
 
 -- lists -------------------------------------------------------------------------------------------------------------
 
@@ -71,17 +75,30 @@ module _ {A : Type 0} where
 some_same : {A : Type 0} {x y : A} → Some x ≡ Some y → x ≡ y
 some_same e = cc
 
--- where the item of a number is seen as before, all are
-mix_same : {A B : Type 0} (f : A → B) (i : ℕ) (xs ys : List A) → length ys ≡ length xs
-    → ((x y : A) → slice_get xs i ≡ Some x → slice_get ys i ≡ Some y → f y ≡ f x)
-    → map f (mix (suc i) xs ys) ≡ map f (mix i xs ys)
-mix_same f zero [] [] e h = refl
-mix_same f (suc i) [] [] e h = refl
-mix_same f i [] (y ∷ ys) e h = absurd (omega (arith, e))
-mix_same f i (x ∷ xs) [] e h = absurd (omega (arith, e))
-mix_same {B = B} f zero (x ∷ xs) (y ∷ ys) e h = ap (λ (z : B). z ∷ map f xs) (h x y refl refl)
-mix_same {B = B} f (suc i) (x ∷ xs) (y ∷ ys) e h =
-    ap (λ (zs : List B). f y ∷ zs) (mix_same f i xs ys (omega (arith, e)) h)
+-- tables ------------------------------------------------------------------------------------------------------------
+
+-- a member's table is seen as before
+abbrev IsSame : ℕ → MemberItem → MemberOf → MemberOf → Type 0
+IsSame n m x y = leaf_of n m.grant y.kept ≡ leaf_of n m.grant x.kept
+
+-- where that of a number is, all are
+mix_tables : (k i : ℕ) (items : List MemberItem) (xs ys : List MemberOf) → length ys ≡ length xs
+    → ((m : MemberItem) (x y : MemberOf) → slice_get items i ≡ Some m → slice_get xs i ≡ Some x
+    → slice_get ys i ≡ Some y → IsSame (k + i) m x y)
+    → map table_of (enumerate_from k (zip items (mix (suc i) xs ys)))
+    ≡ map table_of (enumerate_from k (zip items (mix i xs ys)))
+mix_tables k i [] xs ys e h = refl
+mix_tables k zero (m ∷ ms) [] [] e h = refl
+mix_tables k (suc i) (m ∷ ms) [] [] e h = refl
+mix_tables k i (m ∷ ms) [] (y ∷ ys) e h = absurd (omega (arith, e))
+mix_tables k i (m ∷ ms) (x ∷ xs) [] e h = absurd (omega (arith, e))
+mix_tables k zero (m ∷ ms) (x ∷ xs) (y ∷ ys) e h =
+    ap (λ (t : LeafTable). t ∷ map table_of (enumerate_from (k + 1) (zip ms xs)))
+    (subst (λ (n : ℕ). IsSame n m x y) (sym (here k)) (h m x y refl refl refl))
+mix_tables k (suc i) (m ∷ ms) (x ∷ xs) (y ∷ ys) e h =
+    ap (λ (ts : List LeafTable). leaf_of k m.grant y.kept ∷ ts)
+    (mix_tables (k + 1) i ms xs ys (omega (arith, e))
+    (λ n a b f g d. subst (λ (j : ℕ). IsSame j n a b) (sym (behind k i)) (h n a b f g d)))
 
 -- states ------------------------------------------------------------------------------------------------------------
 
@@ -118,16 +135,20 @@ mixtures_change p s t long i m x y there was is = record {
 }
 
 pub mixtures_stay : MixturesStay
-mixtures_stay s t long i x y was is same = record {
+mixtures_stay p s t long i m x y there was is same = record {
   exprs = refl;
-  kept =
-      subst (λ (k : ℕ). map kept_of (mix k s.members t.members) ≡ map kept_of (mix i s.members t.members))
-      (sym (add-one i))
-      (mix_same kept_of i s.members t.members long
-      (λ (a b : MemberOf) f g.
-      let e : a ≡ x = some_same (sym f ∙ was) in
-      let d : b ≡ y = some_same (sym g ∙ is) in
-      ap kept_of d ∙ (same ∙ sym (ap kept_of e))));
+  leaves =
+      subst (λ (k : ℕ). tables_with p.members (mix k s.members t.members)
+      ≡ tables_with p.members (mix i s.members t.members)) (sym (add-one i))
+      (mix_tables 0 i p.members s.members t.members long
+      (λ n a b f g d.
+      let item : m ≡ n = some_same (sym there ∙ f) in
+      let before : x ≡ a = some_same (sym was ∙ g) in
+      let after : y ≡ b = some_same (sym is ∙ d) in
+      subst (λ (z : MemberOf). IsSame (0 + i) n a z) after
+      (subst (λ (z : MemberOf). IsSame (0 + i) n z y) before
+      (subst (λ (z : MemberItem). IsSame (0 + i) z x y) item
+      (subst (λ (j : ℕ). IsSame j m x y) (sym (from_zero i)) same)))));
 }
 
 pub mixtures_lead : MixturesLead

@@ -1,11 +1,12 @@
 -- Between two states members change one after the other.
 use Rattle.std.specs.Prelude.{◌≡◌, ℕ, ◌+◌, ◌++◌, Some, List, drop, length, slice_get, take}
+use Rattle.member_state.specs.Leaves.{leaf_of}
 use Rattle.policy_file.specs.Policies.{PolicyOf}
 use Rattle.policy_file.specs.declared.policy.MemberItem.{MemberItem}
 use Rattle.machine_meaning.specs.Sound.{AreSoundTables}
 use Rattle.machine_meaning.specs.States.{MemberOf, State}
 use Rattle.setting_laws.specs.Members.{ChangesAt}
-use Rattle.setting_laws.specs.Staying.{TablesStay}
+use Rattle.setting_laws.specs.Staying.{LeavesStay, TablesStay}
 
 -- the first so many members as they are after, and the others as they are before
 abbrev pub mixed_members : ℕ → List MemberOf → List MemberOf → List MemberOf
@@ -33,12 +34,14 @@ MixturesChange =
     → slice_get t.members i ≡ Some y
     → IsNextMixture p s t i m x y
 
--- or none, where the member keeps the same
+-- or none, where the member's table stays as composition reads it
 abbrev pub MixturesStay : Type 0
 MixturesStay =
-    (s t : State) → length t.members ≡ length s.members
-    → (i : ℕ) (x y : MemberOf) → slice_get s.members i ≡ Some x → slice_get t.members i ≡ Some y → y.kept ≡ x.kept
-    → TablesStay (mixed i s t) (mixed (i + 1) s t)
+    (p : PolicyOf) (s t : State) → length t.members ≡ length s.members
+    → (i : ℕ) (m : MemberItem) (x y : MemberOf) → slice_get p.members i ≡ Some m → slice_get s.members i ≡ Some x
+    → slice_get t.members i ≡ Some y
+    → leaf_of i m.grant y.kept ≡ leaf_of i m.grant x.kept
+    → LeavesStay p (mixed i s t) (mixed (i + 1) s t)
 
 -- they lead from the one to the other
 pub record LeadMixtures (s t : State) : Type 0 where

@@ -83,7 +83,7 @@ pub fn mixtures_change()
     ensures { MixturesChange }
 {}
 
-/// Where the member keeps the same, nothing does.
+/// Where its table stays as composition reads it, nothing does.
 pub fn mixtures_stay()
     ensures { MixturesStay }
 {}
