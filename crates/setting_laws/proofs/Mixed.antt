@@ -11,9 +11,11 @@ use Rattle.machine_meaning.specs.Settings.{table_of, tables_with}
 use Rattle.machine_meaning.specs.Sound.{AreSoundTables, IsSoundMember}
 use Rattle.machine_meaning.specs.States.{MemberOf, State}
 use Rattle.machine_meaning.proofs.Numbered.{behind, from_zero, here}
-use Rattle.setting_laws.specs.Members.{ChangesAt}
-use Rattle.setting_laws.specs.Mixed.{IsNextMixture, MixturesAreSound, MixturesChange, MixturesLead, MixturesStay, mixed}
+use Rattle.setting_laws.specs.Members.{ChangesAt, MembersChange, RulesChange}
+use Rattle.setting_laws.specs.Mixed.{MixturesAreSound, MixturesChange, MixturesLead, MixturesStay, MixturesTurn, mixed}
+use Rattle.setting_laws.specs.Ready.{SettingsAreReady}
 use Rattle.setting_laws.specs.Staying.{LeavesStay, TablesStay, kept_of}
+use Rattle.setting_laws.specs.Taking.{ChangesCanBeTaken}
 
 -- lists -------------------------------------------------------------------------------------------------------------
 
@@ -113,26 +115,46 @@ mixtures_sound p s t h k n =
           (λ e. h.members i m x there e) (λ e. k.members i m x there e) at;
     }
 
-pub mixtures_change : MixturesChange
-mixtures_change p s t long i m x y there was is = record {
-  changes = record {
-    item = m;
-    before = x;
-    after = y;
-    there = there;
-    was = mix_next i s.members t.members long ∙ was;
-    is =
-        subst (λ (k : ℕ). slice_get (mix k s.members t.members) i ≡ Some y) (sym (add-one i))
-        (mix_last i s.members t.members long ∙ is);
-    exprs = refl;
-    rest = λ j ne.
-        subst (λ (k : ℕ). slice_get (mix k s.members t.members) j ≡ slice_get (mix i s.members t.members) j)
-        (sym (add-one i)) (mix_rest i j s.members t.members long ne);
-  };
-  item = refl;
-  before = refl;
-  after = refl;
+-- the step at a member
+abbrev next_change : (p : PolicyOf) (s t : State) → length t.members ≡ length s.members → (i : ℕ) (m : MemberItem)
+    (x y : MemberOf) → slice_get p.members i ≡ Some m → slice_get s.members i ≡ Some x
+    → slice_get t.members i ≡ Some y → ChangesAt p i (mixed i s t) (mixed (i + 1) s t)
+next_change p s t long i m x y there was is = record {
+  item = m;
+  before = x;
+  after = y;
+  there = there;
+  was = mix_next i s.members t.members long ∙ was;
+  is =
+      subst (λ (k : ℕ). slice_get (mix k s.members t.members) i ≡ Some y) (sym (add-one i))
+      (mix_last i s.members t.members long ∙ is);
+  exprs = refl;
+  rest = λ j ne.
+      subst (λ (k : ℕ). slice_get (mix k s.members t.members) j ≡ slice_get (mix i s.members t.members) j)
+      (sym (add-one i)) (mix_rest i j s.members t.members long ne);
 }
+
+pub mixtures_change : MixturesChange
+mixtures_change p s t long i m x y there was is =
+    record { changes = next_change p s t long i m x y there was is; item = refl; before = refl; after = refl }
+
+pub mixtures_turn : SettingsAreReady → MembersChange → ChangesCanBeTaken → MixturesTurn
+mixtures_turn ready change taken p h s t sound after i m x y there was is delta turn =
+    let long : length t.members ≡ length s.members = after.all_members ∙ sym sound.all_members in
+    let first = mixtures_sound p s t sound after i in
+    let second = mixtures_sound p s t sound after (i + 1) in
+    let r : RulesChange p i (mixed i s t) (mixed (i + 1) s t) (next_change p s t long i m x y there was is) s.switches delta =
+    record { member = turn.member; rules = turn.rules } in
+    record {
+      good = (ready p h (mixed i s t) first).good;
+      good_after = (ready p h (mixed (i + 1) s t) second).good;
+      changes =
+          change p h (mixed i s t) (mixed (i + 1) s t) first second i (next_change p s t long i m x y there was is)
+          s.switches delta r;
+      can = λ composed of rules e.
+          taken p h (mixed i s t) (mixed (i + 1) s t) first second i (next_change p s t long i m x y there was is)
+          s.switches composed of delta r rules e;
+    }
 
 pub mixtures_stay : MixturesStay
 mixtures_stay p s t long i m x y there was is same = record {

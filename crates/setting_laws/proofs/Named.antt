@@ -106,7 +106,7 @@ module _ (v : ℕ) where
       → AllByRecursion Q (filter_map (name_at v) (enumerate_from k items)) → slice_get items i ≡ Some m
       → m.grant.ports.v ≡ v → Q (name_of (k + i, m))
   name_among Q k i [] m h at of = absurd (cc at)
-  name_among Q k zero (a ∷ as) m h at of = by (a.grant.ports.v == v) (eq-eqb a.grant.ports.v v (own ∙ of)) h
+  name_among Q k zero (a ∷ bs) m h at of = by (a.grant.ports.v == v) (eq-eqb a.grant.ports.v v (own ∙ of)) h
     where
       same : a ≡ m
       same = cc at
@@ -116,15 +116,15 @@ module _ (v : ℕ) where
 
       by : (b : Bool) → b ≡ true
           → AllByRecursion Q
-          (cons_option (if b then Some (name_of (k, a)) else None) (filter_map (name_at v) (enumerate_from (k + 1) as)))
+          (cons_option (if b then Some (name_of (k, a)) else None) (filter_map (name_at v) (enumerate_from (k + 1) bs)))
           → Q (name_of (k + 0, m))
       by true t h = subst (λ (j : ℕ). Q (name_of (j, m))) (here k) (subst (λ (y : MemberItem). Q (name_of (k, y))) same h.0)
       by false t h = absurd (true≢false (sym t))
-  name_among Q k (suc i) (a ∷ as) m h at of =
-      by (a.grant.ports.v == v) h (λ r. name_among Q (k + 1) i as m r at of)
+  name_among Q k (suc i) (a ∷ bs) m h at of =
+      by (a.grant.ports.v == v) h (λ r. name_among Q (k + 1) i bs m r at of)
     where
       rest : List MemberName
-      rest = filter_map (name_at v) (enumerate_from (k + 1) as)
+      rest = filter_map (name_at v) (enumerate_from (k + 1) bs)
 
       by : (b : Bool) → AllByRecursion Q (cons_option (if b then Some (name_of (k, a)) else None) rest)
           → (AllByRecursion Q rest → Q (name_of ((k + 1) + i, m))) → Q (name_of (k + suc i, m))
@@ -136,7 +136,7 @@ module _ (v : ℕ) where
       → slice_get items i ≡ Some m → m.grant.ports.v ≡ v
       → index_of (filter_map (name_at v) (enumerate_from k items)) m.controller ≡ k + i
   own_index k i [] m u at of = absurd (cc at)
-  own_index k zero (a ∷ as) m u at of =
+  own_index k zero (a ∷ bs) m u at of =
       ap (λ (b : Bool). index_of (cons_option (if b then Some (name_of (k, a)) else None) rest) m.controller)
       (eq-eqb a.grant.ports.v v (ap (λ (y : MemberItem). y.grant.ports.v) same ∙ of))
       ∙ (ap (λ (b : Bool). if b then k else index_of rest m.controller)
@@ -147,17 +147,17 @@ module _ (v : ℕ) where
       same = cc at
 
       rest : List MemberName
-      rest = filter_map (name_at v) (enumerate_from (k + 1) as)
-  own_index k (suc i) (a ∷ as) m u at of =
-      by (a.grant.ports.v == v) refl (own_index (k + 1) i as m u.1 at of ∙ behind k i)
+      rest = filter_map (name_at v) (enumerate_from (k + 1) bs)
+  own_index k (suc i) (a ∷ bs) m u at of =
+      by (a.grant.ports.v == v) refl (own_index (k + 1) i bs m u.1 at of ∙ behind k i)
     where
       rest : List MemberName
-      rest = filter_map (name_at v) (enumerate_from (k + 1) as)
+      rest = filter_map (name_at v) (enumerate_from (k + 1) bs)
 
       named_so : (a.grant.ports.v == v) ≡ true → (c : Bool) → same_name a.controller m.controller ≡ c
           → index_of rest m.controller ≡ k + suc i → (if c then k else index_of rest m.controller) ≡ k + suc i
       named_so t true f e =
-          absurd (at_place (λ (y : MemberItem). Unlike y a) as i m u.0 at of (eqb-true a.grant.ports.v v t)
+          absurd (at_place (λ (y : MemberItem). Unlike y a) bs i m u.0 at of (eqb-true a.grant.ports.v v t)
           (sym ((bytes_eq-Decides a.controller m.controller).0 f)))
       named_so t false f e = e
 
@@ -180,11 +180,11 @@ module _ (v : ℕ) where
         (sym (ap₂ (λ (f g : Bool). f && g) ((bytes_eq-Decides a.controller b.controller).1 same)
         ((bytes_eq-Decides a.vsw b.vsw).1 vsw)) ∙ u)
 
-    later_unlike : (b : MemberItem) → StandsAt virtuals b → (as : List MemberItem) → AllByRecursion (StandsAt virtuals) as
-        → AllByRecursion (λ (a : MemberItem). AreUnlikeMembers a b) as
-        → AllByRecursion (λ (a : MemberItem). Unlike a b) as
+    later_unlike : (b : MemberItem) → StandsAt virtuals b → (bs : List MemberItem) → AllByRecursion (StandsAt virtuals) bs
+        → AllByRecursion (λ (a : MemberItem). AreUnlikeMembers a b) bs
+        → AllByRecursion (λ (a : MemberItem). Unlike a b) bs
     later_unlike b k [] h u = tt
-    later_unlike b k (a ∷ as) h u = (unlike a b h.0 k u.0, later_unlike b k as h.1 u.1)
+    later_unlike b k (a ∷ bs) h u = (unlike a b h.0 k u.0, later_unlike b k bs h.1 u.1)
 
     each_unlike : (items : List MemberItem) → AllByRecursion (StandsAt virtuals) items
         → EachToEarlier AreUnlikeMembers items → EachToEarlier Unlike items

@@ -1,8 +1,17 @@
 -- Between two states members change one after the other.
-use Rattle.std.specs.Prelude.{◌≡◌, ℕ, ◌+◌, ◌++◌, Some, List, drop, length, slice_get, take}
+use Rattle.std.specs.Prelude.{◌≡◌, ℕ, ◌+◌, ◌++◌, Some, List, IsPermutation, drop, length, slice_get, take}
+use Rattle.composed_tables.specs.Composing.{Changes, ComposedOf, IsGood, IsOf}
+use Rattle.composed_tables.specs.Rules.{CanTake, RulesOf}
+use Rattle.incr_compile.specs.Compiling.{rules_after}
+use Rattle.incr_compile.specs.declared.compiled.LeafDelta.{LeafDelta}
 use Rattle.member_state.specs.Leaves.{leaf_of}
 use Rattle.policy_file.specs.Policies.{PolicyOf}
+use Rattle.policy_file.specs.Sound.{IsSound}
 use Rattle.policy_file.specs.declared.policy.MemberItem.{MemberItem}
+use Rattle.policy_meaning.specs.LeafRules.{leaf_rules}
+use Rattle.policy_meaning.specs.Networks.{ports_of}
+use Rattle.policy_meaning.specs.Switches.{SwitchOf as VirtualOf}
+use Rattle.machine_meaning.specs.Settings.{setting_of}
 use Rattle.machine_meaning.specs.Sound.{AreSoundTables}
 use Rattle.machine_meaning.specs.States.{MemberOf, State}
 use Rattle.setting_laws.specs.Members.{ChangesAt}
@@ -50,3 +59,28 @@ pub record LeadMixtures (s t : State) : Type 0 where
 
 abbrev pub MixturesLead : Type 0
 MixturesLead = (s t : State) → t.exprs ≡ s.exprs → length t.members ≡ length s.members → LeadMixtures s t
+
+-- the rules of a member change so at its virtual switch, from what it keeps before to what it keeps after
+pub record RulesTurn (p : PolicyOf) (s : State) (i : ℕ) (m : MemberItem) (x y : MemberOf) (delta : LeafDelta) :
+    Type 0 where
+  pub member : delta.member ≡ i
+  pub rules :
+      (w : VirtualOf) → slice_get (setting_of p s).network.switches m.grant.ports.v ≡ Some w
+      → IsPermutation (rules_after delta (leaf_rules (ports_of w) (leaf_of i m.grant x.kept)))
+      (leaf_rules (ports_of w) (leaf_of i m.grant y.kept))
+
+-- what is asked for the composed part to follow such a step
+pub record CanTurn (p : PolicyOf) (s t : State) (i v : ℕ) (delta : LeafDelta) : Type 0 where
+  pub good : IsGood (setting_of p (mixed i s t))
+  pub good_after : IsGood (setting_of p (mixed (i + 1) s t))
+  pub changes : Changes v delta (setting_of p (mixed i s t)) (setting_of p (mixed (i + 1) s t))
+  pub can :
+      (c : ComposedOf) → IsOf (setting_of p (mixed i s t)) c → (r : RulesOf) → c.rules ≡ Some r → CanTake r v delta
+
+-- from each of them to the next it can follow the member's change
+abbrev pub MixturesTurn : Type 0
+MixturesTurn =
+    (p : PolicyOf) → IsSound p → (s t : State) → AreSoundTables p s → AreSoundTables p t
+    → (i : ℕ) (m : MemberItem) (x y : MemberOf) → slice_get p.members i ≡ Some m → slice_get s.members i ≡ Some x
+    → slice_get t.members i ≡ Some y
+    → (delta : LeafDelta) → RulesTurn p s i m x y delta → CanTurn p s t i m.grant.ports.v delta

@@ -1,7 +1,7 @@
 //! Each function's contract is a law.
 ghost use Rattle.setting_laws.specs.Drafted.{DraftsAreReady, DraftsAreSound};
 ghost use Rattle.setting_laws.specs.Members.{MembersChange};
-ghost use Rattle.setting_laws.specs.Mixed.{MixturesAreSound, MixturesChange, MixturesLead, MixturesStay};
+ghost use Rattle.setting_laws.specs.Mixed.{MixturesAreSound, MixturesChange, MixturesLead, MixturesStay, MixturesTurn};
 ghost use Rattle.setting_laws.specs.Ready.{SettingsAreReady, UpsAreFree};
 ghost use Rattle.setting_laws.specs.Staying.{LeavesAreOfTables, PhasesKeepTables, SettingsStay, StepsKeepTables};
 ghost use Rattle.setting_laws.specs.Staying.{TakingsKeepTables};
@@ -92,3 +92,12 @@ pub fn mixtures_stay()
 pub fn mixtures_lead()
     ensures { MixturesLead }
 {}
+
+/// From each of them to the next the composed part can follow the change of the member's rules.
+pub fn mixtures_turn()
+    ensures { MixturesTurn }
+{
+    settings_are_ready();
+    members_change();
+    changes_can_be_taken();
+}
