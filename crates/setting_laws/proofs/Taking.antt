@@ -118,10 +118,10 @@ low_rules : (ports : List ℕ) (t : LeafTable) → IsFittingTable t
 low_rules ports t h = rules-below (t ∷ []) (All-from_recursion IsFittingTable (t ∷ []) (h, tt)) ports (member 0)
 
 -- what comes where rules change so are rules that are there then
-comes_from : (ports : List ℕ) (i : ℕ) (t u : LeafTable) (delta : LeafDelta) → delta.member ≡ u.member
+comes_from : (ports : List ℕ) (t u : LeafTable) (delta : LeafDelta) → delta.member ≡ u.member
     → IsPermutation (rules_after delta (leaf_rules ports t)) (leaf_rules ports u) → ComesFrom ports u delta
-comes_from ports i t u delta member h = record {
-  member = member;
+comes_from ports t u delta of h = record {
+  member = of;
   come =
       all_first (Contains (leaf_rules ports u)) delta.come (filter (is_apart_from delta.gone) (leaf_rules ports t))
       (all-permuted (leaf_rules ports u) (rules_after delta (leaf_rules ports t))
@@ -226,7 +226,7 @@ module _ (p : PolicyOf) (h : IsSound p) (s t : State) (sound : AreSoundTables p 
 
     pub change_comes : (delta : LeafDelta) → RulesChange p i s t c switches delta → Comes delta
     change_comes delta r x at =
-        comes_from (ports_of x) i (leaf_of i c.item.grant c.before.kept) table delta r.member (r.rules x at)
+        comes_from (ports_of x) (leaf_of i c.item.grant c.before.kept) table delta r.member (r.rules x at)
 
 pub deltas_taken : DeltasCanBeTaken
 deltas_taken p h s t sound after i c switches composed of delta comes r is =
