@@ -1,11 +1,14 @@
 -- What an event leaves before it is composed has sound tables.
-use Rattle.std.proofs.Common.{◌≡◌, ◌∙◌, ℕ, ◌+◌, true, List, [], ◌∷◌, map, Option, Some, None, IfSome, refl, sym, ap}
+use Rattle.std.proofs.Common.{◌≡◌, ◌∙◌, ℕ, suc, ◌+◌, ◌<◌, ◌^◌, true, List, [], ◌∷◌, length, map, Option, Some, None}
+use Rattle.std.proofs.Common.{IfSome, arith, refl, sym, ap, subst}
 use Rattle.std.specs.Prelude.{slice_get}
 use Rattle.std.specs.List.{AllByRecursion, enumerate_from}
 use Rattle.cv_io.specs.declared.leaf.Who.TheVariants.{Switch}
 use Rattle.events.specs.declared.event.Event.{Event}
 use Rattle.events.specs.declared.event.Event.TheVariants as events
+use Rattle.member_state.specs.States.{MemberStateOf}
 use Rattle.policy_file.specs.Policies.{PolicyOf}
+use Rattle.policy_file.specs.declared.policy.MemberItem.{MemberItem}
 use Rattle.waitings.specs.Waitings.{asker_of}
 use Rattle.waitings.specs.declared.state.Asker.{Asker}
 use Rattle.waitings.specs.declared.state.Part.{Part}
@@ -22,7 +25,8 @@ use Rattle.machine_meaning.specs.Rounds.{Closing, close}
 use Rattle.machine_meaning.specs.Sessions.{is_up}
 use Rattle.machine_meaning.specs.Sound.{AreSoundTables, IsSoundState, IsSoundWaiting, IsUpAsker}
 use Rattle.machine_meaning.specs.States.{MemberOf, State}
-use Rattle.machine_meaning.proofs.KeptNumbers.{composed_members, next_of, nexts, nexts_after, same_nexts, told_members}
+use Rattle.machine_meaning.proofs.KeptNumbers.{HasNext, composed_members, next_of, nexts, nexts_after}
+use Rattle.machine_meaning.proofs.KeptNumbers.{same_nexts, told_members}
 use Rattle.machine_meaning.proofs.KeptWaiting.{DownUnknown, IsAwaited, IsPartOfUp}
 use Rattle.machine_meaning.proofs.Readied.{long_map}
 use Rattle.machine_meaning.proofs.SoundActs.{act_holds}
@@ -30,8 +34,9 @@ use Rattle.machine_meaning.proofs.SoundPhases.{closed_holds, settled_holds}
 use Rattle.machine_meaning.proofs.SoundShapes.{IsShaped}
 use Rattle.machine_meaning.proofs.Unchanged.{all_weaker}
 use Rattle.machine_meaning.proofs.WhoIsUp.{IsUpAt, is_up_member, is_up_switch, member_up, switch_up}
-use Rattle.setting_laws.specs.Drafted.{DraftsAreReady, DraftsAreSound, HaveSerials}
+use Rattle.setting_laws.specs.Drafted.{DraftsAreReady, DraftsAreSound, HaveSerials, SerialsStay, SoundTablesHaveSerials}
 use Rattle.setting_laws.specs.Ready.{SettingsAreReady}
+use Rattle.setting_laws.specs.Staying.{kept_of}
 
 -- a sound state, as an event finds it -------------------------------------------------------------------------------
 
@@ -73,6 +78,29 @@ put_nexts : (d : Draft) (k : ℕ) (xs : List MemberOf)
     → map next_of (map (put_to_member d) (enumerate_from k xs)) ≡ map next_of xs
 put_nexts d k [] = refl
 put_nexts d k (x ∷ xs) = ap (λ (ns : List ℕ). next_of x ∷ ns) (put_nexts d (k + 1) xs)
+
+serials_in : (items : List MemberItem) (xs : List MemberOf) → length xs ≡ length items
+    → ((n : ℕ) (m : MemberItem) (x : MemberOf) → slice_get items n ≡ Some m → slice_get xs n ≡ Some x → HasNext x)
+    → HaveSerials xs
+serials_in items [] e f = tt
+serials_in [] (x ∷ xs) e f = absurd (omega (arith, e))
+serials_in (m ∷ ms) (x ∷ xs) e f =
+    (f 0 m x refl refl, serials_in ms xs (omega (arith, e)) (λ n a y g h. f (suc n) a y g h))
+
+pub sound_serials : SoundTablesHaveSerials
+sound_serials p s h =
+    serials_in p.members s.members h.all_members (λ n m x there at. (h.members n m x there at).sound.table.fits)
+
+kept_serials : (xs ys : List MemberOf) → map kept_of ys ≡ map kept_of xs → HaveSerials xs → HaveSerials ys
+kept_serials xs [] e h = tt
+kept_serials [] (y ∷ ys) e h = absurd (cc)
+kept_serials (x ∷ xs) (y ∷ ys) e h =
+    let first : kept_of y ≡ kept_of x = cc in
+    let rest : map kept_of ys ≡ map kept_of xs = cc in
+    (subst (λ (z : MemberStateOf). z.table.next + 1 < 2 ^ 64) (sym first) h.0, kept_serials xs ys rest h.1)
+
+pub serials_stay : SerialsStay
+serials_stay s t k h = kept_serials s.members t.members k.kept h
 
 -- what settles gives no entry a number
 settled_nexts : (p : PolicyOf) (s : State) (e : Event) (c : Closing)

@@ -12,10 +12,19 @@ use Rattle.machine_meaning.specs.Rounds.{Closing}
 use Rattle.machine_meaning.specs.Sound.{AreSoundTables, IsSoundState}
 use Rattle.machine_meaning.specs.States.{MemberOf, State}
 use Rattle.setting_laws.specs.Ready.{IsReady}
+use Rattle.setting_laws.specs.Staying.{TablesStay}
 
 -- each member has a serial number left for an entry
 abbrev pub HaveSerials : List MemberOf → Type 0
 HaveSerials members = AllByRecursion (λ (x : MemberOf). x.kept.table.next + 1 < 2 ^ 64) members
+
+-- sound tables have
+abbrev pub SoundTablesHaveSerials : Type 0
+SoundTablesHaveSerials = (p : PolicyOf) (s : State) → AreSoundTables p s → HaveSerials s.members
+
+-- and tables that stay still have
+abbrev pub SerialsStay : Type 0
+SerialsStay = (s t : State) → TablesStay s t → HaveSerials s.members → HaveSerials t.members
 
 -- as long as serial numbers are left, what settles after an event that isn't answered at once has sound tables,
 -- whichever sessions are closed as slow

@@ -1,5 +1,5 @@
 //! Each function's contract is a law.
-ghost use Rattle.setting_laws.specs.Drafted.{DraftsAreReady, DraftsAreSound};
+ghost use Rattle.setting_laws.specs.Drafted.{DraftsAreReady, DraftsAreSound, SerialsStay, SoundTablesHaveSerials};
 ghost use Rattle.setting_laws.specs.Members.{MembersChange};
 ghost use Rattle.setting_laws.specs.Mixed.{MixturesAreSound, MixturesChange, MixturesLead, MixturesStay, MixturesTurn};
 ghost use Rattle.setting_laws.specs.Ready.{SettingsAreReady, UpsAreFree};
@@ -33,6 +33,16 @@ pub fn deltas_can_be_taken()
 /// What is kept of a setting can take a change by which a member's rules change as they do.
 pub fn changes_can_be_taken()
     ensures { ChangesCanBeTaken }
+{}
+
+/// Where tables are sound, serial numbers are left.
+pub fn sound_tables_have_serials()
+    ensures { SoundTablesHaveSerials }
+{}
+
+/// Where tables stay, they still are.
+pub fn serials_stay()
+    ensures { SerialsStay }
 {}
 
 /// What settles after an event has sound tables, as long as serial numbers are left.
