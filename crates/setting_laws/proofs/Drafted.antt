@@ -34,11 +34,12 @@ use Rattle.machine_meaning.proofs.SoundPhases.{closed_holds, settled_holds}
 use Rattle.machine_meaning.proofs.SoundShapes.{IsShaped}
 use Rattle.machine_meaning.proofs.Unchanged.{all_weaker}
 use Rattle.machine_meaning.proofs.WhoIsUp.{IsUpAt, is_up_member, is_up_switch, member_up, switch_up}
-use Rattle.setting_laws.specs.Drafted.{DraftsAreReady, DraftsAreSound, HaveSerials, SerialsStay, SoundTablesHaveSerials}
+use Rattle.setting_laws.specs.Drafted.{DraftsAreReady, DraftsAreSound, HaveSerials, HeardIsSound, IsSoundStart}
+use Rattle.setting_laws.specs.Drafted.{SerialsStay, SettledIsSound, SoundTablesHaveSerials}
 use Rattle.setting_laws.specs.Ready.{SettingsAreReady}
 use Rattle.setting_laws.specs.Staying.{kept_of}
 
--- a sound state, as an event finds it -------------------------------------------------------------------------------
+-- a state, as an event finds it -------------------------------------------------------------------------------------
 
 module _ (s : State) where
   abbrev IsAwaitedIn : Waiting → Type 0
@@ -57,20 +58,17 @@ module _ (s : State) where
       by None h = tt
       by (Some a) h = sym (is_up_member s a.member) ∙ h
 
-begins : (p : PolicyOf) (s : State) → IsSoundState p s → IsShaped p s
+begins : (p : PolicyOf) (s : State) → IsSoundStart p s → IsShaped p s
 begins p s h = record {
-  exprs = h.exprs;
-  all_members = h.all_members;
-  members = h.members;
+  exprs = h.tables.exprs;
+  all_members = h.tables.all_members;
+  members = h.tables.members;
   all_switches = long_map switch_up s.switches ∙ h.all_switches;
   all_standing = h.all_standing;
   waiting = all_weaker (IsSoundWaiting s) (IsAwaitedIn s) (awaited s) s.waiting h.waiting;
   begun = h.written.0;
   fits = h.written.1;
 }
-
-down_unknown : (p : PolicyOf) (s : State) → IsSoundState p s → DownUnknown s
-down_unknown p s h n x at e = ((h.switches n x at).down e).0
 
 -- serial numbers ----------------------------------------------------------------------------------------------------
 
@@ -115,24 +113,43 @@ settled_nexts p s e c =
 -- drafts ------------------------------------------------------------------------------------------------------------
 
 -- what is heard of counts doesn't matter to whether an event changes anything
-glanced : (p : PolicyOf) (s : State) (e : Event) → glance_of p s e ≡ None → glance_of p (heard s e) e ≡ None
-glanced p s (events.Up who arp) h = h
-glanced p s (events.Msg session frame) h = h
-glanced p s (events.Gone session) h = h
-glanced p s (events.Tick second) h = h
-glanced p s (events.Take session) h = h
-glanced p s (events.Policy v text) h = h
+glanced : (p : PolicyOf) (s : State) (e : Event) → glance_of p (heard s e) e ≡ glance_of p s e
+glanced p s (events.Up who arp) = refl
+glanced p s (events.Msg session frame) = refl
+glanced p s (events.Gone session) = refl
+glanced p s (events.Tick second) = refl
+glanced p s (events.Take session) = refl
+glanced p s (events.Policy v text) = refl
 
-pub drafts_sound : DraftsAreSound
-drafts_sound p s sound e given none c serials =
-    let start = heard s e in
-    let acted = act p start e in
-    let settled = settled_of p start e c in
-    let left = same_nexts settled.state.members acted.state.members (settled_nexts p start e c) serials in
-    let begun : IsShaped p start = begins p s sound in
-    let done = act_holds p start begun (down_unknown p s sound) e given (glanced p s e none) left in
+pub heard_sound : HeardIsSound
+heard_sound p s h e = record {
+  start = record {
+    tables = record { exprs = h.exprs; all_members = h.all_members; members = h.members };
+    all_switches = h.all_switches;
+    all_standing = h.all_standing;
+    down = λ n x at f. ((h.switches n x at).down f).0;
+    waiting =
+        all_weaker (IsSoundWaiting s) (IsSoundWaiting (heard s e))
+        (λ w k. record { some = k.some; parts = k.parts; asker = k.asker }) s.waiting h.waiting;
+    written = h.written;
+  };
+  glance = glanced p s e;
+}
+
+pub settled_sound : SettledIsSound
+settled_sound p s h e given none c serials =
+    let acted = act p s e in
+    let settled = settled_of p s e c in
+    let left = same_nexts settled.state.members acted.state.members (settled_nexts p s e c) serials in
+    let down : DownUnknown s = h.down in
+    let done = act_holds p s (begins p s h) down e given none left in
     let shape = (settled_holds p (close c acted) (closed_holds p c acted done)).shape in
     record { exprs = shape.exprs; all_members = shape.all_members; members = shape.members }
+
+pub drafts_sound : HeardIsSound → SettledIsSound → DraftsAreSound
+drafts_sound hears settles p s sound e given none c serials =
+    let h = hears p s sound e in
+    settles p (heard s e) h.start e given (h.glance ∙ none) c serials
 
 pub drafts_ready : SettingsAreReady → DraftsAreSound → DraftsAreReady
 drafts_ready ready drafts p h s sound e given none c serials =

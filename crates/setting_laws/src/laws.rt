@@ -1,5 +1,6 @@
 //! Each function's contract is a law.
-ghost use Rattle.setting_laws.specs.Drafted.{DraftsAreReady, DraftsAreSound, SerialsStay, SoundTablesHaveSerials};
+ghost use Rattle.setting_laws.specs.Drafted.{DraftsAreReady, DraftsAreSound, HeardIsSound, SerialsStay};
+ghost use Rattle.setting_laws.specs.Drafted.{SettledIsSound, SoundTablesHaveSerials};
 ghost use Rattle.setting_laws.specs.Members.{MembersChange};
 ghost use Rattle.setting_laws.specs.Mixed.{MixturesAreSound, MixturesChange, MixturesLead, MixturesStay, MixturesTurn};
 ghost use Rattle.setting_laws.specs.Ready.{SettingsAreReady, UpsAreFree};
@@ -45,12 +46,25 @@ pub fn serials_stay()
     ensures { SerialsStay }
 {}
 
-/// What settles after an event has sound tables, as long as serial numbers are left.
-pub fn drafts_are_sound()
-    ensures { DraftsAreSound }
+/// What an event tells of counts leaves a sound state as the event asks of it.
+pub fn heard_is_sound()
+    ensures { HeardIsSound }
 {}
 
-/// So its setting is as the composed part asks.
+/// What settles after an event has sound tables, as long as serial numbers are left.
+pub fn settled_is_sound()
+    ensures { SettledIsSound }
+{}
+
+/// So it has after an event of a sound state.
+pub fn drafts_are_sound()
+    ensures { DraftsAreSound }
+{
+    heard_is_sound();
+    settled_is_sound();
+}
+
+/// And its setting is as the composed part asks.
 pub fn drafts_are_ready()
     ensures { DraftsAreReady }
 {
