@@ -16,7 +16,7 @@ use Rattle.policy_meaning.specs.declared.network.Link.{Link}
 use Rattle.policy_meaning.specs.declared.network.Place.{Place}
 use Rattle.policy_setting.specs.Networks.{is_of, link, outside_ports, place, virtual_switch}
 use Rattle.policy_setting.specs.Premises.{HaveNumbers}
-use Rattle.policy_setting.specs.Settings.{expr_at, holds_at, setting, switches}
+use Rattle.policy_setting.specs.Settings.{expr_at, holds_at, switches}
 use Rattle.policy_setting.proofs.Apart.{Faultless}
 use Rattle.policy_setting.proofs.Joints.{all_filtered}
 use Rattle.policy_setting.proofs.Linked.{way_is}
@@ -161,7 +161,7 @@ module _ (plan : TopologyPlan) (numbers : HaveNumbers plan.switches) (fault : Fa
 spot_of : Joint → Place
 spot_of j = place_of j.0
 
-contained : {A : Type 0} (x y : A) (xs : List A) → Contains xs y → Contains (x ∷ xs) y
+pub contained : {A : Type 0} (x y : A) (xs : List A) → Contains xs y → Contains (x ∷ xs) y
 contained x y xs (k, lt, is) = (suc k, omega (arith, lt), is)
 
 module _ (v : ℕ) where
