@@ -53,3 +53,9 @@ pub mod Present
 pub mod Recomposed
 pub mod StaysSettled
 pub mod Unneeded
+pub mod SameWanted
+pub mod ToldChanges
+pub mod Turning
+pub mod Serials
+pub mod Following
+pub mod KeptOn
