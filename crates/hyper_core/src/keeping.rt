@@ -18,6 +18,7 @@ use crate::turning::turn;
 use crate::views::present;
 use composed_tables::Composed;
 use cv_io::{Memory, Steps};
+use setting_laws::laws::settings_are_ready;
 use std::marker::Brand;
 use std::sync::ledger::{Blank, Ledger};
 
@@ -41,8 +42,9 @@ fn compose_on<G: Ledger>(
     ensures bases { OnOk result (bases draft.new ≡ bases draft.old) }
     ensures kept { OnOk result (IsComposedOf setup.now (draft_in draft.old).state composed.new) }
 {
-    // The proof learns what is true of every policy, and of what is to stand before and after.
+    // The proof learns what is true of every policy, of settings, and of what is to stand before and after.
     let _policy = setup.policy();
+    settings_are_ready();
     are_tables(composed);
     let mut steps = Steps::<G>::new(blank);
     let turned = turn(setup, draft, composed, &mut steps)?;
@@ -72,8 +74,9 @@ fn build_from<G: Ledger>(setup: &Setup, held: &Held, blank: Blank) -> Result<Com
     requires { IsSoundState setup.now (state_in_held held.now) }
     ensures { IfOk result (IsComposedOf setup.now (state_in_held held.now)) }
 {
-    // The proof learns what is true of every policy.
+    // The proof learns what is true of every policy, and of settings.
     let _policy = setup.policy();
+    settings_are_ready();
     let mut steps = Steps::<G>::new(blank);
     let setting = present(setup, held)?;
     Composed::build(setup.alloc(), setup.topology(), &setting, &mut steps)

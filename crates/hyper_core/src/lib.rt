@@ -54,6 +54,7 @@ mod sessions;
 mod settings;
 mod settling;
 pub mod setup;
+mod sources;
 mod starting;
 mod statistics;
 mod stepping;

@@ -24,6 +24,7 @@ use crate::takings::take;
 use composed_tables::Composed;
 use cv_io::{Memory, Session};
 use events::{Event, Reply};
+use machine_meaning::laws::soundness_is_kept;
 
 /// An event is drafted, and what it leaves is moved in.
 fn drive(
@@ -87,9 +88,10 @@ pub(crate) fn proceed(
     ensures kept { IsKept setup.now (state_in_held held.new) composed.new }
     ensures memory { OnErr result (state_in_held held.new ≡ state_in_held held.old) }
 {
-    // The proof learns what is true of every policy, and of cookies.
+    // The proof learns what is true of every policy, of cookies, and of steps.
     let _policy = setup.policy();
     cookie_fits(held);
+    soundness_is_kept();
     let overtaken = hear(setup.alloc(), held, event)?;
     match drive(setup, held, event, &overtaken.heard, composed) {
         Ok(reply) => {
@@ -165,9 +167,10 @@ pub(crate) fn step(
     ensures kept { IsKept setup.now (state_in_held held.new) composed.new }
     ensures memory { OnErr result (state_in_held held.new ≡ state_in_held held.old) }
 {
-    // The proof learns what is true of every policy, and of cookies.
+    // The proof learns what is true of every policy, of cookies, and of steps.
     let _policy = setup.policy();
     cookie_fits(held);
+    soundness_is_kept();
     if let Some(reply) = glance(setup, held, event) {
         return Ok(reply);
     }

@@ -13,6 +13,7 @@ use composed_tables::{Composed, SwitchBatch};
 use cv_io::{List, Memory, Steps};
 use policy_expr::Expr;
 use policy_setting::virtual_switch;
+use setting_laws::laws::settings_are_ready;
 use std::alloc::Global;
 use std::sync::ledger::Ledger;
 
@@ -76,6 +77,9 @@ fn turn_member<G: Ledger>(
     if member.is_unplanned() {
         return Ok(turned);
     }
+    // The proof learns what is true of every policy, and of settings.
+    let _policy = setup.policy();
+    settings_are_ready();
     let item = &setup.members()[n];
     let v = item.grant.ports.v;
     let ports = ports(setup, v)?;
@@ -97,8 +101,9 @@ pub(crate) fn turn<G: Ledger>(
     ensures of { OnOk result (IsComposedOf setup.now (state_in draft.now) composed.new) }
     ensures told { IfOk result (AreTold draft.now.next_cookie composed.old.tables composed.new.tables) }
 {
-    // The proof learns how many members a policy has.
-    let _members = setup.members();
+    // The proof learns what is true of every policy, and of settings.
+    let _policy = setup.policy();
+    settings_are_ready();
     let ups = ups(setup.alloc(), draft.switches.as_slice())?;
     let mut turned = Turned::Nothing;
     for n in 0..draft.members.len() {
