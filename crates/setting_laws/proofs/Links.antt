@@ -161,7 +161,7 @@ module _ (plan : TopologyPlan) (numbers : HaveNumbers plan.switches) (fault : Fa
 spot_of : Joint → Place
 spot_of j = place_of j.0
 
-contained : {A : Type 0} (x y : A) (xs : List A) → Contains xs y → Contains (x ∷ xs) y
+pub contained : {A : Type 0} (x y : A) (xs : List A) → Contains xs y → Contains (x ∷ xs) y
 contained x y xs (k, lt, is) = (suc k, omega (arith, lt), is)
 
 module _ (v : ℕ) where

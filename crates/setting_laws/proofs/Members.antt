@@ -52,7 +52,7 @@ module _ (p : PolicyOf) (members : List MemberOf) where
       ∙ ap (λ (n : ℕ). table_by n (slice_get p.members i) (slice_get members i)) (from_zero i)
 
   -- of a member that is there
-  table_there : (i : ℕ) (m : MemberItem) (x : MemberOf) → slice_get p.members i ≡ Some m
+  pub table_there : (i : ℕ) (m : MemberItem) (x : MemberOf) → slice_get p.members i ≡ Some m
       → slice_get members i ≡ Some x → slice_get (tables_with p.members members) i ≡ Some (leaf_of i m.grant x.kept)
   table_there i m x at is = table_at i ∙ ap₂ (table_by i) at is
 
