@@ -18,7 +18,6 @@ pub mod PacketOuts
 pub mod Ports
 pub mod Served
 pub mod Seen
-pub mod WrittenByKey
 pub mod MemberBodies
 pub mod Placed
 pub mod Requesting

@@ -1,5 +1,5 @@
 -- What is told of a switch: the entries that go and that come.
-use Rattle.std.specs.Prelude.{◌≡◌, ℕ, Bool, not, List, [], ◌∷◌, IsPermutation, filter, map}
+use Rattle.std.specs.Prelude.{◌≡◌, ℕ, Bool, false, not, List, [], ◌∷◌, IsPermutation, filter, map}
 use Rattle.std.specs.List.{list_any}
 use Rattle.std.specs.declared.cmp.Ordering.TheVariants.{Less}
 use Rattle.agreement.specs.FreeOrder.{HaveMatches}
@@ -11,35 +11,37 @@ use Rattle.switch_meaning.specs.BatchLaw.{HasOneAKey}
 use Rattle.switch_meaning.specs.Batches.{difference, key_cmp}
 use Rattle.switch_meaning.specs.Keys.{same_key}
 use Rattle.switch_meaning.specs.declared.entry.PhysEntry.{PhysEntry}
-use Rattle.machine_meaning.specs.Batches.{coming, going, put_by_key, standing_after, staying}
+use Rattle.machine_meaning.specs.Batches.{by_key, coming, going, staying}
 
 -- the first comes before the second, by key
 abbrev pub IsLower : Written → Written → Type 0
 IsLower v w = key_cmp v.entry w.entry ≡ Less
 
--- what is told, without cookies, is the difference of what stands, by rising key, and of what is wanted, one entry a key
+-- what is told, without cookies, is the difference of what stands, by rising key, and of what is wanted
 pub record IsToldOf (stood : List Written) (wanted : List PhysEntry) (told : Batch) : Type 0 where
   pub difference_is : entries_in told ≡ difference (map entry_of stood) wanted
   pub rises : EachPair IsLower stood
-  pub stood_once : HasOneAKey (map entry_of stood)
-  pub once : HasOneAKey wanted
-  pub in_range : HaveMatches wanted
 
 -- a row has the key of one of these entries
 abbrev pub has_key_in : List PhysEntry → Written → Bool
 has_key_in es w = list_any (same_key w.entry) es
 
--- entries put by key among others, the last one first
-abbrev pub put_all : List Written → List Written → List Written
-put_all [] sorted = sorted
-put_all (w ∷ ws) sorted = put_by_key w (put_all ws sorted)
+-- a row has the key of the first of these rows
+abbrev pub is_first : List Written → Written → Bool
+is_first [] w = false
+is_first (x ∷ xs) w = same_key w.entry x.entry
 
--- the batch that is told, and what stands after it
+-- the entries are those of the rows that have their keys, in the order of the rows
+abbrev pub AreListed : List PhysEntry → List Written → Type 0
+AreListed es ws = es ≡ map entry_of (filter (has_key_in es) ws)
+
+-- what goes is told in the order in which it stands, and is found by its keys; the rows with other keys stay; what
+-- comes is what is added, under new cookies
 pub record IsBetween (next : ℕ) (stood : List Written) (wanted : List PhysEntry) (told : Batch) : Type 0 where
-  pub goes : filter (has_key_in (map entry_of told.deletes)) stood ≡ going stood wanted
+  pub listed : AreListed (map entry_of told.deletes) stood
+  pub goes : by_key (filter (has_key_in (map entry_of told.deletes)) stood) ≡ going stood wanted
   pub stays : filter (λ w. not (has_key_in (map entry_of told.deletes) w)) stood ≡ staying stood wanted
   pub comes : numbered next (map entry_of told.adds) ≡ coming next stood wanted
-  pub stands : put_all (coming next stood wanted) (staying stood wanted) ≡ standing_after next stood wanted
 
 abbrev pub ToldChangesAreBetween : Type 0
 ToldChangesAreBetween =

@@ -8,8 +8,8 @@ pub fn batches_are_told()
     agreement::laws::order_is_free();
 }
 
-/// What is told makes the batch: what goes is found by its keys among what stands, what comes is numbered, and what
-/// comes is put by key among what stays.
+/// What is told makes the batch: what goes is found by its keys among what stands, in one pass over both, and what
+/// comes is numbered.
 pub fn told_changes()
     ensures { ToldChangesAreBetween }
 {}

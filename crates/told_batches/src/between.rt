@@ -1,0 +1,67 @@
+//! The change of a switch's table to one that is wanted.
+ghost use Rattle.std.specs.Prelude.{◌≡◌, IfOk, filter, not};
+ghost use Rattle.install_plan.specs.declared.written.Written.{Written as WrittenOf};
+ghost use Rattle.machine_meaning.specs.Batches.{batch_between, coming as coming_of, is_among as is_among_of};
+ghost use Rattle.machine_meaning.specs.Batches.{next_after, standing_after, staying};
+
+use crate::change::{Change, change_of};
+use crate::numbering::{Numbered, number_all};
+use crate::parting::Parted;
+use crate::rows::entries_in;
+use cv_io::{List, Memory};
+use install_plan::Written;
+use std::alloc::Global;
+use switch_meaning::{PhysEntry, difference, is_same};
+
+/// Whether one of these entries is the same as the one that stands.
+fn is_among(wanted: &List<PhysEntry>, written: &Written) -> bool
+    ensures { result ≡ is_among_of wanted.now written.now }
+{
+    wanted
+        .as_slice()
+        .iter()
+        .any(|entry| is_same(&written.entry, entry))
+}
+
+/// The rows that stand and are to go or to change, and those that stay.
+fn part(alloc: Global, standing: &[Written], wanted: &List<PhysEntry>) -> Result<Parted, Memory>
+    ensures going { IfOk result (λ p. p.going ≡ filter (λ (w : WrittenOf). not (is_among_of wanted.now w)) standing.now) }
+    ensures staying { IfOk result (λ p. p.staying ≡ staying standing.now wanted.now) }
+{
+    let mut parted = Parted::new(alloc);
+    for written in standing {
+        parted.push(is_among(wanted, written), written)?;
+    }
+    Ok(parted)
+}
+
+/// The entries that come or changed, with cookies from the next one on.
+fn coming(
+    alloc: Global,
+    next: u64,
+    standing: &[Written],
+    wanted: &List<PhysEntry>,
+) -> Result<Numbered, Memory>
+    ensures entries { IfOk result (λ n. n.entries ≡ coming_of next standing.now wanted.now) }
+    ensures next { IfOk result (λ n. n.next ≡ next_after next (coming_of next standing.now wanted.now)) }
+{
+    let before = entries_in(alloc, standing)?;
+    let found = difference(alloc, &before, wanted)?;
+    number_all(alloc, next, found.adds)
+}
+
+/// What makes what stands on a switch what is wanted there, with cookies from the next one on.
+pub fn change_between(
+    alloc: Global,
+    next: u64,
+    standing: &[Written],
+    wanted: &List<PhysEntry>,
+) -> Result<Change, Memory>
+    ensures batch { IfOk result (λ c. c.batch ≡ batch_between next standing.now wanted.now) }
+    ensures standing { IfOk result (λ c. c.standing ≡ standing_after next standing.now wanted.now) }
+    ensures next { IfOk result (λ c. c.next ≡ next_after next (coming_of next standing.now wanted.now)) }
+{
+    let parted = part(alloc, standing, wanted)?;
+    let come = coming(alloc, next, standing, wanted)?;
+    change_of(parted, come)
+}
