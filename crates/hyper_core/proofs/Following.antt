@@ -26,7 +26,7 @@ use Rattle.hyper_core.specs.Outcomes.{bases, members_in, state_in, switch_bases}
 use Rattle.hyper_core.specs.Settled.{IsUnchanged, WasSettled}
 use Rattle.hyper_core.specs.Sources.{IsToldFor, IsWantedBy}
 use Rattle.hyper_core.specs.SwitchDrafts.{IsUnmoved, SwitchDraftOf}
-use Rattle.hyper_core.specs.Turning.{AreTold, CanTurn, stood_in}
+use Rattle.hyper_core.specs.Turning.{AreTold, CanFollow, stood_in}
 use Rattle.hyper_core.specs.Views.{standing_of, switch_of}
 use Rattle.hyper_core.specs.declared.outcome.Outcome.{Outcome}
 use Rattle.hyper_core.specs.declared.session.Switch.{Switch}
@@ -47,9 +47,9 @@ kept_unchanged p o c same h = record {
 }
 
 -- it can follow the event
-pub can_turn : (p : PolicyOf) (o : Outcome) (c : ComposedOf) → IsKeptBy p (bases o) (state_in o) c
-    → o.exprs.now ≡ o.exprs.base → HaveSerials (members_in o.members) → CanTurn p o c
-can_turn p o c h exprs serials = record {
+pub can_follow : (p : PolicyOf) (o : Outcome) (c : ComposedOf) → IsKeptBy p (bases o) (state_in o) c
+    → o.exprs.now ≡ o.exprs.base → HaveSerials (members_in o.members) → CanFollow p o c
+can_follow p o c h exprs serials = record {
   all = sym (length-map o.switches (λ (x : SwitchDraftOf). x.base)) ∙ h.all;
   before = h.before;
   after = h.after serials;

@@ -11,12 +11,10 @@ use Rattle.events.specs.declared.event.Event.{Event}
 use Rattle.events.specs.declared.event.Reply.{Reply}
 use Rattle.install_plan.specs.Tables.{entry_of}
 use Rattle.install_plan.specs.declared.written.Written.{Written}
-use Rattle.member_state.specs.States.{MemberStateOf}
 use Rattle.policy_file.specs.Policies.{PolicyOf}
 use Rattle.policy_file.specs.Sound.{IsSound}
 use Rattle.setting_laws.specs.Drafted.{HaveSerials}
-use Rattle.setting_laws.specs.Staying.{TablesStay, kept_of}
-use Rattle.setting_laws.proofs.Drafted.{drafts_sound}
+use Rattle.setting_laws.proofs.Drafted.{drafts_sound, heard_sound, serials_stay, settled_sound}
 use Rattle.setting_laws.proofs.Staying.{leaves_stay, settings_stay, steps_stay, takings_stay}
 use Rattle.machine_meaning.specs.Acting.{act_on}
 use Rattle.machine_meaning.specs.Drafts.{Draft, untouched}
@@ -30,7 +28,7 @@ use Rattle.machine_meaning.specs.Rounds.{Closing, close}
 use Rattle.machine_meaning.specs.Settings.{setting_of, ups_with}
 use Rattle.machine_meaning.specs.Settling.{settle}
 use Rattle.machine_meaning.specs.Sound.{AreSoundTables, HasNumbers, IsSoundState}
-use Rattle.machine_meaning.specs.States.{MemberOf, State, SwitchOf}
+use Rattle.machine_meaning.specs.States.{State, SwitchOf}
 use Rattle.machine_meaning.specs.Steps.{done, step_of}
 use Rattle.machine_meaning.specs.Takings.{left_after, left_by}
 use Rattle.machine_meaning.proofs.Places.{made_of}
@@ -80,7 +78,7 @@ begun_one p h new e c given none is rest sound of =
       before = record { exprs = there.exprs; all_members = there.all_members; members = there.members };
       after = λ closing serials.
           subst (λ (z : State). AreSoundTables p (settled_of p z e closing).state) (sym is)
-          (drafts_sound p (state_in_held h) sound e given none closing
+          (drafts_sound heard_sound settled_sound p (state_in_held h) sound e given none closing
           (subst (λ (z : State). HaveSerials (settled_of p z e closing).state.members) is serials));
       given = given_sound p (state_in_held same) there;
       of = record { of = kept.of; compiled = kept.compiled };
@@ -142,15 +140,6 @@ kept_done p s e reply new (Some c) is i =
 
 -- takings -----------------------------------------------------------------------------------------------------------
 
-same_serials : (xs ys : List MemberOf) → map kept_of ys ≡ map kept_of xs → HaveSerials xs → HaveSerials ys
-same_serials [] [] e h = tt
-same_serials [] (y ∷ ys) e h = absurd (cc)
-same_serials (x ∷ xs) [] e h = tt
-same_serials (x ∷ xs) (y ∷ ys) e h =
-    let first : x.kept ≡ y.kept = cc in
-    let rest : map kept_of ys ≡ map kept_of xs = cc in
-    (subst (λ (k : MemberStateOf). k.table.next + 1 < 2 ^ 64) first h.0, same_serials xs ys rest h.1)
-
 left_cookie : (who : Who) (round : ℕ) (s : State) → (left_by who round s).next_cookie ≡ s.next_cookie
 left_cookie (Member n) round s = refl
 left_cookie (Switch n) round s = refl
@@ -159,7 +148,7 @@ left_cookie Audit round s = refl
 numbers_taken : (session : Session) (s : State) → HasNumbers s → HasNumbers (left_after session s)
 numbers_taken session s h = record {
   cookies = subst (λ (n : ℕ). n < 2 ^ 64 - 1) (sym (left_cookie session.who session.round s)) h.cookies;
-  serials = same_serials s.members (left_after session s).members (takings_stay session s).kept h.serials;
+  serials = serials_stay s (left_after session s) (takings_stay session s) h.serials;
 }
 
 taken_if : (p : PolicyOf) (s : State) (session : Session) (k : Option ComposedOf) → IfSome k (IsComposedOf p s)

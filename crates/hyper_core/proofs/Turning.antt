@@ -1,9 +1,9 @@
 -- What is kept follows a member whose rules change.
-use Rattle.std.proofs.Common.{◌≡◌, ◌∙◌, ℕ, ◌+◌, List, map, Some, refl, sym, ap, subst}
-use Rattle.std.specs.Prelude.{IsPermutation, length, slice_get}
-use Rattle.agreement.specs.declared.state.Setting.{Setting}
-use Rattle.composed_tables.specs.Composing.{Changes, ComposedOf, IsGood, IsOf}
-use Rattle.composed_tables.specs.Rules.{CanTake, RulesOf}
+use Rattle.std.proofs.Common.{◌≡◌, ◌∙◌, ℕ, ◌+◌, List, map, Option, Some, refl, sym, ap, subst}
+use Rattle.std.specs.Prelude.{IsPermutation, length, option_map, slice_get}
+use Rattle.std.proofs.lemmas.List.{length-map}
+use Rattle.std.proofs.lemmas.Option.{slice_get-map}
+use Rattle.composed_tables.specs.Composing.{ComposedOf}
 use Rattle.incr_compile.specs.Compiling.{rules_after}
 use Rattle.incr_compile.specs.declared.compiled.LeafDelta.{LeafDelta}
 use Rattle.member_state.specs.Leaves.{leaf_of}
@@ -11,125 +11,102 @@ use Rattle.policy_file.specs.Policies.{PolicyOf}
 use Rattle.policy_file.specs.Sound.{IsSound}
 use Rattle.policy_file.specs.declared.policy.MemberItem.{MemberItem}
 use Rattle.policy_meaning.specs.LeafRules.{leaf_rules}
-use Rattle.policy_meaning.specs.Networks.{ports_of}
-use Rattle.policy_meaning.specs.Switches.{SwitchOf as VirtualOf}
-use Rattle.setting_laws.specs.Members.{ChangesAt, RulesChange}
-use Rattle.setting_laws.specs.Mixed.{IsNextMixture, mixed}
-use Rattle.setting_laws.specs.Ready.{IsReady}
-use Rattle.setting_laws.proofs.Members.{members_change}
-use Rattle.setting_laws.proofs.Mixed.{mixtures_change, mixtures_lead, mixtures_sound, mixtures_stay}
+use Rattle.setting_laws.specs.Mixed.{CanTurn, LeadMixtures, MixturesTurn, mixed}
+use Rattle.setting_laws.proofs.Mixed.{mixtures_lead, mixtures_stay}
 use Rattle.setting_laws.proofs.Staying.{leaves_stay, settings_stay}
-use Rattle.setting_laws.proofs.Taking.{changes_taken}
 use Rattle.switch_tables.specs.Tables.{SwitchTableOf}
 use Rattle.switch_tables.specs.Turning.{AreBatches}
 use Rattle.switch_tables.specs.declared.tables.SwitchBatch.{SwitchBatch}
-use Rattle.machine_meaning.specs.Settings.{setting_of, setting_with}
 use Rattle.machine_meaning.specs.Sound.{AreSoundTables}
 use Rattle.machine_meaning.specs.States.{MemberOf, State}
 use Rattle.hyper_core.specs.Kept.{IsComposedOf}
 use Rattle.hyper_core.specs.MemberDrafts.{IsLeafDelta, IsUnplanned, MemberDraftOf}
-use Rattle.hyper_core.specs.Turning.{AreTold, joined}
+use Rattle.hyper_core.specs.Outcomes.{state_in}
+use Rattle.hyper_core.specs.Turning.{ArePortsAt, AreTold, joined, mixed_at, stood_in}
 use Rattle.hyper_core.specs.Views.{member_of}
+use Rattle.hyper_core.specs.declared.outcome.Outcome.{Outcome}
 use Rattle.hyper_core.specs.declared.turning.Turned.{Turned}
 use Rattle.hyper_core.specs.declared.turning.Turned.TheVariants.{Nothing, Once, Often}
 
 -- one change more is told
 pub told_more : (next : ℕ) (before now then : List SwitchTableOf) (t : Turned) (batches : List SwitchBatch)
     → AreTold next before now t → AreBatches next now then batches → AreTold next before then (joined t batches)
-told_more next before now then Nothing batches h b = subst (λ x. AreBatches next x then batches) h b
+told_more next before now then Nothing batches h b =
+    subst (λ (x : List SwitchTableOf). AreBatches next x then batches) h b
 told_more next before now then (Once told) batches h b = tt
 told_more next before now then Often batches h b = tt
 
-module _ (p : PolicyOf) (policy : IsSound p) (s t : State) (long : length t.members ≡ length s.members) (n : ℕ)
-    (m : MemberItem) (x y : MemberOf) (item : slice_get p.members n ≡ Some m) (was : slice_get s.members n ≡ Some x)
-    (is : slice_get t.members n ≡ Some y) where
-  -- where nothing is planned for the member
-  pub kept_unplanned : (c : ComposedOf) → y.kept ≡ x.kept → IsComposedOf p (mixed n s t) c
-      → IsComposedOf p (mixed (n + 1) s t) c
-  kept_unplanned c same h = record {
-    of =
-        settings_stay p (mixed n s t) (mixed (n + 1) s t)
-        (mixtures_stay p s t long n m x y item was is (ap (leaf_of n m.grant) same)) c h.of;
-    compiled = h.compiled;
-  }
+module _ (p : PolicyOf) (o : Outcome) (exprs : o.exprs.now ≡ o.exprs.base) where
+  abbrev s : State
+  s = stood_in o
 
-  -- where its rules change
-  module _ (sound : AreSoundTables p (mixed n s t)) (sound_then : AreSoundTables p (mixed (n + 1) s t))
-      (ports : List ℕ) (delta : LeafDelta) (member : delta.member ≡ n)
-      (rules :
-      IsPermutation (rules_after delta (leaf_rules ports (leaf_of n m.grant x.kept)))
-      (leaf_rules ports (leaf_of n m.grant y.kept)))
-      (all_ports :
-      (v : VirtualOf)
-      → slice_get (setting_of p (mixed n s t)).network.switches m.grant.ports.v ≡ Some v → ports_of v ≡ ports)
-      where
-    next : IsNextMixture p s t n m x y
-    next = mixtures_change p s t long n m x y item was is
+  abbrev t : State
+  t = state_in o
 
-    c : ChangesAt p n (mixed n s t) (mixed (n + 1) s t)
-    c = next.changes
+  as_many : length t.members ≡ length s.members
+  as_many =
+      length-map o.members (λ (m : MemberDraftOf). m.now)
+      ∙ sym (length-map (map (λ (m : MemberDraftOf). m.base) o.members) member_of
+      ∙ length-map o.members (λ (m : MemberDraftOf). m.base))
 
-    -- the rules of the member at those ports
-    at_ports : (v : VirtualOf) → ports_of v ≡ ports
-        → IsPermutation (rules_after delta (leaf_rules (ports_of v) (leaf_of n c.item.grant c.before.kept)))
-        (leaf_rules (ports_of v) (leaf_of n c.item.grant c.after.kept))
-    at_ports v e =
-        subst
-        (λ (z : MemberOf). IsPermutation
-        (rules_after delta (leaf_rules (ports_of v) (leaf_of n c.item.grant c.before.kept)))
-        (leaf_rules (ports_of v) (leaf_of n c.item.grant z.kept)))
-        (sym next.after)
-        (subst
-        (λ (z : MemberOf). IsPermutation
-        (rules_after delta (leaf_rules (ports_of v) (leaf_of n c.item.grant z.kept)))
-        (leaf_rules (ports_of v) (leaf_of n c.item.grant y.kept)))
-        (sym next.before)
-        (subst
-        (λ (z : MemberItem). IsPermutation (rules_after delta (leaf_rules (ports_of v) (leaf_of n z.grant x.kept)))
-        (leaf_rules (ports_of v) (leaf_of n z.grant y.kept)))
-        (sym next.item)
-        (subst
-        (λ (z : List ℕ). IsPermutation (rules_after delta (leaf_rules z (leaf_of n m.grant x.kept)))
-        (leaf_rules z (leaf_of n m.grant y.kept)))
-        (sym e) rules)))
+  -- they lead from what stands to what the event leaves
+  lead : LeadMixtures s t
+  lead = mixtures_lead s t exprs as_many
 
-    change : RulesChange p n (mixed n s t) (mixed (n + 1) s t) c s.switches delta
-    change = record {
-      member = member;
-      rules =
-          λ v at. at_ports v
-          (all_ports v
-          (ap (λ (z : MemberItem). slice_get (setting_of p (mixed n s t)).network.switches z.grant.ports.v)
-          (sym next.item) ∙ at));
+  pub kept_first : (c : ComposedOf) → IsComposedOf p s c → IsComposedOf p (mixed_at 0 o) c
+  kept_first c h = subst (λ (z : State). IsComposedOf p z c) (sym lead.first) h
+
+  pub kept_last : (c : ComposedOf) (n : ℕ) → n ≡ length o.members → IsComposedOf p (mixed_at n o) c
+      → IsComposedOf p t c
+  kept_last c n all h =
+      let long : length s.members ≡ n =
+      length-map (map (λ (m : MemberDraftOf). m.base) o.members) member_of
+      ∙ (length-map o.members (λ (m : MemberDraftOf). m.base) ∙ sym all) in
+      let last = subst (λ (k : ℕ). IsComposedOf p (mixed k s t) c) (sym long) h in
+      record {
+        of =
+            settings_stay p (mixed (length s.members) s t) t
+            (leaves_stay p (mixed (length s.members) s t) t lead.last) c last.of;
+        compiled = last.compiled;
+      }
+
+  module _ (n : ℕ) (item : MemberItem) (m : MemberDraftOf) (there : slice_get p.members n ≡ Some item)
+      (at : slice_get o.members n ≡ Some m) where
+    was : slice_get s.members n ≡ Some (member_of m.base)
+    was =
+        slice_get-map member_of (map (λ (d : MemberDraftOf). d.base) o.members) n
+        ∙ ap (option_map member_of)
+        (slice_get-map (λ (d : MemberDraftOf). d.base) o.members n
+        ∙ ap (option_map (λ (d : MemberDraftOf). d.base)) at)
+
+    is : slice_get t.members n ≡ Some m.now
+    is =
+        slice_get-map (λ (d : MemberDraftOf). d.now) o.members n
+        ∙ ap (option_map (λ (d : MemberDraftOf). d.now)) at
+
+    -- where nothing is planned for the member
+    pub kept_unplanned : (c : ComposedOf) → IsUnplanned m → IsComposedOf p (mixed_at n o) c
+        → IsComposedOf p (mixed_at (n + 1) o) c
+    kept_unplanned c same h = record {
+      of =
+          settings_stay p (mixed n s t) (mixed (n + 1) s t)
+          (mixtures_stay p s t as_many n item (member_of m.base) m.now there was is (ap (leaf_of n item.grant) same)) c
+          h.of;
+      compiled = h.compiled;
     }
 
-    -- it can be taken
-    pub can_take : (k : ComposedOf) → IsComposedOf p (mixed n s t) k → (r : RulesOf) → k.rules ≡ Some r
-        → CanTake r m.grant.ports.v delta
-    can_take k h r e =
-        subst (λ (z : MemberItem). CanTake r z.grant.ports.v delta) next.item
-        (changes_taken p policy (mixed n s t) (mixed (n + 1) s t) sound sound_then n c s.switches k h.of delta change r e)
-
-    -- and the setting changes so
-    pub setting_changes :
-        Changes m.grant.ports.v delta (setting_of p (mixed n s t)) (setting_of p (mixed (n + 1) s t))
-    setting_changes =
-        subst
-        (λ (z : MemberItem). Changes z.grant.ports.v delta (setting_of p (mixed n s t))
-        (setting_of p (mixed (n + 1) s t))) next.item
-        (members_change p policy (mixed n s t) (mixed (n + 1) s t) sound sound_then n c s.switches delta change)
-
--- they lead from what stands to what the event leaves
-pub kept_first : (p : PolicyOf) (s t : State) (c : ComposedOf) → t.exprs ≡ s.exprs
-    → length t.members ≡ length s.members → IsComposedOf p s c → IsComposedOf p (mixed 0 s t) c
-kept_first p s t c exprs long h =
-    subst (λ (z : State). IsComposedOf p z c) (sym (mixtures_lead s t exprs long).first) h
-
-pub kept_last : (p : PolicyOf) (s t : State) (c : ComposedOf) → t.exprs ≡ s.exprs
-    → length t.members ≡ length s.members → IsComposedOf p (mixed (length s.members) s t) c → IsComposedOf p t c
-kept_last p s t c exprs long h = record {
-  of =
-      settings_stay p (mixed (length s.members) s t) t
-      (leaves_stay p (mixed (length s.members) s t) t (mixtures_lead s t exprs long).last) c h.of;
-  compiled = h.compiled;
-}
+    -- where its rules change
+    pub can_turn : MixturesTurn → IsSound p → AreSoundTables p s → AreSoundTables p t → (ports : List ℕ)
+        (delta : LeafDelta) → ArePortsAt p item.grant.ports.v ports → IsLeafDelta n item.grant ports m delta
+        → CanTurn p s t n item.grant.ports.v delta
+    can_turn turn policy before after ports delta all h =
+        turn p policy s t before after n item (member_of m.base) m.now there was is delta
+        (record {
+          member = h.member;
+          rules = λ w got.
+              subst
+              (λ (z : List ℕ). IsPermutation
+              (rules_after delta (leaf_rules z (leaf_of n item.grant m.base.kept.state)))
+              (leaf_rules z (leaf_of n item.grant m.now.kept)))
+              (sym (all s.exprs s.members s.switches w got)) h.rules;
+        })

@@ -38,7 +38,7 @@ AreTold next before now (Once batches) = AreBatches next before now batches
 AreTold next before now Often = Unit {0}
 
 -- tables are sound as they stand and as the event leaves them so far, expressions stay, and this is kept of what stands
-pub record CanTurn (p : PolicyOf) (o : Outcome) (c : ComposedOf) : Type 0 where
+pub record CanFollow (p : PolicyOf) (o : Outcome) (c : ComposedOf) : Type 0 where
   pub all : length o.switches ≡ length p.switches
   pub before : AreSoundTables p (stood_in o)
   pub after : AreSoundTables p (state_in o)

@@ -28,8 +28,6 @@ pub mod hyper;
 mod judging;
 mod judging_members;
 mod keeping;
-mod leaf_delta;
-mod leaf_entries;
 mod looking;
 pub mod machine;
 mod member_draft;

@@ -2,7 +2,7 @@
 ghost use Rattle.std.specs.Prelude.{◌≡◌, ◌<◌, ◌+◌, IfOk, List, OnOk, length};
 ghost use Rattle.hyper_core.specs.Kept.{IsComposedOf};
 ghost use Rattle.hyper_core.specs.Outcomes.{state_in};
-ghost use Rattle.hyper_core.specs.Turning.{ArePortsAt, AreTold, CanTurn, joined, mixed_at};
+ghost use Rattle.hyper_core.specs.Turning.{ArePortsAt, AreTold, CanFollow, joined, mixed_at, stood_in};
 ghost use Rattle.machine_meaning.specs.Sound.{AreSoundTables};
 ghost use Rattle.switch_tables.specs.Tables.{SwitchTableOf};
 
@@ -13,7 +13,7 @@ use composed_tables::{Composed, SwitchBatch};
 use cv_io::{List, Memory, Steps};
 use policy_expr::Expr;
 use policy_setting::virtual_switch;
-use setting_laws::laws::settings_are_ready;
+use setting_laws::laws::mixtures_turn;
 use std::alloc::Global;
 use std::sync::ledger::Ledger;
 
@@ -65,8 +65,9 @@ fn turn_member<G: Ledger>(
     steps: &mut Steps<G>,
 ) -> Result<Turned, Memory>
     requires there { n < length draft.now.members }
-    requires before { AreSoundTables setup.now (mixed_at n draft.now) }
-    requires after { AreSoundTables setup.now (mixed_at (n + 1) draft.now) }
+    requires before { AreSoundTables setup.now (stood_in draft.now) }
+    requires after { AreSoundTables setup.now (state_in draft.now) }
+    requires exprs { draft.now.exprs.now ≡ draft.now.exprs.base }
     requires of { IsComposedOf setup.now (mixed_at n draft.now) composed.old }
     requires ups { length ups.now ≡ length composed.old.tables }
     ensures of { OnOk result (IsComposedOf setup.now (mixed_at (n + 1) draft.now) composed.new) }
@@ -77,9 +78,9 @@ fn turn_member<G: Ledger>(
     if member.is_unplanned() {
         return Ok(turned);
     }
-    // The proof learns what is true of every policy, and of settings.
+    // The proof learns what is true of every policy, and of members that change.
     let _policy = setup.policy();
-    settings_are_ready();
+    mixtures_turn();
     let item = &setup.members()[n];
     let v = item.grant.ports.v;
     let ports = ports(setup, v)?;
@@ -97,13 +98,10 @@ pub(crate) fn turn<G: Ledger>(
     composed: &mut Composed,
     steps: &mut Steps<G>,
 ) -> Result<Turned, Memory>
-    requires { CanTurn setup.now draft.now composed.old }
+    requires { CanFollow setup.now draft.now composed.old }
     ensures of { OnOk result (IsComposedOf setup.now (state_in draft.now) composed.new) }
     ensures told { IfOk result (AreTold draft.now.next_cookie composed.old.tables composed.new.tables) }
 {
-    // The proof learns what is true of every policy, and of settings.
-    let _policy = setup.policy();
-    settings_are_ready();
     let ups = ups(setup.alloc(), draft.switches.as_slice())?;
     let mut turned = Turned::Nothing;
     for n in 0..draft.members.len() {
