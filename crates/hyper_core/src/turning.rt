@@ -74,14 +74,16 @@ fn turn_member<G: Ledger>(
     ensures told { (before : List SwitchTableOf) → AreTold draft.now.next_cookie before composed.old.tables turned
         → IfOk result (AreTold draft.now.next_cookie before composed.new.tables) }
 {
-    let member = &draft.members.as_slice()[n];
-    if member.is_unplanned() {
-        return Ok(turned);
-    }
     // The proof learns what is true of every policy, and of members that change.
     let _policy = setup.policy();
     mixtures_turn();
-    let item = &setup.members()[n];
+    let members = draft.members.as_slice();
+    let items = setup.members();
+    let member = &members[n];
+    let item = &items[n];
+    if member.is_unplanned() {
+        return Ok(turned);
+    }
     let v = item.grant.ports.v;
     let ports = ports(setup, v)?;
     let Some(delta) = member.leaf_delta(setup.alloc(), n as u32, &item.grant, &ports)? else {
