@@ -12,13 +12,12 @@ ghost use Rattle.hyper_core.specs.Composed.{IsWrittenTo, with_composed, with_swi
 ghost use Rattle.machine_meaning.specs.Composing.{compose as compose_of, compose_all as compose_all_of};
 ghost use Rattle.machine_meaning.specs.Composing.{compose_at as compose_at_of};
 ghost use Rattle.machine_meaning.specs.Drafts.{Draft, letter};
-ghost use Rattle.hyper_core.specs.Kept.{IsComposedOf, IsKeptBy};
-ghost use Rattle.hyper_core.specs.Outcomes.{bases, draft_in, members_in, standing_in, switch_bases, switches_in};
+ghost use Rattle.hyper_core.specs.Kept.{DraftsHaveSerials, IsComposedOf, IsKeptBy};
+ghost use Rattle.hyper_core.specs.Outcomes.{bases, draft_in, standing_in, switch_bases, switches_in};
 ghost use Rattle.machine_meaning.specs.Sessions.{is_switch};
 ghost use Rattle.hyper_core.specs.Settled.{WasSettled};
 ghost use Rattle.hyper_core.specs.Sources.{CanGive, Gives, GivesAll};
 ghost use Rattle.hyper_core.specs.SwitchDrafts.{SwitchDraftOf, with_written};
-ghost use Rattle.setting_laws.specs.Drafted.{HaveSerials};
 
 use crate::composed::fitting;
 use crate::keeping::compose_kept;
@@ -247,7 +246,7 @@ fn compose_anew(setup: &Setup, draft: &mut Outcome<'_>) -> Result<(), Memory>
 
 /// Each member has a serial number left for an entry. So they have, always.
 fn have_serials(members: &[MemberDraft<'_>]) -> bool
-    ensures { IsTrue result → HaveSerials (members_in members.now) }
+    ensures { IsTrue result → DraftsHaveSerials members.now }
 {
     members.iter().all(|member| member.has_serial())
 }

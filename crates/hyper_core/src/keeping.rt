@@ -1,12 +1,13 @@
 //! The composed part is kept beside what the machine holds, under changes of members' tables.
-ghost use Rattle.std.specs.Prelude.{◌≡◌, ◌<◌, ◌+◌, ◌^◌, IfOk, IfSome, IsTrue, OnOk};
-ghost use Rattle.hyper_core.specs.Kept.{AreTables, IsComposedOf, IsKept, IsKeptBy, IsSoundWhile};
+ghost use Rattle.std.specs.Prelude.{◌≡◌, IfOk, IfSome, IsTrue, OnOk};
+ghost use Rattle.hyper_core.specs.Kept.{AreTables, DraftsHaveSerials, HasSerial, IsComposedOf, IsKept};
+ghost use Rattle.hyper_core.specs.Kept.{IsKeptBy, IsSoundWhile, StandingHaveSerials};
 ghost use Rattle.hyper_core.specs.Machines.{state_in_held};
 ghost use Rattle.hyper_core.specs.Outcomes.{bases, draft_in};
 ghost use Rattle.hyper_core.specs.Settled.{WasSettled};
+ghost use Rattle.hyper_core.specs.Views.{member_of};
 ghost use Rattle.machine_meaning.specs.Composing.{compose as compose_of};
 ghost use Rattle.machine_meaning.specs.Sound.{HasNumbers, IsSoundState};
-ghost use Rattle.setting_laws.specs.Drafted.{HaveSerials};
 
 use crate::composing::compose_from;
 use crate::held::Held;
@@ -37,7 +38,7 @@ fn compose_on<G: Ledger>(
     requires settled { WasSettled setup.now (bases draft.old) }
     requires kept { IsKeptBy setup.now (bases draft.old) (draft_in draft.old).state composed.old }
     requires exprs { draft.old.exprs.now ≡ draft.old.exprs.base }
-    requires serials { HaveSerials (draft_in draft.old).state.members }
+    requires serials { DraftsHaveSerials draft.old.members }
     ensures drafted { OnOk result (draft_in draft.new ≡ compose_of setup.now (draft_in draft.old)) }
     ensures bases { OnOk result (bases draft.new ≡ bases draft.old) }
     ensures kept { OnOk result (IsComposedOf setup.now (draft_in draft.old).state composed.new) }
@@ -61,7 +62,7 @@ pub(crate) fn compose_kept(
     requires settled { WasSettled setup.now (bases draft.old) }
     requires kept { IsKeptBy setup.now (bases draft.old) (draft_in draft.old).state composed.old }
     requires exprs { draft.old.exprs.now ≡ draft.old.exprs.base }
-    requires serials { HaveSerials (draft_in draft.old).state.members }
+    requires serials { DraftsHaveSerials draft.old.members }
     ensures drafted { OnOk result (draft_in draft.new ≡ compose_of setup.now (draft_in draft.old)) }
     ensures bases { OnOk result (bases draft.new ≡ bases draft.old) }
     ensures kept { OnOk result (IsComposedOf setup.now (draft_in draft.old).state composed.new) }
@@ -92,18 +93,25 @@ fn build(setup: &Setup, held: &Held) -> Option<Composed>
 
 /// A serial number is left for an entry of a member. So it is, always.
 fn has_serial(member: &Member) -> bool
-    ensures { IsTrue result → member.now.kept.state.table.next + 1 < 2 ^ 64 }
+    ensures { IsTrue result → HasSerial (member_of member.now) }
 {
     // The proof learns what is true of every table.
     let _table = member.kept.table();
     true
 }
 
+/// So it is for each member.
+fn have_serials(members: &[Member]) -> bool
+    ensures { IsTrue result → StandingHaveSerials members.now }
+{
+    members.iter().all(has_serial)
+}
+
 /// Numbers are left: cookies, and serial numbers of entries.
 fn has_numbers(held: &Held) -> bool
     ensures { IsTrue result → HasNumbers (state_in_held held.now) }
 {
-    held.next_cookie < u64::MAX && held.members.as_slice().iter().all(has_serial)
+    held.next_cookie < u64::MAX && have_serials(held.members.as_slice())
 }
 
 /// What is kept once an event ended: as long as numbers are left, what followed the event, or else what is made anew.

@@ -1,10 +1,11 @@
 //! What an event makes of a member, beside the member as it stands.
-ghost use Rattle.std.specs.Prelude.{◌≡◌, ℕ, ◌+◌, ◌<◌, ◌^◌, IfOk, IfSome, IsTrue, None, OnOk, filter};
+ghost use Rattle.std.specs.Prelude.{◌≡◌, ℕ, IfOk, IfSome, IsTrue, None, OnOk, filter};
 ghost use Rattle.std.specs.List.{AllByRecursion};
 ghost use Rattle.member_state.specs.Changes.{expired, is_told, touched, without};
 ghost use Rattle.member_state.specs.Plans.{IsReady, after_planned};
 ghost use Rattle.of10_actions.specs.Ports.{AreRising};
 ghost use Rattle.of10_match.specs.Normal.{IsNormal};
+ghost use Rattle.hyper_core.specs.Kept.{HasSerial};
 ghost use Rattle.hyper_core.specs.MemberDrafts.{IsLeafDelta, IsReadyPlan, IsUnplanned, kept_after, kept_state};
 ghost use Rattle.hyper_core.specs.MemberDrafts.{standing_member, with_now};
 ghost use Rattle.hyper_core.specs.Moving.{IsMemberPart, member_moved, member_put};
@@ -264,7 +265,7 @@ impl<'a> MemberDraft<'a> {
 
     /// A serial number is left for an entry. So it is, always.
     pub(crate) fn has_serial(&self) -> bool
-        ensures { IsTrue result → self.now.now.kept.table.next + 1 < 2 ^ 64 }
+        ensures { IsTrue result → HasSerial self.now.now }
     {
         // The proof learns what is true of every table.
         let _table = self.base.kept.table();
