@@ -7,6 +7,7 @@ use Rattle.member_state.specs.Leaves.{leaf_of}
 use Rattle.member_state.specs.Plans.{IsReady, after_planned}
 use Rattle.member_state.specs.States.{HeldState, MemberStateOf}
 use Rattle.member_state.specs.declared.planned.Planned.{Planned}
+use Rattle.leaf_changes.specs.Plans.{IsPlanOf}
 use Rattle.outbox.specs.Outboxes.{turned}
 use Rattle.policy_meaning.specs.LeafRules.{leaf_rules}
 use Rattle.outbox.specs.declared.outbox.Turn.{Turn}
@@ -32,6 +33,11 @@ kept_after x (Some planned) now = after_planned x planned now
 abbrev pub IsReadyPlan : HeldState → Option Planned → Type 0
 IsReadyPlan h None = Unit {0}
 IsReadyPlan h (Some planned) = IsReady h planned
+
+-- and its changes told
+abbrev pub IsPlannedOf : MemberStateOf → Option Planned → Type 0
+IsPlannedOf x None = Unit {0}
+IsPlannedOf x (Some planned) = IsPlanOf x planned
 
 -- the member after a turn of its session, with this configuration, and after what is planned
 abbrev pub member_after : Member → ℕ → Turn → Config → Option Planned → MemberOf

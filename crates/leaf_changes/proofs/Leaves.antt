@@ -4,9 +4,7 @@ use Rattle.std.proofs.Common.{map, filter, Option, Some, None, arith, refl, sym,
 use Rattle.std.specs.Prelude.{IsPermutation, if◌then◌else◌, option_map}
 use Rattle.std.specs.List.{AllByRecursion, cons_option, list_any}
 use Rattle.std.proofs.lemmas.Bool.{ne_eqb}
-use Rattle.std.proofs.lemmas.List.Sorted.{IsPermutation-append_right, IsPermutation-cons}
-use Rattle.std.proofs.lemmas.List.Sorted.{IsPermutation-middle, IsPermutation-refl, IsPermutation-sym}
-use Rattle.std.proofs.lemmas.List.Sorted.{IsPermutation-trans}
+use Rattle.std.proofs.lemmas.List.Sorted.{IsPermutation-append_right, IsPermutation-refl, IsPermutation-trans}
 use Rattle.cv_io.specs.declared.leaf.Leaf.{Leaf}
 use Rattle.incr_compile.specs.Compiling.{is_apart_from, rules_after, same_leaf}
 use Rattle.member_table.specs.Changes.{is_among}
@@ -17,44 +15,8 @@ use Rattle.policy_meaning.specs.declared.leaf.LeafEntry.{LeafEntry}
 use Rattle.policy_meaning.specs.declared.leaf.LeafTable.{LeafTable}
 use Rattle.policy_meaning.specs.declared.rule.Rule.{Rule}
 use Rattle.leaf_changes.specs.Leaves.{LeavesChange, entries_among, entries_apart, entry_rules, leaf_at}
-
--- lists -------------------------------------------------------------------------------------------------------------
-
-joined : {A : Type 0} (xs ys zs : List A) → (xs ++ ys) ++ zs ≡ xs ++ (ys ++ zs)
-joined [] ys zs = refl
-joined (x ∷ xs) ys zs = ap (λ ws. x ∷ ws) (joined xs ys zs)
-
-filter_joined : {A : Type 0} (q : A → Bool) (xs ys : List A) → filter q (xs ++ ys) ≡ filter q xs ++ filter q ys
-filter_joined q [] ys = refl
-filter_joined q (x ∷ xs) ys = by (q x) (filter_joined q xs ys)
-  where
-    by : (b : Bool) → filter q (xs ++ ys) ≡ filter q xs ++ filter q ys
-        → (if b then x ∷ filter q (xs ++ ys) else filter q (xs ++ ys))
-        ≡ (if b then x ∷ filter q xs else filter q xs) ++ filter q ys
-    by true e = ap (λ zs. x ∷ zs) e
-    by false e = e
-
-all_pass : {A : Type 0} (q : A → Bool) (xs : List A) → AllByRecursion (λ x. q x ≡ true) xs → filter q xs ≡ xs
-all_pass q [] h = refl
-all_pass q (x ∷ xs) h =
-    ap (λ b. if b then x ∷ filter q xs else filter q xs) h.0 ∙ ap (λ ys. x ∷ ys) (all_pass q xs h.1)
-
-none_pass : {A : Type 0} (q : A → Bool) (xs : List A) → AllByRecursion (λ x. q x ≡ false) xs → filter q xs ≡ []
-none_pass q [] h = refl
-none_pass q (x ∷ xs) h = ap (λ b. if b then x ∷ filter q xs else filter q xs) h.0 ∙ none_pass q xs h.1
-
-weaker : {A : Type 0} (P Q : A → Type 0) → ((x : A) → P x → Q x) → (xs : List A) → AllByRecursion P xs
-    → AllByRecursion Q xs
-weaker P Q f [] h = tt
-weaker P Q f (x ∷ xs) h = (f x h.0, weaker P Q f xs h.1)
-
--- a front is moved behind another
-behind : {A : Type 0} (xs ys zs : List A) → IsPermutation (xs ++ (ys ++ zs)) (ys ++ (xs ++ zs))
-behind [] ys zs = IsPermutation-refl (ys ++ zs)
-behind (x ∷ xs) ys zs =
-    IsPermutation-trans (x ∷ xs ++ (ys ++ zs)) (x ∷ ys ++ (xs ++ zs)) (ys ++ (x ∷ xs ++ zs))
-    (IsPermutation-cons x (xs ++ (ys ++ zs)) (ys ++ (xs ++ zs)) (behind xs ys zs))
-    (IsPermutation-sym (ys ++ (x ∷ xs ++ zs)) (x ∷ ys ++ (xs ++ zs)) (IsPermutation-middle ys x (xs ++ zs)))
+use Rattle.leaf_changes.proofs.Lists.{all_pass, behind, filter_joined, joined, none_pass, weaker}
+use Rattle.leaf_changes.proofs.Rules.{all_met}
 
 -- leaves ------------------------------------------------------------------------------------------------------------
 
@@ -103,15 +65,6 @@ same_numbers n (s ∷ ss) =
     ∙ ap (λ b. (s == n) || b) (same_numbers n ss)
 
 -- rules -------------------------------------------------------------------------------------------------------------
-
-met_next : (a : Rule) (o : Option MatchOf) (rest : List Rule) → AllByRecursion (λ (r : Rule). r.ancestry ≡ a.ancestry) rest
-    → AllByRecursion (λ (r : Rule). r.ancestry ≡ a.ancestry) (cons_option (option_map (λ m. record a { m = m }) o) rest)
-met_next a None rest h = h
-met_next a (Some m) rest h = (refl, h)
-
-all_met : (boxes : List MatchOf) (a : Rule) → AllByRecursion (λ (r : Rule). r.ancestry ≡ a.ancestry) (in_cells boxes a)
-all_met [] a = tt
-all_met (n ∷ ns) a = met_next a (meet a.m n) (in_cells ns a) (all_met ns a)
 
 module _ (ports serials : List ℕ) (t : LeafTable) where
   abbrev goes : List Leaf

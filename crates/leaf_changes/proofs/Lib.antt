@@ -1,1 +1,7 @@
+pub mod Lists
+pub mod Rules
 pub mod Leaves
+pub mod Changing
+pub mod Told
+pub mod Delta
+pub mod Plans

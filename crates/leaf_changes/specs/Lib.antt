@@ -1,1 +1,4 @@
 pub mod Leaves
+pub mod Plans
+pub mod Touched
+pub mod Told
