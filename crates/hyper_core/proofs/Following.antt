@@ -34,6 +34,7 @@ use Rattle.hyper_core.specs.declared.turning.Turned.{Turned}
 use Rattle.hyper_core.specs.declared.turning.Turned.TheVariants.{Nothing, Once, Often}
 use Rattle.hyper_core.proofs.ToldChanges.{is_told, still_settled}
 use Rattle.hyper_core.proofs.Unneeded.{same_kept}
+use Rattle.hyper_core.proofs.Wanted.{is_there}
 
 -- where the event changed nothing that composition reads, what is kept stays
 pub kept_unchanged : (p : PolicyOf) (o : Outcome) (c : ComposedOf) → IsUnchanged o → IsComposedOf p (stood_in o) c
@@ -56,19 +57,6 @@ can_follow p o c h exprs serials = record {
   exprs = exprs;
   of = h.of;
 }
-
--- an item is there
-record IsThere {A : Type 0} (xs : List A) (n : ℕ) : Type 0 where
-  item : A
-  at : slice_get xs n ≡ Some item
-
-is_there : {A : Type 0} (xs : List A) (n : ℕ) → n < length xs → IsThere xs n
-is_there [] n h = absurd (omega arith)
-is_there (x ∷ xs) zero h = record { item = x; at = refl }
-is_there (x ∷ xs) (suc n) h =
-    let less : n < length xs = omega arith in
-    let r = is_there xs n less in
-    record { item = r.item; at = r.at }
 
 -- what stands beside the draft of a switch
 seen_base : {A : Type 0} (f : Switch → A) (xs : List SwitchDraftOf) (n : ℕ) (x : SwitchDraftOf)

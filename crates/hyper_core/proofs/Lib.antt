@@ -54,6 +54,7 @@ pub mod StaysSettled
 pub mod Unneeded
 pub mod SameWanted
 pub mod ToldChanges
+pub mod Wanted
 pub mod Turning
 pub mod Serials
 pub mod Following

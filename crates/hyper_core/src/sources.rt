@@ -1,9 +1,10 @@
 //! Where what is wanted of switches comes from: a setting, or what is kept, with what was told of its last change.
-ghost use Rattle.std.specs.Prelude.{◌≡◌, ◌<◌, ◌+◌, IfOk, IsPermutation, List, length, true};
+ghost use Rattle.std.specs.Prelude.{◌≡◌, ◌<◌, ◌+◌, IfOk, IsPermutation, List, length, map, true};
 ghost use Rattle.agreement.specs.Entries.{entries_of as entries_of_of};
 ghost use Rattle.agreement.specs.Fitting.{IsFittingSetting};
 ghost use Rattle.agreement.specs.declared.state.Setting.{Setting as SettingOf};
 ghost use Rattle.composed_tables.specs.Composing.{IsGood, IsOf};
+ghost use Rattle.install_plan.specs.Tables.{entry_of};
 ghost use Rattle.switch_meaning.specs.Keys.{installed as installed_of};
 ghost use Rattle.switch_meaning.specs.declared.entry.PhysEntry.{PhysEntry as PhysEntryOf};
 ghost use Rattle.told_batches.specs.Told.{IsToldOf};
@@ -30,18 +31,25 @@ pub(crate) enum Source<'a> {
     Kept(&'a Composed, &'a Turned),
 }
 
+/// The entries of rows, without their cookies.
+fn entries_of_rows(alloc: Global, rows: List<Written>) -> Result<List<PhysEntry>, Memory>
+    ensures { IfOk result (λ entries. entries ≡ map entry_of rows) }
+{
+    let mut entries = List::with_capacity(alloc, rows.len())?;
+    for written in rows.into_vec() {
+        entries.push(written.entry)?;
+    }
+    Ok(entries)
+}
+
 /// The entries that are to stand on a switch, as they are kept.
 fn kept(alloc: Global, composed: &Composed, n: usize) -> Result<List<PhysEntry>, Memory>
     requires { n < length composed.now.tables }
     ensures { (t : SettingOf) → IsGood t → IsOf t composed.now
         → IfOk result (λ entries. IsPermutation (installed_of (entries_of_of t n)) entries) }
 {
-    let standing = composed.standing(n)?;
-    let mut entries = List::with_capacity(alloc, standing.len())?;
-    for written in standing.into_vec() {
-        entries.push(written.entry)?;
-    }
-    Ok(entries)
+    let rows = composed.standing(n)?;
+    entries_of_rows(alloc, rows)
 }
 
 /// The change to all that is to stand.

@@ -8,4 +8,4 @@ pub returns : goal.returns
 returns c t =
     subst (λ (d : MemberDraftOf). HasSerial d.now) c.self.view_is
     (serial_left c.self.inside.base.now.kept c.self.inside.planned c.self.inside.moment c.table.ensures.sound
-    c.self.invariant)
+    c.self.invariant.0)
