@@ -47,6 +47,11 @@ kept_unchanged p o c same h = record {
   compiled = h.compiled;
 }
 
+pub unchanged_kept : (p : PolicyOf) (o : Outcome) (k : Option ComposedOf) → IsUnchanged o
+    → IfSome k (IsKeptBy p (bases o) (state_in o)) → IfSome k (IsComposedOf p (state_in o))
+unchanged_kept p o None same h = tt
+unchanged_kept p o (Some c) same h = kept_unchanged p o c same h.of
+
 -- it can follow the event
 pub can_follow : (p : PolicyOf) (o : Outcome) (c : ComposedOf) → IsKeptBy p (bases o) (state_in o) c
     → o.exprs.now ≡ o.exprs.base → HaveSerials (members_in o.members) → CanFollow p o c
@@ -137,11 +142,12 @@ module _ (ready : SettingsAreReady) (p : PolicyOf) (policy : IsSound p) (o : Out
         (seen_base standing_of o.switches n x at) (many_then n x at) (many n x at) turned told);
   }
 
-  -- so many can be asked for
-  pub can_give : length o.switches ≡ length d.tables
-  can_give =
-      let long = length-map o.switches (λ (x : SwitchDraftOf). x.base) in
-      let all = kept.all in
-      let count = now.of.count in
-      let physical = long_physical (ups_with (state_in o).switches) p.switches in
-      omega (arith, long, all, count, physical)
+-- so many switches can be asked for
+pub can_give : (p : PolicyOf) (o : Outcome) (c d : ComposedOf) → IsKeptBy p (bases o) (state_in o) c
+    → IsComposedOf p (state_in o) d → length o.switches ≡ length d.tables
+can_give p o c d kept now =
+    let long = length-map o.switches (λ (x : SwitchDraftOf). x.base) in
+    let all = kept.all in
+    let count = now.of.count in
+    let physical = long_physical (ups_with (state_in o).switches) p.switches in
+    omega (arith, long, all, count, physical)

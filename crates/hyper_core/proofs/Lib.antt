@@ -57,5 +57,6 @@ pub mod ToldChanges
 pub mod Wanted
 pub mod Turning
 pub mod Serials
+pub mod Sourced
 pub mod Following
 pub mod KeptOn
