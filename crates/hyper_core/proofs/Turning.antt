@@ -1,8 +1,8 @@
 -- What is kept follows a member whose rules change.
-use Rattle.std.proofs.Common.{◌≡◌, ◌∙◌, ℕ, ◌+◌, List, map, Option, Some, refl, sym, ap, subst}
+use Rattle.std.proofs.Common.{◌≡◌, ◌∙◌, ℕ, ◌+◌, ◌<◌, List, map, Option, Some, get_or, refl, sym, ap, arith, subst}
 use Rattle.std.specs.Prelude.{IsPermutation, length, option_map, slice_get}
 use Rattle.std.proofs.lemmas.List.{length-map}
-use Rattle.std.proofs.lemmas.Option.{slice_get-map}
+use Rattle.std.proofs.lemmas.Option.{slice_get-map, slice_get_read}
 use Rattle.composed_tables.specs.Composing.{ComposedOf}
 use Rattle.incr_compile.specs.Compiling.{rules_after}
 use Rattle.incr_compile.specs.declared.compiled.LeafDelta.{LeafDelta}
@@ -27,6 +27,21 @@ use Rattle.hyper_core.specs.Views.{member_of}
 use Rattle.hyper_core.specs.declared.outcome.Outcome.{Outcome}
 use Rattle.hyper_core.specs.declared.turning.Turned.{Turned}
 use Rattle.hyper_core.specs.declared.turning.Turned.TheVariants.{Nothing, Once, Often}
+
+-- the item at a place is there
+pub item_at : {A : Type 0} (xs ys : List A) (n : ℕ) (x : A) → ys ≡ xs → n < length xs → x ≡ get_or ys n x
+    → slice_get xs n ≡ Some x
+item_at xs ys n x same lt is =
+    subst (λ (zs : List A). slice_get zs n ≡ Some x) same
+    (slice_get_read ys (length ys) n x refl (subst (λ (zs : List A). n < length zs) (sym same) lt) is)
+
+-- there is an item for each member
+pub items_long : (p : PolicyOf) (o : Outcome) (n : ℕ) → AreSoundTables p (state_in o) → n < length o.members
+    → n < length p.members
+items_long p o n after lt =
+    let all = after.all_members in
+    let long = length-map o.members (λ (m : MemberDraftOf). m.now) in
+    omega (arith, all, long, lt)
 
 -- one change more is told
 pub told_more : (next : ℕ) (before now then : List SwitchTableOf) (t : Turned) (batches : List SwitchBatch)

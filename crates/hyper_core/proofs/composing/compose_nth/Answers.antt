@@ -1,5 +1,4 @@
-use Rattle.std.proofs.Common.{◌∙◌, ap, refl, sym}
-use Rattle.std.proofs.lemmas.Option.{slice_get_read}
+use Rattle.machine_meaning.proofs.Places.{slice_get-there}
 use Rattle.stats_map.specs.Told.{told}
 use Rattle.hyper_core.proofs.OneSwitch.{nth_based, nth_composed}
 use Rattle.hyper_core.proofs.Sourced.{others_stay}
@@ -19,4 +18,5 @@ returns-clause-composed c t given d e =
     c.index-switches-place.result
     (told c.args.counts.now.now) (told c.compose_at.new.counts.now) c.args.next_cookie.now c.compose_at.new.next_cookie
     c.args.batches.now c.compose_at.new.batches
-    c.requires.there (c.in_ok-compose_at.ensures.composed t ?) e
+    c.requires.there (c.in_ok-compose_at.ensures.composed t
+    (given _ (slice_get-there c.args.switches.now c.args.n c.index-switches-place.result c.requires.there))) e
