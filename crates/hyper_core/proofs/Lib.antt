@@ -52,6 +52,7 @@ pub mod Present
 pub mod Recomposed
 pub mod StaysSettled
 pub mod Unneeded
+pub mod Kept
 pub mod SameWanted
 pub mod ToldChanges
 pub mod Wanted

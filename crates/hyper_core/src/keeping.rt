@@ -124,7 +124,8 @@ pub(crate) fn keep(setup: &Setup, held: &Held, composed: &mut Option<Composed>)
         *composed = None;
         return;
     }
-    if composed.is_none() {
-        *composed = build(setup, held);
+    if composed.is_some() {
+        return;
     }
+    *composed = build(setup, held);
 }

@@ -1,8 +1,9 @@
 use Rattle.std.proofs.Common.{◌∙◌, Option, Some, subst, sym}
 use Rattle.std.specs.Prelude.{IfSome}
 use Rattle.composed_tables.specs.Composing.{ComposedOf}
-use Rattle.hyper_core.specs.Kept.{IsKeptBy}
+use Rattle.hyper_core.specs.Kept.{IsComposedOf, IsKeptBy}
 use Rattle.hyper_core.specs.Outcomes.{bases, draft_in}
+use Rattle.hyper_core.proofs.Attempts.{in_ok_case}
 use Rattle.hyper_core.proofs.Following.{unchanged_kept}
 use Rattle.hyper_core.proofs.Unneeded.{unchanged_composed}
 use Rattle.hyper_core.proofs.composing.compose.Goals as goal
@@ -22,3 +23,9 @@ compose_kept-requires-clause-kept c =
     subst (λ (k : Option ComposedOf). IfSome k
     (IsKeptBy c.args.setup.now (bases c.args.draft.now) (draft_in c.args.draft.now).state))
     (sym c.take.ensures.value ∙ c.in-Some.is) c.requires.kept
+
+pub returns-in_default-clause-kept : goal.returns-in_default-clause-kept
+returns-in_default-clause-kept c =
+    in_ok_case c.compose_anew.result
+    (subst (λ (k : Option ComposedOf). IfSome k
+    (IsComposedOf c.args.setup.now (draft_in c.args.draft.now).state)) (sym c.take.ensures.after) tt)
