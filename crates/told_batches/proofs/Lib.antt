@@ -1,6 +1,6 @@
-pub mod Told
 pub mod Rising
-pub mod Between
+pub mod ToldBatches
 pub mod Sorting
-pub mod Parting
-pub mod Numbering
+pub mod OnePass
+pub mod Cookies
+pub mod AnyOrder

@@ -3,7 +3,6 @@ use Rattle.std.proofs.Common.{◌≡◌, ◌∙◌, Bool, true, false, List, [],
 use Rattle.std.specs.Prelude.{◌==◌, if◌then◌else◌}
 use Rattle.std.specs.List.{AllByRecursion, IsDistinct}
 use Rattle.std.specs.Ordering.{is_le, nat_cmp, ordering_then}
-use Rattle.std.specs.declared.cmp.Ordering.{Ordering}
 use Rattle.std.specs.declared.cmp.Ordering.TheVariants.{Equal, Less}
 use Rattle.std.proofs.lemmas.Bool.Decides.{Decides-eqb}
 use Rattle.std.proofs.lemmas.Cmp.{tied_itself}
@@ -28,7 +27,7 @@ use Rattle.switch_meaning.proofs.ByKey.{key_total, sorted-by-key}
 use Rattle.machine_meaning.specs.Batches.{by_key, put_by_key}
 use Rattle.told_batches.specs.Told.{IsLower}
 
--- rows that rise are by key, and so are some of them -------------------------------------------------------------------
+-- rows that rise are by key, and so are some of them -----------------------------------------------------------------
 
 all_kept : {A : Type 0} (P : A → Type 0) (q : A → Bool) (xs : List A) → AllByRecursion P xs
     → AllByRecursion P (filter q xs)
@@ -39,7 +38,8 @@ all_kept P q (x ∷ xs) h = by (q x) (all_kept P q xs h.1)
     by true rest = (h.0, rest)
     by false rest = rest
 
-pub pairs_kept : {A : Type 0} (R : A → A → Type 0) (q : A → Bool) (xs : List A) → EachPair R xs → EachPair R (filter q xs)
+pub pairs_kept : {A : Type 0} (R : A → A → Type 0) (q : A → Bool) (xs : List A) → EachPair R xs
+    → EachPair R (filter q xs)
 pairs_kept R q [] h = tt
 pairs_kept R q (x ∷ xs) h = by (q x) (pairs_kept R q xs h.1)
   where
@@ -56,7 +56,7 @@ pub in_order : (ws : List Written) → EachPair IsLower ws → by_key ws ≡ ws
 in_order [] h = refl
 in_order (w ∷ ws) h = ap (put_by_key w) (in_order ws h.1) ∙ put_first w ws h.0
 
--- rows that rise have one key each ------------------------------------------------------------------------------------
+-- rows that rise have one key each -----------------------------------------------------------------------------------
 
 apart : (d e : PhysEntry) → key_cmp d e ≡ Less → same_key d e ≡ false
 apart d e low = by (same_key d e) refl

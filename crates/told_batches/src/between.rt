@@ -25,7 +25,8 @@ fn is_among(wanted: &List<PhysEntry>, written: &Written) -> bool
 
 /// The rows that stand and are to go or to change, and those that stay.
 fn part(alloc: Global, standing: &[Written], wanted: &List<PhysEntry>) -> Result<Parted, Memory>
-    ensures going { IfOk result (λ p. p.going ≡ filter (λ (w : WrittenOf). not (is_among_of wanted.now w)) standing.now) }
+    ensures going { IfOk result (λ p.
+        p.going ≡ filter (λ (w : WrittenOf). not (is_among_of wanted.now w)) standing.now) }
     ensures staying { IfOk result (λ p. p.staying ≡ staying standing.now wanted.now) }
 {
     let mut parted = Parted::new(alloc);

@@ -20,8 +20,7 @@ pub struct Change {
 
 /// What goes is deleted, and what comes stands beside what stays.
 pub(crate) fn change_of(parted: Parted, come: Numbered) -> Result<Change, Memory>
-    ensures deletes { IfOk result (λ c. c.batch.deletes ≡ by_key_of parted.going) }
-    ensures adds { IfOk result (λ c. c.batch.adds ≡ come.entries) }
+    ensures batch { IfOk result (λ c. c.batch ≡ record { deletes = by_key_of parted.going; adds = come.entries }) }
     ensures standing { IfOk result (λ c. c.standing ≡ by_key_of (parted.staying ++ come.entries)) }
     ensures next { IfOk result (λ c. c.next ≡ come.next) }
 {

@@ -26,8 +26,10 @@ impl Parted {
 
     /// Appends a copy of a row to those that stay, or to those that go.
     pub(crate) fn push(&mut self, stays: bool, written: &Written) -> Result<(), Memory>
-        ensures going { OnOk result (self.new.going ≡ self.old.going ++ (if not stays then written.now ∷ [] else [])) }
-        ensures staying { OnOk result (self.new.staying ≡ self.old.staying ++ (if stays then written.now ∷ [] else [])) }
+        ensures going { OnOk result (self.new.going
+            ≡ self.old.going ++ (if not stays then written.now ∷ [] else [])) }
+        ensures staying { OnOk result (self.new.staying
+            ≡ self.old.staying ++ (if stays then written.now ∷ [] else [])) }
     {
         let copied = written.copy()?;
         if stays {

@@ -1,5 +1,5 @@
-//! The change of a switch's table that is told, as which entries go and come: deleted ones are written under the cookies
-//! under which they stand, added ones under new ones.
+//! The change of a switch's table that is told, as which entries go and come: deleted ones are written under the
+//! cookies under which they stand, added ones under new ones.
 ghost use Rattle.std.specs.Prelude.{◌≡◌, IfOk, List, drop, filter, map, not};
 ghost use Rattle.install_plan.specs.Tables.{entry_of};
 ghost use Rattle.switch_meaning.specs.Keys.{same_key};

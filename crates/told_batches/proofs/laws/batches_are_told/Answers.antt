@@ -1,4 +1,4 @@
-use Rattle.told_batches.proofs.Told.{batches-told}
+use Rattle.told_batches.proofs.ToldBatches.{batches-told}
 use Rattle.told_batches.proofs.laws.batches_are_told.Goals as goal
 
 pub returns : goal.returns

@@ -1,4 +1,4 @@
-use Rattle.told_batches.proofs.Between.{told_between}
+use Rattle.told_batches.proofs.ToldBatches.{told_between}
 use Rattle.told_batches.proofs.laws.told_changes.Goals as goal
 
 pub returns : goal.returns

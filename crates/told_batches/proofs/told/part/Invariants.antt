@@ -1,7 +1,7 @@
 use Rattle.std.proofs.Common.{◌≤◌, map}
 use Rattle.install_plan.specs.Tables.{entry_of}
 use Rattle.told_batches.specs.Told.{AreListed}
-use Rattle.told_batches.proofs.Parting.{IsPartedAt}
+use Rattle.told_batches.proofs.OnePass.{IsPartedAt}
 use Rattle.told_batches.proofs.told.part.Given as goal
 
 abbrev pub invariant-loop-written : goal.invariant-loop-written

@@ -1,8 +1,9 @@
--- The batch that is told, and what stays.
+-- What is told is the batch that is written, and makes it again of what stands.
 use Rattle.std.proofs.Common.{◌≡◌, ◌∙◌, ℕ, Bool, true, false, not, List, [], ◌∷◌, map, filter, refl, sym, ap, subst}
 use Rattle.std.specs.Prelude.{if◌then◌else◌}
 use Rattle.std.specs.List.{list_any}
 use Rattle.std.proofs.lemmas.List.Sorted.{IsPermutation-sym}
+use Rattle.agreement.specs.FreeOrder.{BatchIsTheSame}
 use Rattle.install_plan.specs.Tables.{entry_of, numbered}
 use Rattle.install_plan.specs.declared.written.Batch.{Batch}
 use Rattle.install_plan.specs.declared.written.Written.{Written}
@@ -17,7 +18,8 @@ use Rattle.switch_meaning.proofs.Members.{IsIn, any-passes, filter-in, here, in-
 use Rattle.switch_meaning.proofs.Members.{in-permuted, one-alike, passes-any, there}
 use Rattle.machine_meaning.specs.Batches.{by_key, is_among, staying}
 use Rattle.machine_meaning.proofs.StandingAfter.{batch_is_difference}
-use Rattle.told_batches.specs.Told.{AreListed, IsBetween, IsLower, IsToldOf, ToldChangesAreBetween, has_key_in}
+use Rattle.told_batches.specs.Told.{AreListed, BatchesAreTold, IsBetween, IsLower, IsToldOf, ToldChangesAreBetween}
+use Rattle.told_batches.specs.Told.{has_key_in}
 use Rattle.told_batches.proofs.Rising.{in_order, keys_apart, pairs_kept}
 
 -- tests -------------------------------------------------------------------------------------------------------------
@@ -143,3 +145,10 @@ module _ (stood : List Written) (wanted : List PhysEntry) (told : Batch) (h : Is
 
 pub told_between : ToldChangesAreBetween
 told_between next stood wanted told h = between stood wanted told h next
+
+-- the batch of two tables is told, in whatever order their entries are listed
+pub batches-told : BatchIsTheSame → BatchesAreTold
+batches-told same old new k told batch one other ranged ranged' stood wanted p q =
+    batch.difference
+    ∙ same (map entry_of old.standing) (map entry_of new.standing) (map entry_of stood) wanted one other ranged
+    ranged' p q

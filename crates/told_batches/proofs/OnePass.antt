@@ -1,7 +1,8 @@
 -- One pass over rows that stand and rows that are listed among them.
 use Rattle.std.proofs.Common.{◌≡◌, ◌∙◌, ◌+◌, ◌<◌, ◌≤◌, ◌||◌, ℕ, zero, suc, Bool, true, false, List, [], ◌∷◌, ◌++◌}
-use Rattle.std.proofs.Common.{arith, ap, drop, get_or, length, map, refl, subst, sym, append-nil}
+use Rattle.std.proofs.Common.{arith, ap, drop, get_or, length, map, refl, sym, append-nil}
 use Rattle.std.specs.Prelude.{filter, if◌then◌else◌, not}
+use Rattle.std.specs.Int.{from_bool}
 use Rattle.std.specs.List.{list_any}
 use Rattle.std.proofs.lemmas.List.{drop-drop, drop_all, drop_more}
 use Rattle.install_plan.specs.Tables.{entry_of}
@@ -25,10 +26,9 @@ first_found : (ts : List Written) (w : Written) → is_first ts w ≡ true
 first_found [] w e = cc
 first_found (t ∷ ts) w e = ap (λ b. b || list_any (same_key w.entry) (map entry_of ts)) e
 
--- the number of rows that are passed, once this one is
-abbrev pub step : Bool → ℕ
-step true = 1
-step false = 0
+pub at_most_one : (b : Bool) → from_bool b ≤ 1
+at_most_one true = omega arith
+at_most_one false = omega arith
 
 module _ (gone stood : List Written) where
   abbrev goes : Written → Bool
@@ -41,8 +41,13 @@ module _ (gone stood : List Written) where
     pub staying : stayed ++ filter (λ w. not (goes w)) (drop index stood) ≡ filter (λ w. not (goes w)) stood
     pub left : map entry_of (drop place gone) ≡ map entry_of (filter goes (drop index stood))
 
-  pub parted_first : AreListed (map entry_of gone) stood → IsPartedAt 0 0 [] []
-  parted_first h = record { going = refl; staying = refl; left = h }
+  pub parted_first : (went stayed : List Written) → went ≡ [] → stayed ≡ [] → AreListed (map entry_of gone) stood
+      → IsPartedAt 0 0 went stayed
+  parted_first went stayed none kept h = record {
+    going = ap (λ xs. xs ++ filter goes stood) none;
+    staying = ap (λ xs. xs ++ filter (λ w. not (goes w)) stood) kept;
+    left = h;
+  }
 
   module _ (w : Written) (rest : List Written) where
     -- a row goes exactly where its key is that of the next one that is listed
@@ -65,7 +70,7 @@ module _ (gone stood : List Written) where
     first_goes ts false found e h = never_first ts found e
 
     passed : (ts us : List Written) (b : Bool) → map entry_of ts ≡ map entry_of (if b then w ∷ us else us)
-        → map entry_of (drop (step b) ts) ≡ map entry_of us
+        → map entry_of (drop (from_bool b) ts) ≡ map entry_of us
     passed [] us true h = cc
     passed (t ∷ ts) us true h = cc
     passed ts us false h = h
@@ -75,7 +80,7 @@ module _ (gone stood : List Written) where
   twice_not false = refl
 
   pub parted_more : (k i later : ℕ) (w : Written) (b : Bool) (went stayed gone_now stayed_now : List Written)
-      → i < length stood → w ≡ get_or stood i w → b ≡ is_first (drop k gone) w → later ≡ k + step b
+      → i < length stood → w ≡ get_or stood i w → b ≡ is_first (drop k gone) w → later ≡ k + from_bool b
       → gone_now ≡ went ++ (if not (not b) then w ∷ [] else [])
       → stayed_now ≡ stayed ++ (if not b then w ∷ [] else [])
       → IsPartedAt k i went stayed → IsPartedAt later (i + 1) gone_now stayed_now
@@ -96,8 +101,8 @@ module _ (gone stood : List Written) where
             (stays_is ∙ ap (λ c. stayed ++ (if not c then w ∷ [] else [])) same) h.staying;
         left =
             ap (λ n. map entry_of (drop n gone)) next
-            ∙ (ap (map entry_of) (sym (drop-drop (step b) k gone))
-            ∙ (ap (λ c. map entry_of (drop (step c) (drop k gone))) same
+            ∙ (ap (map entry_of) (sym (drop-drop (from_bool b) k gone))
+            ∙ (ap (λ c. map entry_of (drop (from_bool c) (drop k gone))) same
             ∙ passed w rest (drop k gone) (filter goes rest) (goes w) all));
       }
 

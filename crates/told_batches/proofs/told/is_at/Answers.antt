@@ -1,4 +1,0 @@
-use Rattle.told_batches.proofs.told.is_at.Goals as goal
-
-pub returns : goal.returns
-returns c = ?
