@@ -21,9 +21,8 @@ use Rattle.switch_meaning.proofs.Members.{all-permuted}
 use Rattle.switch_tables.specs.Tables.{HasNow, SwitchTableOf}
 use Rattle.switch_tables.proofs.Switching.{stands-as-installed}
 use Rattle.told_batches.specs.Told.{IsToldOf, has_key_in}
-use Rattle.told_batches.proofs.Between.{told_between}
+use Rattle.told_batches.proofs.ToldBatches.{batches-told, told_between}
 use Rattle.told_batches.proofs.Rising.{in_order, sorted_rise}
-use Rattle.told_batches.proofs.Told.{batches-told}
 use Rattle.machine_meaning.specs.Batches.{by_key, coming, going, staying}
 use Rattle.machine_meaning.proofs.Unchanged.{nothing_after}
 use Rattle.hyper_core.specs.Settled.{IsSettled}
