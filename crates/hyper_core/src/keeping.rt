@@ -24,9 +24,11 @@ use std::marker::Brand;
 use std::sync::ledger::{Blank, Ledger};
 
 /// What is true of what is to stand on each switch.
-fn are_tables(_composed: &Composed)
-    ensures { AreTables _composed.now.tables }
-{}
+fn are_tables(composed: &Composed)
+    ensures { AreTables composed.now.tables }
+{
+    let _ = composed;
+}
 
 /// What is kept changes with the draft, and switches are written it.
 fn compose_on<G: Ledger>(

@@ -84,9 +84,10 @@ fn turn_member<G: Ledger>(
     if member.is_unplanned() {
         return Ok(turned);
     }
+    let number = n as u32;
     let v = item.grant.ports.v;
     let ports = ports(setup, v)?;
-    let Some(delta) = member.leaf_delta(setup.alloc(), n as u32, &item.grant, &ports)? else {
+    let Some(delta) = member.leaf_delta(setup.alloc(), number, &item.grant, &ports)? else {
         return Ok(turned);
     };
     let batches = composed.apply(v, delta, ups, draft.next_cookie, steps)?;

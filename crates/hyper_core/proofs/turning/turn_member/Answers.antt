@@ -1,4 +1,4 @@
-use Rattle.std.proofs.Common.{◌<◌, List, Option, length, subst, sym}
+use Rattle.std.proofs.Common.{◌<◌, List, Option, ap, arith, length, subst, sym}
 use Rattle.std.specs.Prelude.{IfSome}
 use Rattle.policy_file.specs.declared.policy.MemberItem.{MemberItem}
 use Rattle.machine_meaning.proofs.Grants.{grant_sound, item_of}
@@ -26,6 +26,13 @@ returns-then-is_unplanned-clause-of g c =
     (items_long p o n c.requires.after c.requires.there) c.index-items-n.is in
     kept_unplanned p o c.requires.exprs n item m there at c.args.composed.now
     (c.is_unplanned.ensures c.if-is_unplanned.true) c.requires.of
+
+pub overflow_cast-number : goal.overflow_cast-number
+overflow_cast-number g c =
+    let lt = items_long c.args.setup.now c.args.draft.now c.args.n c.requires.after c.requires.there in
+    let few = c.members-items.ensures.few in
+    let same = ap (λ (xs : List MemberItem). length xs) c.members-items.ensures.members in
+    omega (arith, lt, few, same)
 
 pub leaf_delta-requires-clause-rising : goal.leaf_delta-requires-clause-rising
 leaf_delta-requires-clause-rising g c =
