@@ -3,5 +3,5 @@ pub mod Rules
 pub mod Leaves
 pub mod Changing
 pub mod Told
-pub mod Delta
-pub mod Plans
+pub mod RulesTold
+pub mod PlansMade

@@ -1,7 +1,8 @@
 -- Lists that are filtered, mapped and put in another order.
-use Rattle.std.proofs.Common.{◌≡◌, ◌∙◌, Bool, true, false, not, ◌&&◌, List, [], ◌∷◌, ◌++◌, map, filter, refl, sym, ap, ap₂, subst}
-use Rattle.std.specs.Prelude.{IsPermutation, if◌then◌else◌}
-use Rattle.std.specs.List.{AllByRecursion}
+use Rattle.std.proofs.Common.{◌≡◌, ◌∙◌, ℕ, zero, suc, ◌+◌, ◌<◌, Bool, true, false, not, List, [], ◌∷◌, ◌++◌, map, filter}
+use Rattle.std.proofs.Common.{Option, Some, None, option_map, length, drop, get_or, add-one, drop-cons, arith, refl, sym, ap, ap₂, subst}
+use Rattle.std.specs.Prelude.{IsPermutation, filter_map, if◌then◌else◌, option_to_list}
+use Rattle.std.specs.List.{AllByRecursion, cons_option}
 use Rattle.std.proofs.lemmas.List.Sorted.{IsPermutation-append_right, IsPermutation-cons}
 use Rattle.std.proofs.lemmas.List.Sorted.{IsPermutation-middle, IsPermutation-refl, IsPermutation-sym}
 use Rattle.std.proofs.lemmas.List.Sorted.{IsPermutation-trans}
@@ -116,3 +117,33 @@ left_out q front some back none =
 pub map_joined : {A B : Type 0} (f : A → B) (xs ys : List A) → map f (xs ++ ys) ≡ map f xs ++ map f ys
 map_joined f [] ys = refl
 map_joined f (x ∷ xs) ys = ap (λ zs. f x ∷ zs) (map_joined f xs ys)
+
+-- the item at a place ------------------------------------------------------------------------------------------------
+
+pub each_got : {A : Type 0} (P : A → Type 0) (xs : List A) (i : ℕ) (x : A) → AllByRecursion P xs → i < length xs
+    → x ≡ get_or xs i x → P x
+each_got P [] i x a less e = absurd (omega arith)
+each_got P (y ∷ ys) zero x a less e = subst P (sym e) a.0
+each_got P (y ∷ ys) (suc i) x a less e = each_got P ys i x a.1 (omega arith) e
+
+filtered_split : {B C : Type 0} (f : B → C) (o : Option B) (ys : List B)
+    → map f (cons_option o ys) ≡ option_to_list (option_map f o) ++ map f ys
+filtered_split f None ys = refl
+filtered_split f (Some y) ys = refl
+
+-- what is made of it, where something is
+pub made_next : {A B C : Type 0} (f : B → C) (g : A → Option B) (xs : List A) (i : ℕ) (x : A) (done : List C)
+    → i < length xs → x ≡ get_or xs i x
+    → (done ++ option_to_list (option_map f (g x))) ++ map f (filter_map g (drop (i + 1) xs))
+    ≡ done ++ map f (filter_map g (drop i xs))
+made_next f g xs i x done less e =
+    joined done (option_to_list (option_map f (g x))) (map f (filter_map g (drop (i + 1) xs)))
+    ∙ ap (λ ys. done ++ ys)
+    (sym (ap (λ ys. map f (filter_map g ys))
+    (rw add-one (drop-cons xs i x less) ∙ ap (λ y. y ∷ drop (i + 1) xs) (sym e))
+    ∙ filtered_split f (g x) (filter_map g (drop (i + 1) xs))))
+
+pub map_added : {A B : Type 0} (f : A → B) (xs : List A) (o : Option A)
+    → map f (xs ++ option_to_list o) ≡ map f xs ++ option_to_list (option_map f o)
+map_added f xs None = map_joined f xs []
+map_added f xs (Some x) = map_joined f xs (x ∷ [])

@@ -1,5 +1,5 @@
 //! Where levels change, all entries come anew.
-ghost use Rattle.std.specs.Prelude.{◌≡◌, ◌++◌, IfOk, IsTrue, map};
+ghost use Rattle.std.specs.Prelude.{◌≡◌, ◌++◌, IfOk, IsTrue, map, option_map, slice_get};
 ghost use Rattle.std.specs.List.{AllByRecursion};
 ghost use Rattle.of10_actions.specs.Ports.{AreRising};
 ghost use Rattle.level_map.specs.Placing.{placing};
@@ -16,7 +16,7 @@ use cv_io::{Duplicate, List, Memory};
 use grants::Grant;
 use level_map::{LevelMap, PlaceFault, Placed};
 use member_state::{MemberState, Planned};
-use member_table::Entry;
+use member_table::{Entry, Table};
 use policy_meaning::LeafEntry;
 
 /// Whether a rank finds its level between those of the others, which keep theirs.
@@ -46,16 +46,25 @@ pub(crate) fn keeps_levels(levels: &LevelMap, added: &Option<Entry>) -> Result<b
     fits_between(levels, entry.rank)
 }
 
+/// The number of the entry at a place of a table.
+fn number_at(table: &Table, place: usize) -> Option<u64>
+    ensures { result ≡ option_map (λ (e : EntryOf). e.serial) (slice_get table.now.table.entries place) }
+{
+    match table.at(place) {
+        Some(entry) => Some(entry.serial),
+        None => None,
+    }
+}
+
 /// The numbers of all entries, before and then.
 pub(crate) fn all_numbers(kept: &MemberState, planned: &Planned) -> Result<List<u64>, Memory>
     ensures { IfOk result (λ serials. serials
         ≡ touched_in planned.now ++ map (λ (e : EntryOf). e.serial) kept.now.state.table.entries) }
 {
     let mut serials = touched(planned)?;
-    for place in 0..kept.table().len() {
-        if let Some(entry) = kept.table().at(place) {
-            serials.push(entry.serial)?;
-        }
+    let table = kept.table();
+    for place in 0..table.len() {
+        serials.push_some(number_at(table, place))?;
     }
     Ok(serials)
 }

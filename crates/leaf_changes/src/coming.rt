@@ -1,12 +1,12 @@
 //! The entries that come or get other actions.
-ghost use Rattle.std.specs.Prelude.{◌≡◌, IfOk, IfSome, map, option_map};
+ghost use Rattle.std.specs.Prelude.{◌≡◌, IfOk, IfSome, filter_map, map, option_map};
+ghost use Rattle.std.specs.List.{AllByRecursion};
 ghost use Rattle.of10_actions.specs.Actions.{AreInRange};
 ghost use Rattle.of10_actions.specs.Ports.{AreRising};
-ghost use Rattle.member_table.specs.Changes.{CanCommit, IsInRange};
+ghost use Rattle.member_table.specs.Changes.{CanCommit, IsInRange, is_among};
 ghost use Rattle.member_table.specs.Tables.{with_actions as with_actions_of};
 ghost use Rattle.member_table.specs.declared.entry.Entry.{Entry as EntryOf};
 ghost use Rattle.member_state.specs.Leaves.{leaf_by};
-ghost use Rattle.member_state.specs.Plans.{IsReady};
 ghost use Rattle.member_state.specs.States.{held_table};
 ghost use Rattle.leaf_changes.specs.Touched.{changed_in, coming_in, goes as goes_in, staying};
 
@@ -18,12 +18,18 @@ use of10_actions::{Action, PortView};
 use policy_meaning::LeafEntry;
 use std::alloc::Global;
 
+/// Whether the entry of a number goes after another came.
+fn is_dropped(planned: &Planned, serial: u64) -> bool
+    ensures { result ≡ is_among planned.now.dropped serial }
+{
+    planned.dropped.as_slice().contains(&serial)
+}
+
 /// Whether the entry of a number goes, before another comes or afterwards.
 fn goes(planned: &Planned, serial: u64) -> bool
     ensures { result ≡ goes_in planned.now serial }
 {
-    planned.change.removed.as_slice().contains(&serial)
-        || planned.dropped.as_slice().contains(&serial)
+    planned.change.removed.as_slice().contains(&serial) || is_dropped(planned, serial)
 }
 
 /// An entry with other actions.
@@ -76,10 +82,30 @@ fn added(
     let Some(entry) = &planned.change.added else {
         return Ok(None);
     };
-    if planned.dropped.as_slice().contains(&entry.serial) {
+    if is_dropped(planned, entry.serial) {
         return Ok(None);
     }
     Ok(Some(leaf_entry(alloc, &planned.levels, member, ports, entry)?))
+}
+
+/// The entries that get other actions, as they are then.
+fn all_changed(
+    alloc: Global,
+    member: u32,
+    ports: &PortView,
+    kept: &MemberState,
+    planned: &Planned,
+) -> Result<List<LeafEntry>, Memory>
+    requires in_range { AllByRecursion IsInRange planned.now.change.modified }
+    requires rising { AreRising ports.now }
+    ensures { IfOk result (λ entries. entries ≡ map (leaf_by planned.now.levels member ports.now)
+        (filter_map (changed_in kept.now.state.table.entries planned.now) planned.now.change.modified)) }
+{
+    let mut entries = List::new(alloc);
+    for one in planned.change.modified.as_slice() {
+        entries.push_some(changed(alloc, member, ports, kept, planned, one)?)?;
+    }
+    Ok(entries)
 }
 
 /// The entries that come or get other actions, as they are then.
@@ -95,10 +121,7 @@ pub(crate) fn coming(
     ensures { IfOk result (λ entries. entries ≡ map (leaf_by planned.now.levels member ports.now)
         (coming_in kept.now.state.table.entries planned.now)) }
 {
-    let mut entries = List::new(alloc);
-    for one in planned.change.modified.as_slice() {
-        entries.push_some(changed(alloc, member, ports, kept, planned, one)?)?;
-    }
+    let mut entries = all_changed(alloc, member, ports, kept, planned)?;
     entries.push_some(added(alloc, member, ports, planned)?)?;
     Ok(entries)
 }

@@ -18,6 +18,7 @@ use crate::numbers::{leaves, touched};
 use cv_io::{List, Memory};
 use grants::Grant;
 use incr_compile::LeafDelta;
+use level_map::LevelMap;
 use member_state::{MemberState, Planned};
 use policy_meaning::LeafEntry;
 use std::alloc::Global;
@@ -39,14 +40,22 @@ fn told(
 {
     // The proof learns what is true of every state.
     let _ = kept.table();
-    if keeps_levels(kept.levels(), &planned.change.added)? {
-        let serials = touched(planned)?;
-        let entries = coming(alloc, member, &grant.ports, kept, planned)?;
-        return Ok((serials, entries));
+    let keeps = keeps_levels(kept.levels(), &planned.change.added)?;
+    if keeps {
+        let named = touched(planned)?;
+        let come = coming(alloc, member, &grant.ports, kept, planned)?;
+        return Ok((named, come));
     }
     let serials = all_numbers(kept, planned)?;
     let entries = all_entries(member, grant, kept, planned, now)?;
     Ok((serials, entries))
+}
+
+/// How many levels there are.
+fn size_of(levels: &LevelMap) -> u64
+    ensures { result ≡ levels.now.size }
+{
+    u64::from(levels.size())
 }
 
 /// How the rules of a member of this number, with this grant, at a virtual switch of these ports change with what is
@@ -73,11 +82,9 @@ pub fn leaf_delta(
     ensures normal { IfOk result (λ d. AllByRecursion (λ (r : RuleOf). IsNormal r.m) d.come) }
     ensures below { IfOk result (λ d. AllByRecursion (λ (r : RuleOf). r.level < kept.now.state.levels.size) d.come) }
 {
-    let (serials, entries) = told(alloc, member, grant, kept, planned, now)?;
-    let size = u64::from(planned.levels.size());
-    Ok(LeafDelta {
-        member,
-        gone: leaves(alloc, member, serials.as_slice())?,
-        come: entry_rules(alloc, member, grant, size, entries, ports)?,
-    })
+    let changed = told(alloc, member, grant, kept, planned, now)?;
+    let gone = leaves(alloc, member, changed.0.as_slice())?;
+    let size = size_of(&planned.levels);
+    let come = entry_rules(alloc, member, grant, size, changed.1, ports)?;
+    Ok(LeafDelta { member, gone, come })
 }

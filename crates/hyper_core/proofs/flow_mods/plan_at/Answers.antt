@@ -5,7 +5,7 @@ use Rattle.member_state.specs.Plans.{after_planned}
 use Rattle.hyper_core.specs.MemberDrafts.{MemberDraftOf, with_now}
 use Rattle.machine_meaning.specs.Removing.{with_kept}
 use Rattle.hyper_core.proofs.Changes.{after_message, bases_kept, get_there, moments_kept, now_changed}
-use Rattle.leaf_changes.proofs.Plans.{messages-are-plans}
+use Rattle.leaf_changes.proofs.PlansMade.{messages-are-plans}
 use Rattle.leaf_changes.specs.Plans.{IsPlanOf}
 use Rattle.member_table.specs.Sound.{IsSound}
 use Rattle.member_table.specs.Tables.{TableOf}

@@ -1,5 +1,5 @@
 -- What is planned is a plan whose changes can be told.
-use Rattle.std.proofs.Common.{◌≡◌, ◌∙◌, ℕ, ◌+◌, ◌-◌, ◌==◌, Bool, true, false, not, ◌&&◌, ◌||◌, nat_le, List, [], ◌∷◌, ◌++◌, map, filter, Option, Some, None, refl, sym, ap, subst, eq-eqb, true≢false}
+use Rattle.std.proofs.Common.{◌≡◌, ◌∙◌, ℕ, ◌+◌, ◌-◌, ◌==◌, Bool, true, false, not, ◌&&◌, ◌||◌, nat_le, List, [], ◌∷◌, ◌++◌, map, filter, Option, Some, None, refl, sym, ap, subst, eq-eqb, true≢false, Result, Ok, Err, OnOk, OnErr}
 use Rattle.std.specs.Prelude.{if◌then◌else◌, option_to_list}
 use Rattle.std.specs.List.{AllByRecursion, IsDistinct, list_any}
 use Rattle.std.proofs.lemmas.Bool.Decides.{Decides-eqb}
@@ -22,7 +22,7 @@ use Rattle.member_table.specs.declared.entry.Entry.{Entry}
 use Rattle.member_table.proofs.Keyed.{once_filter}
 use Rattle.member_table.proofs.Least.{and_true, any_weaker}
 use Rattle.member_state.specs.Changes.{accepted, levels_kept, levels_with}
-use Rattle.member_state.specs.InsideRanks.{drop_planned, removal_planned}
+use Rattle.member_state.specs.InsideRanks.{HasMoreRanks, drop_planned, rank_if_added, removal_planned}
 use Rattle.member_state.specs.Plans.{after_planned, planned_table, without_all}
 use Rattle.member_state.specs.States.{MemberStateOf}
 use Rattle.member_state.specs.declared.planned.Planned.{Planned}
@@ -148,3 +148,13 @@ drops-are-plans x p s ranks plan = record {
       ∙ (sym (ap (λ (t : TableOf). list_any (has_rank rank) t.entries)
       (dropped_more p.dropped s (committed x.table p.change))) ∙ t)));
 }
+
+pub drop-is-plan : {A B : Type 0} (answer : Result A B) (x : MemberStateOf) (old new : Planned) (s : ℕ) (rank : Option ℕ)
+    → OnOk answer (new ≡ drop_planned s rank old) → OnErr answer (HasMoreRanks old new) → IsPlanOf x old → IsPlanOf x new
+drop-is-plan (Ok a) x old new s rank made more plan =
+    subst (IsPlanOf x) (sym made)
+    (drops-are-plans x old s
+    (old.ranks ++ (option_to_list rank ++ option_to_list (rank_if_added s old.change.added))) plan)
+drop-is-plan (Err e) x old new s rank made more plan =
+    subst (IsPlanOf x) (sym more.is)
+    (record { named = plan.named; once = plan.once; size = plan.size; placed = plan.placed })
