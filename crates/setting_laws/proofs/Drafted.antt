@@ -2,7 +2,7 @@
 use Rattle.std.proofs.Common.{◌≡◌, ◌∙◌, ℕ, suc, ◌+◌, ◌<◌, ◌^◌, true, List, [], ◌∷◌, length, map, Option, Some, None}
 use Rattle.std.proofs.Common.{IfSome, arith, refl, sym, ap, subst}
 use Rattle.std.specs.Prelude.{slice_get}
-use Rattle.std.specs.List.{AllByRecursion, enumerate_from}
+use Rattle.std.specs.List.{enumerate_from}
 use Rattle.cv_io.specs.declared.leaf.Who.TheVariants.{Switch}
 use Rattle.events.specs.declared.event.Event.{Event}
 use Rattle.events.specs.declared.event.Event.TheVariants as events
@@ -16,14 +16,13 @@ use Rattle.waitings.specs.declared.state.Waiting.{Waiting}
 use Rattle.machine_meaning.specs.Acting.{act}
 use Rattle.machine_meaning.specs.Composing.{compose}
 use Rattle.machine_meaning.specs.Drafts.{Draft}
-use Rattle.machine_meaning.specs.Events.{IsEvent}
 use Rattle.machine_meaning.specs.Glances.{glance_of}
 use Rattle.machine_meaning.specs.Hearing.{heard}
 use Rattle.machine_meaning.specs.Phases.{draft_of, settled_of}
 use Rattle.machine_meaning.specs.Putting.{put_to_member}
 use Rattle.machine_meaning.specs.Rounds.{Closing, close}
 use Rattle.machine_meaning.specs.Sessions.{is_up}
-use Rattle.machine_meaning.specs.Sound.{AreSoundTables, IsSoundState, IsSoundWaiting, IsUpAsker}
+use Rattle.machine_meaning.specs.Sound.{IsSoundWaiting, IsUpAsker}
 use Rattle.machine_meaning.specs.States.{MemberOf, State}
 use Rattle.machine_meaning.proofs.KeptNumbers.{HasNext, composed_members, next_of, nexts, nexts_after}
 use Rattle.machine_meaning.proofs.KeptNumbers.{same_nexts, told_members}

@@ -16,7 +16,7 @@ use Rattle.policy_meaning.specs.declared.network.Link.{Link}
 use Rattle.policy_meaning.specs.declared.network.Place.{Place}
 use Rattle.policy_setting.specs.Networks.{is_of, link, outside_ports, place, virtual_switch}
 use Rattle.policy_setting.specs.Premises.{HaveNumbers}
-use Rattle.policy_setting.specs.Settings.{expr_at, holds_at, setting, switches}
+use Rattle.policy_setting.specs.Settings.{expr_at, holds_at, switches}
 use Rattle.policy_setting.proofs.Apart.{Faultless}
 use Rattle.policy_setting.proofs.Joints.{all_filtered}
 use Rattle.policy_setting.proofs.Linked.{way_is}

@@ -1,6 +1,6 @@
 -- Between two states members change one after the other.
 use Rattle.std.proofs.Common.{◌≡◌, ◌≢◌, ◌∙◌, ℕ, zero, suc, ◌+◌, List, [], ◌∷◌, ◌++◌, add-one, arith, drop, length, map}
-use Rattle.std.proofs.Common.{Option, Some, None, refl, sym, ap, subst, take}
+use Rattle.std.proofs.Common.{Option, Some, refl, sym, ap, subst, take}
 use Rattle.std.specs.Prelude.{slice_get, zip}
 use Rattle.std.specs.List.{enumerate_from}
 use Rattle.member_state.specs.Leaves.{leaf_of}
@@ -8,13 +8,13 @@ use Rattle.policy_file.specs.Policies.{PolicyOf}
 use Rattle.policy_file.specs.declared.policy.MemberItem.{MemberItem}
 use Rattle.policy_meaning.specs.declared.leaf.LeafTable.{LeafTable}
 use Rattle.machine_meaning.specs.Settings.{table_of, tables_with}
-use Rattle.machine_meaning.specs.Sound.{AreSoundTables, IsSoundMember}
+use Rattle.machine_meaning.specs.Sound.{IsSoundMember}
 use Rattle.machine_meaning.specs.States.{MemberOf, State}
 use Rattle.machine_meaning.proofs.Numbered.{behind, from_zero, here}
 use Rattle.setting_laws.specs.Members.{ChangesAt, MembersChange, RulesChange}
 use Rattle.setting_laws.specs.Mixed.{MixturesAreSound, MixturesChange, MixturesLead, MixturesStay, MixturesTurn, mixed}
 use Rattle.setting_laws.specs.Ready.{SettingsAreReady}
-use Rattle.setting_laws.specs.Staying.{LeavesStay, TablesStay, kept_of}
+use Rattle.setting_laws.specs.Staying.{kept_of}
 use Rattle.setting_laws.specs.Taking.{ChangesCanBeTaken}
 
 -- lists -------------------------------------------------------------------------------------------------------------

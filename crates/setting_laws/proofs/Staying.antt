@@ -5,11 +5,9 @@ use Rattle.std.specs.Prelude.{zip}
 use Rattle.std.specs.List.{enumerate_from}
 use Rattle.agreement.specs.Entries.{entries_of}
 use Rattle.agreement.specs.declared.state.Setting.{Setting}
-use Rattle.composed_tables.specs.Composing.{ComposedOf, IsOf}
-use Rattle.cv_io.specs.declared.leaf.Session.{Session}
+use Rattle.composed_tables.specs.Composing.{IsOf}
 use Rattle.cv_io.specs.declared.leaf.Who.{Who}
 use Rattle.cv_io.specs.declared.leaf.Who.TheVariants.{Audit, Member, Switch}
-use Rattle.events.specs.declared.event.Event.{Event}
 use Rattle.member_state.specs.Leaves.{leaf_of}
 use Rattle.member_state.specs.States.{MemberStateOf}
 use Rattle.outbox.specs.Outboxes.{taken}
@@ -29,9 +27,8 @@ use Rattle.machine_meaning.specs.Phases.{draft_of, settled_of}
 use Rattle.machine_meaning.specs.Putting.{put, put_to_member}
 use Rattle.machine_meaning.specs.Requests.{dispatch, dispatched, dispatched_if_up, poll, poll_at, polled, polled_if_up}
 use Rattle.machine_meaning.specs.Requests.{request_all}
-use Rattle.machine_meaning.specs.Rounds.{Closing}
 use Rattle.machine_meaning.specs.Sessions.{standing_of}
-use Rattle.machine_meaning.specs.Settings.{setting_of, setting_with, table_of, tables_with, ups_with}
+use Rattle.machine_meaning.specs.Settings.{setting_of, setting_with, table_of, ups_with}
 use Rattle.machine_meaning.specs.States.{MemberOf, State, SwitchOf}
 use Rattle.machine_meaning.specs.Takings.{left_by}
 use Rattle.machine_meaning.specs.Telling.{tell}

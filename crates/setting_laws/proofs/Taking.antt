@@ -1,7 +1,7 @@
 -- What is kept of a setting can take the change of a member's rules.
-use Rattle.std.proofs.Common.{◌≡◌, ◌∙◌, ℕ, zero, suc, ◌<◌, ◌==◌, ◌||◌, Bool, true, false, List, [], ◌∷◌, ◌++◌, length}
-use Rattle.std.proofs.Common.{Option, Some, None, arith, refl, sym, ap, ap₂, subst, eqb-true}
-use Rattle.std.specs.Prelude.{All, Contains, IsPermutation, filter, if◌then◌else◌, option_map, slice_get, slice_index_or}
+use Rattle.std.proofs.Common.{◌≡◌, ◌∙◌, ℕ, ◌<◌, ◌==◌, ◌||◌, Bool, true, false, List, [], ◌∷◌, ◌++◌, length}
+use Rattle.std.proofs.Common.{Some, arith, refl, sym, ap, ap₂, subst, eqb-true}
+use Rattle.std.specs.Prelude.{Contains, IsPermutation, filter, if◌then◌else◌, option_map, slice_get}
 use Rattle.std.specs.List.{AllByRecursion, enumerate_from}
 use Rattle.std.proofs.lemmas.List.Elements.{All-from_recursion}
 use Rattle.std.proofs.lemmas.List.FromFn.{length-enumerate_from}
@@ -23,7 +23,6 @@ use Rattle.op_compose.specs.declared.op.Op.TheVariants.{Hop, Over, Par, Seq}
 use Rattle.policy_expr.specs.Policy.{Policy, member, members_of}
 use Rattle.policy_file.specs.Policies.{PolicyOf, plan}
 use Rattle.policy_file.specs.Sound.{IsSound, IsSoundMember as IsSoundItem}
-use Rattle.policy_file.specs.declared.policy.MemberItem.{MemberItem}
 use Rattle.policy_meaning.specs.Best.{IsSound as IsSoundRule}
 use Rattle.policy_meaning.specs.Fitting.{IsFittingTable}
 use Rattle.policy_meaning.specs.LeafFact.{IsSoundTable}
@@ -41,7 +40,7 @@ use Rattle.policy_setting.specs.Settings.{expr_at, holds_at, numbered_switch}
 use Rattle.policy_setting.proofs.Parts.{all_first}
 use Rattle.policy_setting.proofs.Placing.{switch_at}
 use Rattle.virtual_topology.specs.declared.plan.VirtualItem.{VirtualItem}
-use Rattle.machine_meaning.specs.Settings.{setting_with, tables_with}
+use Rattle.machine_meaning.specs.Settings.{setting_with}
 use Rattle.machine_meaning.specs.Sound.{AreSoundTables}
 use Rattle.machine_meaning.specs.States.{State, SwitchOf}
 use Rattle.machine_meaning.proofs.Grants.{grant_sound, item_of}
