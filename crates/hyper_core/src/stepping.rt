@@ -150,7 +150,7 @@ fn taking_in(event: &Event) -> Option<Session>
 }
 
 /// One step.
-#[tactic(auto, using(crate::proofs::Stepped::step_glanced, crate::proofs::Stepped::step_taking, crate::proofs::Stepped::step_other, crate::proofs::Stepped::has_all_taken, crate::proofs::Stepped::settled_taken, crate::proofs::Whole::whole_event, crate::proofs::KeptOn::kept_glanced, crate::proofs::KeptOn::kept_taken))]
+#[tactic(auto, using(crate::proofs::Stepped::step_glanced, crate::proofs::Stepped::step_taking, crate::proofs::Stepped::step_other, crate::proofs::Stepped::has_all_taken, crate::proofs::Stepped::settled_taken, crate::proofs::Whole::whole_event))]
 pub(crate) fn step(
     setup: &Setup,
     held: &mut Held,
