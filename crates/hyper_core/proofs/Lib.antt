@@ -56,6 +56,7 @@ pub mod Kept
 pub mod SameWanted
 pub mod ToldChanges
 pub mod Wanted
+pub mod Ported
 pub mod Turning
 pub mod Serials
 pub mod Sourced
