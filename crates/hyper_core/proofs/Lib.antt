@@ -57,7 +57,7 @@ pub mod SameWanted
 pub mod ToldChanges
 pub mod Wanted
 pub mod Ported
-pub mod Turning
+pub mod OneTurn
 pub mod Serials
 pub mod Sourced
 pub mod Following

@@ -6,7 +6,7 @@ use Rattle.machine_meaning.specs.States.{SwitchOf}
 use Rattle.hyper_core.specs.Outcomes.{switches_in}
 use Rattle.hyper_core.specs.SwitchDrafts.{SwitchDraftOf}
 use Rattle.hyper_core.specs.Turning.{mixed_at}
-use Rattle.hyper_core.proofs.Turning.{kept_first, kept_last}
+use Rattle.hyper_core.proofs.OneTurn.{kept_first, kept_last}
 use Rattle.hyper_core.proofs.turning.turn.Goals as goal
 
 pub loop-n-init : goal.loop-n-init

@@ -5,7 +5,7 @@ use Rattle.machine_meaning.proofs.Grants.{grant_sound, item_of}
 use Rattle.incr_compile.specs.declared.compiled.LeafDelta.{LeafDelta}
 use Rattle.hyper_core.specs.MemberDrafts.{IsLeafDelta}
 use Rattle.hyper_core.specs.Turning.{AreTold}
-use Rattle.hyper_core.proofs.Turning.{can_turn, item_at, items_long, kept_unplanned, told_more}
+use Rattle.hyper_core.proofs.OneTurn.{can_turn, item_at, items_long, kept_unplanned, told_more}
 use Rattle.hyper_core.proofs.turning.turn_member.Goals as goal
 
 pub bounds-items-n : goal.bounds-items-n
