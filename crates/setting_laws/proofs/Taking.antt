@@ -146,7 +146,7 @@ module _ (p : PolicyOf) (h : IsSound p) (s t : State) (sound : AreSoundTables p 
     Comes delta = (x : VirtualOf) → slice_get before.network.switches v ≡ Some x → ComesFrom (ports_of x) table delta
 
     -- the virtual switch of the member
-    item : VirtualItem
+    abbrev item : VirtualItem
     item = (item_of p h i c.item c.there).item
 
     abbrev x : VirtualOf
