@@ -1,15 +1,15 @@
 -- What stays and what comes of the entries of a table that changes.
 use Rattle.std.proofs.Common.{◌≡◌, ◌∙◌, ℕ, ◌==◌, Bool, true, false, not, ◌&&◌, ◌||◌, List, [], ◌∷◌, ◌++◌, map, filter, find, Option, Some, None, option_map, refl, sym, ap, ap₂, subst, eq-eqb, eqb-true, true≢false}
 use Rattle.std.specs.Prelude.{IsPermutation, filter_map, if◌then◌else◌, option_to_list}
-use Rattle.std.specs.List.{AllByRecursion, IsDistinct, cons_option, list_any}
-use Rattle.std.proofs.lemmas.List.Sorted.{IsPermutation-append, IsPermutation-append_comm, IsPermutation-append_right, IsPermutation-cons}
+use Rattle.std.specs.List.{AllByRecursion, IsDistinct, cons_option}
+use Rattle.std.proofs.lemmas.List.Sorted.{IsPermutation-append_comm, IsPermutation-append_right, IsPermutation-cons}
 use Rattle.std.proofs.lemmas.List.Sorted.{IsPermutation-middle, IsPermutation-refl, IsPermutation-sym, IsPermutation-trans}
 use Rattle.member_table.specs.Changes.{changed_by, is_among, is_number, replaced, stays, with_added}
 use Rattle.member_table.specs.Entries.{has_serial, identity_of, is_at, put, same_identity}
 use Rattle.member_table.specs.Tables.{with_actions}
 use Rattle.member_table.specs.declared.change.Modified.{Modified}
 use Rattle.member_table.specs.declared.entry.Entry.{Entry}
-use Rattle.leaf_changes.proofs.Lists.{all_among, all_passing, by-equation, filter_mapped, filter_no, filter_yes, joined, left_out}
+use Rattle.leaf_changes.proofs.Lists.{all_among, all_passing, by-equation, filter_mapped, filter_no, filter_yes, left_out}
 use Rattle.leaf_changes.proofs.Lists.{map_unchanged, to_front, weaker}
 
 -- tests -------------------------------------------------------------------------------------------------------------
@@ -157,9 +157,9 @@ module _ (removed : List ℕ) (mods : List Modified) (new : Entry) where
           → IsPut place (x ∷ es)
       taken t a g =
           let stay : stays removed place x ≡ true
-              = ap (λ o. is_left removed x || is_number o x.serial) g
-              ∙ (ap (λ b. is_left removed x || b) (eq-eqb x.serial x.serial refl)
-              ∙ or_true_right (is_left removed x)) in
+          = ap (λ o. is_left removed x || is_number o x.serial) g
+          ∙ (ap (λ b. is_left removed x || b) (eq-eqb x.serial x.serial refl)
+          ∙ or_true_right (is_left removed x)) in
           let gone : is_left removed x ≡ false = ap not (named x.serial g) in
           record {
             front = [];

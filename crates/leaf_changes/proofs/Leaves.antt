@@ -1,15 +1,14 @@
 -- The rules of a table that differs from another in some entries alone.
 use Rattle.std.proofs.Common.{◌≡◌, ◌∙◌, ℕ, ◌+◌, ◌==◌, Bool, true, false, not, ◌&&◌, ◌||◌, List, [], ◌∷◌, ◌++◌}
-use Rattle.std.proofs.Common.{map, filter, Option, Some, None, arith, refl, sym, ap, subst, eqb-true, eq-eqb}
-use Rattle.std.specs.Prelude.{IsPermutation, if◌then◌else◌, option_map}
-use Rattle.std.specs.List.{AllByRecursion, cons_option, list_any}
+use Rattle.std.proofs.Common.{map, filter, arith, refl, sym, ap, subst, eqb-true, eq-eqb}
+use Rattle.std.specs.Prelude.{IsPermutation, if◌then◌else◌}
+use Rattle.std.specs.List.{list_any}
 use Rattle.std.proofs.lemmas.Bool.{ne_eqb}
 use Rattle.std.proofs.lemmas.List.Sorted.{IsPermutation-append_right, IsPermutation-refl, IsPermutation-trans}
 use Rattle.cv_io.specs.declared.leaf.Leaf.{Leaf}
 use Rattle.incr_compile.specs.Compiling.{is_apart_from, rules_after, same_leaf}
 use Rattle.member_table.specs.Changes.{is_among}
 use Rattle.of10_match.specs.Fields.{MatchOf}
-use Rattle.of10_match.specs.Matching.{meet}
 use Rattle.policy_meaning.specs.LeafRules.{cells, entry_rule, has_outside, in_cells, leaf_rules, miss_rule, outside_rule}
 use Rattle.policy_meaning.specs.declared.leaf.LeafEntry.{LeafEntry}
 use Rattle.policy_meaning.specs.declared.leaf.LeafTable.{LeafTable}

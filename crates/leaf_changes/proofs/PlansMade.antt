@@ -1,7 +1,7 @@
 -- What is planned is a plan whose changes can be told.
-use Rattle.std.proofs.Common.{◌≡◌, ◌∙◌, ℕ, ◌+◌, ◌-◌, ◌==◌, Bool, true, false, not, ◌&&◌, ◌||◌, nat_le, List, [], ◌∷◌, ◌++◌, map, filter, Option, Some, None, refl, sym, ap, subst, eq-eqb, true≢false, Result, Ok, Err, OnOk, OnErr}
+use Rattle.std.proofs.Common.{◌≡◌, ◌∙◌, ℕ, ◌-◌, ◌==◌, Bool, true, false, not, ◌&&◌, ◌||◌, nat_le, List, [], ◌∷◌, ◌++◌, map, Option, Some, None, refl, sym, ap, subst, eq-eqb, Result, Ok, Err, OnOk, OnErr}
 use Rattle.std.specs.Prelude.{if◌then◌else◌, option_to_list}
-use Rattle.std.specs.List.{AllByRecursion, IsDistinct, list_any}
+use Rattle.std.specs.List.{IsDistinct, list_any}
 use Rattle.std.proofs.lemmas.Bool.Decides.{Decides-eqb}
 use Rattle.of10_actions.specs.declared.action.Action.{Action}
 use Rattle.of10_msgs.specs.Commands.{command_at}
@@ -21,9 +21,9 @@ use Rattle.member_table.specs.declared.change.Modified.{Modified}
 use Rattle.member_table.specs.declared.entry.Entry.{Entry}
 use Rattle.member_table.proofs.Keyed.{once_filter}
 use Rattle.member_table.proofs.Least.{and_true, any_weaker}
-use Rattle.member_state.specs.Changes.{accepted, levels_kept, levels_with}
+use Rattle.member_state.specs.Changes.{levels_kept, levels_with}
 use Rattle.member_state.specs.InsideRanks.{HasMoreRanks, drop_planned, rank_if_added, removal_planned}
-use Rattle.member_state.specs.Plans.{after_planned, planned_table, without_all}
+use Rattle.member_state.specs.Plans.{planned_table}
 use Rattle.member_state.specs.States.{MemberStateOf}
 use Rattle.member_state.specs.declared.planned.Planned.{Planned}
 use Rattle.member_state.proofs.Levels.{level_kept}
@@ -114,7 +114,7 @@ level_stays es l rank t =
 pub messages-are-plans : MessagesArePlans
 messages-are-plans x m p now sound change made =
     let naming : IsNaming x.table.entries p.change
-        = subst (IsNaming x.table.entries) (sym change) (change_names x.table m now sound) in
+    = subst (IsNaming x.table.entries) (sym change) (change_names x.table m now sound) in
     let placed : Levels = levels_with (change_of x.table m now).added x.levels in
     record {
       named = naming.named;
@@ -122,8 +122,8 @@ messages-are-plans x m p now sound change made =
       size = ap (λ (y : MemberStateOf). y.levels.size) made ∙ with_size (change_of x.table m now).added x.levels;
       placed = λ rank t.
           let there : list_any (has_rank rank) (after x.table m now).entries ≡ true
-              = sym (ap (λ (y : MemberStateOf). list_any (has_rank rank) y.table.entries) made)
-              ∙ (has_touched p.touched now rank (planned_table x.table p).entries ∙ t) in
+          = sym (ap (λ (y : MemberStateOf). list_any (has_rank rank) y.table.entries) made)
+          ∙ (has_touched p.touched now rank (planned_table x.table p).entries ∙ t) in
           sym (level_stays (planned_table x.table p).entries p.levels rank t)
           ∙ (ap (λ (y : MemberStateOf). level_of y.levels rank) made
           ∙ (level_stays (after x.table m now).entries placed rank there

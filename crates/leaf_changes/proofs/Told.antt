@@ -1,5 +1,5 @@
 -- What is told of a member's table that changes with what is planned.
-use Rattle.std.proofs.Common.{◌≡◌, ◌∙◌, ℕ, ◌+◌, ◌<◌, ◌≤◌, ◌^◌, ◌==◌, Bool, true, false, not, ◌||◌, List, [], ◌∷◌, ◌++◌, map, filter, find, Option, Some, None, IfSome, is_some, option_map, arith, refl, sym, ap, subst, eq-eqb, eqb-true, true≢false}
+use Rattle.std.proofs.Common.{◌≡◌, ◌∙◌, ℕ, ◌+◌, ◌<◌, ◌≤◌, ◌^◌, ◌==◌, Bool, true, false, not, ◌||◌, List, [], ◌∷◌, ◌++◌, map, filter, find, Option, Some, None, IfSome, option_map, arith, refl, sym, ap, subst, eq-eqb, eqb-true, true≢false}
 use Rattle.std.specs.Prelude.{IsPermutation, filter_map, if◌then◌else◌, option_to_list}
 use Rattle.std.specs.List.{AllByRecursion, list_any}
 use Rattle.std.proofs.lemmas.Bool.{lt-ltb, ne_eqb}
@@ -9,7 +9,7 @@ use Rattle.of10_match.specs.Normal.{IsNormal}
 use Rattle.of10_actions.specs.Effects.{effects_of}
 use Rattle.of10_actions.specs.declared.effects.PortView.{PortView}
 use Rattle.grants.specs.declared.grant.Grant.{Grant}
-use Rattle.level_map.specs.Levels.{FollowsRanks, IsLevelling, Levels, level_of}
+use Rattle.level_map.specs.Levels.{IsLevelling, Levels, level_of}
 use Rattle.level_map.proofs.Properties.{follows}
 use Rattle.member_table.specs.Changes.{CanAdd, is_among}
 use Rattle.member_table.specs.Entries.{has_serial}
@@ -115,8 +115,11 @@ all_fitting l i view k es good =
 pub state_good : (h : HeldState) → IsSoundState h.state → AllByRecursion IsGood h.state.table.entries
 state_good h sound =
     weaker (λ (e : Entry). IsAsWritten e × ((0 < e.serial) × (e.serial < h.state.table.next))) IsGood
-    (λ e both. (both.0.normal, (let less : e.serial < h.state.table.next = both.1.1 in
-    let fits : h.state.table.next + 1 < 2 ^ 64 = sound.table.fits in omega arith)))
+    (λ e both. (
+      both.0.normal,
+      (let less : e.serial < h.state.table.next = both.1.1 in
+          let fits : h.state.table.next + 1 < 2 ^ 64 = sound.table.fits in omega arith),
+    ))
     h.state.table.entries
     (all-zip IsAsWritten (λ (e : Entry). (0 < e.serial) × (e.serial < h.state.table.next)) h.state.table.entries
     sound.table.written sound.table.given)
@@ -194,8 +197,8 @@ module _ (i : ℕ) (g : Grant) (h : HeldState) (p : Planned) (now : ℕ) (sound 
       let q : ℕ → Bool = λ k. is_among (filter has_kind serials) k in
       let with_size : ℕ → LeafTable = λ size. record before { size = size } in
       let others_there : filter (λ (e : Entry). not (q e.serial)) there ≡ filter (λ (e : Entry). not (q e.serial)) es
-          = apart_same p.change.removed p.dropped p.change.modified p.change.added q es sound.table.once plan.named
-          n.comes n.covers in
+      = apart_same p.change.removed p.dropped p.change.modified p.change.added q es sound.table.once plan.named
+      n.comes n.covers in
       record {
         rest = ap with_size (sym plan.size);
         others = filter_mapped (leaf_by h.state.levels i g.ports) (λ (e : LeafEntry). not (q e.serial)) es
@@ -283,9 +286,9 @@ module _ (i : ℕ) (g : Grant) (h : HeldState) (p : Planned) (now : ℕ) (sound 
     touched_levels =
         let test : Entry → Bool = λ e. not (is_among (filter has_kind (touched_in p)) e.serial) in
         let same : filter test there ≡ filter test es
-            = apart_same p.change.removed p.dropped p.change.modified p.change.added
-            (λ k. is_among (filter has_kind (touched_in p)) k) es sound.table.once plan.named touched_comes
-            touched_covers in
+        = apart_same p.change.removed p.dropped p.change.modified p.change.added
+        (λ k. is_among (filter has_kind (touched_in p)) k) es sound.table.once plan.named touched_comes
+        touched_covers in
         weaker (λ (e : Entry). (list_any (has_rank e.rank) es ≡ true) × (list_any (has_rank e.rank) there ≡ true))
         (λ e. level_of h.state.levels e.rank ≡ level_of p.levels e.rank)
         (λ e both. sym (keeps e.rank (sound.kept.ranks e.rank ∙ both.0)) ∙ sym (plan.placed e.rank both.1))

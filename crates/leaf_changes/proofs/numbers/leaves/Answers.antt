@@ -1,5 +1,4 @@
-use Rattle.std.proofs.Common.{◌≡◌, ◌<◌, ◌+◌, ◌∙◌, ◌∷◌, [], ◌++◌, List, ℕ, ap, sym, drop, filter, get_or, length, map, arith}
-use Rattle.std.specs.Prelude.{option_to_list}
+use Rattle.std.proofs.Common.{◌<◌, ◌+◌, ◌∙◌, ◌∷◌, [], ◌++◌, List, ℕ, ap, sym, drop, filter, get_or, length, map, arith}
 use Rattle.cv_io.specs.declared.leaf.Leaf.{Leaf}
 use Rattle.member_state.proofs.Lists.{drop_next}
 use Rattle.leaf_changes.specs.Leaves.{leaf_at}
