@@ -77,70 +77,70 @@ module _ (ready : SettingsAreReady) (p : PolicyOf) (policy : IsSound p) (o : Out
     (serials : HaveSerials (members_in o.members)) (now : IsComposedOf p (state_in o) d)
     (told : AreTold o.next_cookie c.tables d.tables turned)
     (tables : AreTables c.tables) (tables_now : AreTables d.tables)
-    where
-  abbrev s : Setting
-  s = setting_of p (stood_in o)
+  where
+    abbrev s : Setting
+    s = setting_of p (stood_in o)
 
-  abbrev t : Setting
-  t = setting_of p (state_in o)
+    abbrev t : Setting
+    t = setting_of p (state_in o)
 
-  good : IsGood s
-  good = (ready p policy (stood_in o) kept.before).good
+    good : IsGood s
+    good = (ready p policy (stood_in o) kept.before).good
 
-  good_now : IsGood t
-  good_now = (ready p policy (state_in o) (kept.after serials)).good
+    good_now : IsGood t
+    good_now = (ready p policy (state_in o) (kept.after serials)).good
 
-  -- there is a table for each switch, as it was and as it is
-  many : (n : ℕ) (x : SwitchDraftOf) → slice_get o.switches n ≡ Some x → n < length d.tables
-  many n x at =
-      let less = slice_get_within o.switches n x at in
-      let long = length-map o.switches (λ (x : SwitchDraftOf). x.base) in
-      let all = kept.all in
-      let count = now.of.count in
-      let physical = long_physical (ups_with (state_in o).switches) p.switches in
-      omega (arith, less, long, all, count, physical)
+    -- there is a table for each switch, as it was and as it is
+    many : (n : ℕ) (x : SwitchDraftOf) → slice_get o.switches n ≡ Some x → n < length d.tables
+    many n x at =
+        let less = slice_get_within o.switches n x at in
+        let long = length-map o.switches (λ (x : SwitchDraftOf). x.base) in
+        let all = kept.all in
+        let count = now.of.count in
+        let physical = long_physical (ups_with (state_in o).switches) p.switches in
+        omega (arith, less, long, all, count, physical)
 
-  many_then : (n : ℕ) (x : SwitchDraftOf) → slice_get o.switches n ≡ Some x → n < length c.tables
-  many_then n x at =
-      let less = slice_get_within o.switches n x at in
-      let long = length-map o.switches (λ (x : SwitchDraftOf). x.base) in
-      let all = kept.all in
-      let count = kept.of.of.count in
-      let physical = long_physical (ups_with (stood_in o).switches) p.switches in
-      omega (arith, less, long, all, count, physical)
+    many_then : (n : ℕ) (x : SwitchDraftOf) → slice_get o.switches n ≡ Some x → n < length c.tables
+    many_then n x at =
+        let less = slice_get_within o.switches n x at in
+        let long = length-map o.switches (λ (x : SwitchDraftOf). x.base) in
+        let all = kept.all in
+        let count = kept.of.of.count in
+        let physical = long_physical (ups_with (stood_in o).switches) p.switches in
+        omega (arith, less, long, all, count, physical)
 
-  -- what was told of a switch, from what stood there
-  told_for : (n : ℕ) (stood : List Written) → slice_get (ups_with (stood_in o).switches) n ≡ Some true
-      → slice_get (stood_in o).standing n ≡ Some stood → n < length c.tables → n < length d.tables → (turned : Turned)
-      → AreTold o.next_cookie c.tables d.tables turned → IsToldFor turned n stood (installed (entries_of t n))
-  told_for n stood up at lt lt_now Nothing same =
-      let y = is_there d.tables n lt_now in
-      let was : slice_get c.tables n ≡ Some y.item =
-      ap (λ (xs : List SwitchTableOf). slice_get xs n) (sym same) ∙ y.at in
-      still_settled (entries_of s n) (entries_of t n) (good-no-twins s good n) (good-no-twins t good_now n) y.item
-      (kept.of.of.tables n y.item was) (now.of.tables n y.item y.at) (tables_now n y.item y.at) stood
-      (settled n stood up at)
-  told_for n stood up at lt lt_now (Once batches) batched =
-      λ b got.
-          let x = is_there c.tables n lt in
-          let y = is_there d.tables n lt_now in
-          is_told (entries_of s n) (entries_of t n) (good-no-twins s good n) (good-no-twins t good_now n) x.item y.item
-          (kept.of.of.tables n x.item x.at) (now.of.tables n y.item y.at) (tables n x.item x.at)
-          (tables_now n y.item y.at) _ b.batch (batched n x.item y.item b x.at y.at got) stood (kept.given n stood up at)
-  told_for n stood up at lt lt_now Often told = tt
+    -- what was told of a switch, from what stood there
+    told_for : (n : ℕ) (stood : List Written) → slice_get (ups_with (stood_in o).switches) n ≡ Some true
+        → slice_get (stood_in o).standing n ≡ Some stood → n < length c.tables → n < length d.tables → (turned : Turned)
+        → AreTold o.next_cookie c.tables d.tables turned → IsToldFor turned n stood (installed (entries_of t n))
+    told_for n stood up at lt lt_now Nothing same =
+        let y = is_there d.tables n lt_now in
+        let was : slice_get c.tables n ≡ Some y.item =
+        ap (λ (xs : List SwitchTableOf). slice_get xs n) (sym same) ∙ y.at in
+        still_settled (entries_of s n) (entries_of t n) (good-no-twins s good n) (good-no-twins t good_now n) y.item
+        (kept.of.of.tables n y.item was) (now.of.tables n y.item y.at) (tables_now n y.item y.at) stood
+        (settled n stood up at)
+    told_for n stood up at lt lt_now (Once batches) batched =
+        λ b got.
+        let x = is_there c.tables n lt in
+        let y = is_there d.tables n lt_now in
+        is_told (entries_of s n) (entries_of t n) (good-no-twins s good n) (good-no-twins t good_now n) x.item y.item
+        (kept.of.of.tables n x.item x.at) (now.of.tables n y.item y.at) (tables n x.item x.at)
+        (tables_now n y.item y.at) _ b.batch (batched n x.item y.item b x.at y.at got) stood (kept.given n stood up at)
+    told_for n stood up at lt lt_now Often told = tt
 
-  pub wanted_by : (n : ℕ) (x : SwitchDraftOf) → slice_get o.switches n ≡ Some x → IsWantedBy t n d turned x
-  wanted_by n x at = record {
-    good = good_now;
-    of = now.of;
-    told = λ up same.
-        subst (λ (ws : List Written). IsToldFor turned n ws (installed (entries_of t n))) (sym same.standing)
-        (told_for n x.base.standing
-        (slice_get-map (λ (y : SwitchOf). y.outbox.up) (stood_in o).switches n
-        ∙ (ap (option_map (λ (y : SwitchOf). y.outbox.up)) (seen_base switch_of o.switches n x at)
-        ∙ ap (λ (u : Bool). Some u) (sym same.up ∙ up)))
-        (seen_base standing_of o.switches n x at) (many_then n x at) (many n x at) turned told);
-  }
+    pub wanted_by : (n : ℕ) (x : SwitchDraftOf) → slice_get o.switches n ≡ Some x → IsWantedBy t n d turned x
+    wanted_by n x at = record {
+      good = good_now;
+      of = now.of;
+      told = λ up same.
+          subst (λ (ws : List Written). IsToldFor turned n ws (installed (entries_of t n))) (sym same.standing)
+          (told_for n x.base.standing
+          (slice_get-map (λ (y : SwitchOf). y.outbox.up) (stood_in o).switches n
+          ∙ (ap (option_map (λ (y : SwitchOf). y.outbox.up)) (seen_base switch_of o.switches n x at)
+          ∙ ap (λ (u : Bool). Some u) (sym same.up ∙ up)))
+          (seen_base standing_of o.switches n x at) (many_then n x at) (many n x at) turned told);
+    }
 
 -- so many switches can be asked for
 pub can_give : (p : PolicyOf) (o : Outcome) (c d : ComposedOf) → IsKeptBy p (bases o) (state_in o) c

@@ -106,8 +106,7 @@ held_copied p q h new k same is i =
     let state = ap state_held is in
     subst
     (λ (z : PolicyOf). HasAll z new × (IsSettledState z (state_in_held new) × IsKept z (state_in_held new) None))
-    (sym same)
-    (
+    (sym same) (
       has_all_kept p h new i.0 state,
       (
         subst (IsSettledState p) (sym state) i.1.0,
