@@ -52,3 +52,13 @@ pub mod Present
 pub mod Recomposed
 pub mod StaysSettled
 pub mod Unneeded
+pub mod Kept
+pub mod SameWanted
+pub mod ToldChanges
+pub mod Wanted
+pub mod Ported
+pub mod OneTurn
+pub mod Serials
+pub mod Sourced
+pub mod Following
+pub mod KeptOn

@@ -1,15 +1,16 @@
 //! An event is drafted: it goes through its phases, anew where sessions are put more than they may be.
-ghost use Rattle.std.specs.Prelude.{◌≡◌, IfOk, OnOk};
+ghost use Rattle.std.specs.Prelude.{◌≡◌, IfOk, IfSome, OnOk};
 ghost use Rattle.hyper_core.specs.Acts.{IsJudgedFor};
 ghost use Rattle.hyper_core.specs.Closings.{closing_of};
 ghost use Rattle.hyper_core.specs.Drafting.{IsDraftOf, IsPutOf};
+ghost use Rattle.hyper_core.specs.Kept.{IsBegun, IsComposedOf};
 ghost use Rattle.hyper_core.specs.Machines.{bases_of, state_in_held};
 ghost use Rattle.hyper_core.specs.Moments.{moment_of as moment_of_event};
 ghost use Rattle.hyper_core.specs.Outcomes.{bases, draft_in};
 ghost use Rattle.hyper_core.specs.Overtaking.{IsHeardOf, IsWhole};
 ghost use Rattle.hyper_core.specs.Puts.{HaveNumbers};
 ghost use Rattle.hyper_core.specs.Settled.{IsSettledState};
-ghost use Rattle.machine_meaning.specs.Phases.{draft_of, drafted as drafted_of};
+ghost use Rattle.machine_meaning.specs.Phases.{draft_of, drafted as drafted_of, settled_of, slow as slow_of};
 ghost use Rattle.machine_meaning.specs.Rounds.{close as close_of};
 
 use crate::acting::{act, judge_event};
@@ -68,10 +69,13 @@ fn draft<'a>(
     requires judged { IsJudgedFor setup.now held.now event.now judged }
     requires heard { IsHeardOf event.now heard.now (state_in_held held.now) }
     requires settled { IsSettledState setup.now (state_in_held held.now) }
+    requires kept { IfSome composed.old (IsBegun setup.now (state_in_held held.now) event.now) }
     ensures draft { IfOk result (λ o.
         draft_in o ≡ draft_of setup.now (state_in_held held.now) event.now (closing_of closing.now)) }
     ensures bases { IfOk result (λ o.
         bases o ≡ bases_of (moment_of_event event.now held.now.moment) held.now) }
+    ensures kept { OnOk result (IfSome composed.new (IsComposedOf setup.now
+        (settled_of setup.now (state_in_held held.now) event.now (closing_of closing.now)).state)) }
 {
     let alloc = setup.alloc();
     let now = moment_of(event, held.moment);
@@ -99,8 +103,11 @@ fn attempt(
     requires whole { IsWhole event.now }
     requires heard { IsHeardOf event.now heard.now (state_in_held held.old) }
     requires settled { IsSettledState setup.now (state_in_held held.old) }
+    requires kept { IfSome composed.old (IsBegun setup.now (state_in_held held.old) event.now) }
     ensures put { IfOk result (IsPutOf setup.now held.new event.now (closing_of closing.now) last) }
     ensures state { state_in_held held.new ≡ state_in_held held.old }
+    ensures kept { OnOk result (IfSome composed.new (IsComposedOf setup.now
+        (settled_of setup.now (state_in_held held.old) event.now (closing_of closing.now)).state)) }
 {
     let judged = judge_event(setup, held, event)?;
     let drafted = draft(setup, held, event, judged, heard, closing, composed)?;
@@ -119,9 +126,12 @@ pub(crate) fn draft_event(
     requires whole { IsWhole event.now }
     requires heard { IsHeardOf event.now heard.now (state_in_held held.old) }
     requires settled { IsSettledState setup.now (state_in_held held.old) }
+    requires kept { IfSome composed.old (IsBegun setup.now (state_in_held held.old) event.now) }
     ensures draft { IfOk result (IsDraftOf held.new event.now
         (drafted_of setup.now (state_in_held held.old) event.now) setup.now) }
     ensures state { state_in_held held.new ≡ state_in_held held.old }
+    ensures kept { OnOk result (IfSome composed.new (IsComposedOf setup.now (settled_of setup.now
+        (state_in_held held.old) event.now (slow_of setup.now (state_in_held held.old) event.now)).state)) }
 {
     let mut closing = Closing::nobody(setup.alloc());
     let mut left = held.switches.len() + held.members.len();

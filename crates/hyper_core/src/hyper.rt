@@ -39,6 +39,7 @@ pub struct Hyper {
 
 impl Model for Hyper {
     ghost use Rattle.hyper_core.specs.Machines.{HasAll, MachineOf, holding_of, state_in_held};
+    ghost use Rattle.hyper_core.specs.Kept.{IsKept};
     ghost use Rattle.hyper_core.specs.Settled.{IsSettledState};
 
     ghost Value = { MachineOf };
@@ -50,8 +51,10 @@ impl Model for Hyper {
 
     ghost view = { λ a. record { plan = a.setup; holding = holding_of a.held } };
 
-    // There is a member for each of the policy's, and a switch. What stands on switches is what the setting gives.
-    ghost invariant = { λ a. HasAll a.setup a.held × IsSettledState a.setup (state_in_held a.held) };
+    // There is a member for each of the policy's, and a switch. What stands on switches is what the setting gives. The
+    // state is sound as long as numbers are left, and the composed part that is kept is that of its setting.
+    ghost invariant = { λ a. HasAll a.setup a.held
+        × (IsSettledState a.setup (state_in_held a.held) × IsKept a.setup (state_in_held a.held) a.composed) };
 }
 
 impl Hyper {

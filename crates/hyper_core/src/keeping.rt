@@ -1,98 +1,33 @@
 //! The composed part is kept beside what the machine holds, under changes of members' tables.
-use crate::composing::{begins, count_all, write};
+ghost use Rattle.std.specs.Prelude.{◌≡◌, IfOk, IfSome, IsTrue, OnOk};
+ghost use Rattle.hyper_core.specs.Kept.{AreTables, DraftsHaveSerials, HasSerial, IsComposedOf, IsKept};
+ghost use Rattle.hyper_core.specs.Kept.{IsKeptBy, IsSoundWhile, StandingHaveSerials};
+ghost use Rattle.hyper_core.specs.Machines.{state_in_held};
+ghost use Rattle.hyper_core.specs.Outcomes.{bases, draft_in};
+ghost use Rattle.hyper_core.specs.Settled.{WasSettled};
+ghost use Rattle.hyper_core.specs.Views.{member_of};
+ghost use Rattle.machine_meaning.specs.Composing.{compose as compose_of};
+ghost use Rattle.machine_meaning.specs.Sound.{HasNumbers, IsSoundState};
+
+use crate::composing::compose_from;
 use crate::held::Held;
 use crate::outcome::Outcome;
-use crate::settings::ups;
+use crate::session::Member;
 use crate::setup::Setup;
-use crate::turning::{Turned, turn};
+use crate::sources::Source;
+use crate::turning::turn;
 use crate::views::present;
 use composed_tables::Composed;
-use cv_io::{Duplicate, List, Memory, Steps};
-use install_plan::Written;
-use std::alloc::Global;
+use cv_io::{Memory, Steps};
+use setting_laws::laws::settings_are_ready;
 use std::marker::Brand;
 use std::sync::ledger::{Blank, Ledger};
-use switch_meaning::PhysEntry;
-use told_batches::{Change, change_between, change_told};
 
-/// The entries that are to stand on a switch.
-fn wanted(alloc: Global, composed: &Composed, n: usize) -> Result<List<PhysEntry>, Memory> {
-    let standing = composed.standing(n)?;
-    let mut entries = List::with_capacity(alloc, standing.len())?;
-    for written in standing.into_vec() {
-        entries.push(written.entry)?;
-    }
-    Ok(entries)
-}
-
-/// The change of a switch: all of it where its round begins or several members' rules changed, else what is told.
-fn change(
-    alloc: Global,
-    composed: &Composed,
-    turned: &Turned,
-    begins: bool,
-    n: usize,
-    next: u64,
-    standing: &[Written],
-) -> Result<Option<Change>, Memory> {
-    if begins || turned.changes > 1 {
-        let wanted = wanted(alloc, composed, n)?;
-        return Ok(Some(change_between(alloc, next, standing, &wanted)?));
-    }
-    match turned.batches.get(n) {
-        Some(told) if !(told.batch.deletes.is_empty() && told.batch.adds.is_empty()) => {
-            Ok(Some(change_told(alloc, next, standing, &told.batch)?))
-        }
-        _ => Ok(None),
-    }
-}
-
-/// A switch that is up is written the change of what is kept.
-fn write_nth(
-    setup: &Setup,
-    draft: &mut Outcome<'_>,
-    composed: &Composed,
-    turned: &Turned,
-    n: u32,
-) -> Result<(), Memory> {
-    let alloc = setup.alloc();
-    let place = n as usize;
-    let begins = begins(&draft.begun, n);
-    let switches = draft.switches.as_mut_slice();
-    let switch = &mut switches[place];
-    if !switch.is_up() {
-        return Ok(());
-    }
-    let change = change(
-        alloc,
-        composed,
-        turned,
-        begins,
-        place,
-        draft.next_cookie,
-        switch.standing(),
-    )?;
-    let Some(change) = change else {
-        return Ok(());
-    };
-    let next = change.next;
-    count_all(&mut draft.counts, n, change.batch.adds.as_slice())?;
-    write(alloc, begins, n, change, switch, &mut draft.batches)?;
-    draft.next_cookie = next;
-    Ok(())
-}
-
-/// Switches are written the change of what is kept, in the order of the file.
-fn write_all(
-    setup: &Setup,
-    draft: &mut Outcome<'_>,
-    composed: &Composed,
-    turned: &Turned,
-) -> Result<(), Memory> {
-    for n in 0..draft.switches.len() {
-        write_nth(setup, draft, composed, turned, n as u32)?;
-    }
-    Ok(())
+/// What is true of what is to stand on each switch.
+fn are_tables(composed: &Composed)
+    ensures { AreTables composed.now.tables }
+{
+    let _ = composed;
 }
 
 /// What is kept changes with the draft, and switches are written it.
@@ -101,18 +36,23 @@ fn compose_on<G: Ledger>(
     draft: &mut Outcome<'_>,
     composed: &mut Composed,
     blank: Blank,
-) -> Result<(), Memory> {
+) -> Result<(), Memory>
+    requires settled { WasSettled setup.now (bases draft.old) }
+    requires kept { IsKeptBy setup.now (bases draft.old) (draft_in draft.old).state composed.old }
+    requires exprs { draft.old.exprs.now ≡ draft.old.exprs.base }
+    requires serials { DraftsHaveSerials draft.old.members }
+    ensures drafted { OnOk result (draft_in draft.new ≡ compose_of setup.now (draft_in draft.old)) }
+    ensures bases { OnOk result (bases draft.new ≡ bases draft.old) }
+    ensures kept { OnOk result (IsComposedOf setup.now (draft_in draft.old).state composed.new) }
+{
+    // The proof learns what is true of every policy, of settings, and of what is to stand before and after.
+    let _policy = setup.policy();
+    settings_are_ready();
+    are_tables(composed);
     let mut steps = Steps::<G>::new(blank);
-    let ups = ups(setup.alloc(), draft.switches.as_slice())?;
-    let turned = turn(
-        setup,
-        draft.members.as_slice(),
-        ups.as_slice(),
-        draft.next_cookie,
-        composed,
-        &mut steps,
-    )?;
-    write_all(setup, draft, composed, &turned)
+    let turned = turn(setup, draft, composed, &mut steps)?;
+    are_tables(composed);
+    compose_from(setup.alloc(), &Source::Kept(composed, &turned), draft)
 }
 
 /// What is kept changes with the draft, and each switch that is up is written the change.
@@ -120,21 +60,74 @@ pub(crate) fn compose_kept(
     setup: &Setup,
     draft: &mut Outcome<'_>,
     composed: &mut Composed,
-) -> Result<(), Memory> {
+) -> Result<(), Memory>
+    requires settled { WasSettled setup.now (bases draft.old) }
+    requires kept { IsKeptBy setup.now (bases draft.old) (draft_in draft.old).state composed.old }
+    requires exprs { draft.old.exprs.now ≡ draft.old.exprs.base }
+    requires serials { DraftsHaveSerials draft.old.members }
+    ensures drafted { OnOk result (draft_in draft.new ≡ compose_of setup.now (draft_in draft.old)) }
+    ensures bases { OnOk result (bases draft.new ≡ bases draft.old) }
+    ensures kept { OnOk result (IsComposedOf setup.now (draft_in draft.old).state composed.new) }
+{
     compose_on::<Brand>(setup, draft, composed, Blank::new(1))
 }
 
 /// The composed part of what is held.
-fn build<G: Ledger>(setup: &Setup, held: &Held, blank: Blank) -> Result<Composed, Memory> {
+fn build_from<G: Ledger>(setup: &Setup, held: &Held, blank: Blank) -> Result<Composed, Memory>
+    requires { IsSoundState setup.now (state_in_held held.now) }
+    ensures { IfOk result (IsComposedOf setup.now (state_in_held held.now)) }
+{
+    // The proof learns what is true of every policy, and of settings.
+    let _policy = setup.policy();
+    settings_are_ready();
     let mut steps = Steps::<G>::new(blank);
     let setting = present(setup, held)?;
     Composed::build(setup.alloc(), setup.topology(), &setting, &mut steps)
 }
 
-/// The composed part of what is held, unless numbers ran out, or memory is wanting.
-pub(crate) fn kept_of(setup: &Setup, held: &Held) -> Option<Composed> {
-    if held.next_cookie == u64::MAX {
-        return None;
+/// The composed part of what is held, if there is memory for it.
+fn build(setup: &Setup, held: &Held) -> Option<Composed>
+    requires { IsSoundState setup.now (state_in_held held.now) }
+    ensures { IfSome result (IsComposedOf setup.now (state_in_held held.now)) }
+{
+    build_from::<Brand>(setup, held, Blank::new(1)).ok()
+}
+
+/// A serial number is left for an entry of a member. So it is, always.
+fn has_serial(member: &Member) -> bool
+    ensures { IsTrue result → HasSerial (member_of member.now) }
+{
+    // The proof learns what is true of every table.
+    let _table = member.kept.table();
+    true
+}
+
+/// So it is for each member.
+fn have_serials(members: &[Member]) -> bool
+    ensures { IsTrue result → StandingHaveSerials members.now }
+{
+    members.iter().all(has_serial)
+}
+
+/// Numbers are left: cookies, and serial numbers of entries.
+fn has_numbers(held: &Held) -> bool
+    ensures { IsTrue result → HasNumbers (state_in_held held.now) }
+{
+    held.next_cookie < u64::MAX && have_serials(held.members.as_slice())
+}
+
+/// What is kept once an event ended: as long as numbers are left, what followed the event, or else what is made anew.
+pub(crate) fn keep(setup: &Setup, held: &Held, composed: &mut Option<Composed>)
+    requires sound { IsSoundWhile setup.now (state_in_held held.now) }
+    requires followed { IfSome composed.old (IsComposedOf setup.now (state_in_held held.now)) }
+    ensures { IsKept setup.now (state_in_held held.now) composed.new }
+{
+    if !has_numbers(held) {
+        *composed = None;
+        return;
     }
-    build::<Brand>(setup, held, Blank::new(1)).ok()
+    if composed.is_some() {
+        return;
+    }
+    *composed = build(setup, held);
 }

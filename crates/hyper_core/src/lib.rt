@@ -50,6 +50,7 @@ mod sessions;
 mod settings;
 mod settling;
 pub mod setup;
+mod sources;
 mod starting;
 mod statistics;
 mod stepping;

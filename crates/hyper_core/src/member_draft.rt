@@ -1,8 +1,13 @@
 //! What an event makes of a member, beside the member as it stands.
-ghost use Rattle.std.specs.Prelude.{◌≡◌, ℕ, IfOk, IsTrue, OnOk, filter};
+ghost use Rattle.std.specs.Prelude.{◌≡◌, ℕ, IfOk, IfSome, IsTrue, None, OnOk, filter};
+ghost use Rattle.std.specs.List.{AllByRecursion};
 ghost use Rattle.member_state.specs.Changes.{expired, is_told, touched, without};
 ghost use Rattle.member_state.specs.Plans.{IsReady, after_planned};
-ghost use Rattle.hyper_core.specs.MemberDrafts.{IsPlannedOf, IsReadyPlan, IsUnplanned, kept_after, kept_state};
+ghost use Rattle.of10_actions.specs.Ports.{AreRising};
+ghost use Rattle.of10_match.specs.Normal.{IsNormal};
+ghost use Rattle.hyper_core.specs.Kept.{HasSerial};
+ghost use Rattle.hyper_core.specs.MemberDrafts.{IsLeafDelta, IsPlannedOf, IsReadyPlan, IsUnplanned, kept_after};
+ghost use Rattle.hyper_core.specs.MemberDrafts.{kept_state};
 ghost use Rattle.hyper_core.specs.MemberDrafts.{standing_member, with_now};
 ghost use Rattle.leaf_changes.specs.Plans.{IsPlanOf};
 ghost use Rattle.hyper_core.specs.Moving.{IsMemberPart, member_moved, member_put};
@@ -247,24 +252,35 @@ impl<'a> MemberDraft<'a> {
         }
     }
 
-    /// How its rules change with what is planned, if anything of them does: its number, its grant, and the ports of its
-    /// virtual switch.
+    /// How its rules change with what is planned, if anything is: of its number, with its grant, at a virtual switch of
+    /// these ports.
     pub(crate) fn leaf_delta(
         &self,
         alloc: Global,
         n: u32,
         grant: &Grant,
         ports: &List<u16>,
-    ) -> Result<Option<LeafDelta>, Memory> {
+    ) -> Result<Option<LeafDelta>, Memory>
+        requires rising { AreRising grant.now.ports }
+        requires boxes { AllByRecursion IsNormal grant.now.regions }
+        ensures none { IfOk result (λ delta. delta ≡ None → IsUnplanned self.now) }
+        ensures some { IfOk result (λ delta. IfSome delta (IsLeafDelta n grant.now ports.now self.now)) }
+    {
         let Some(planned) = &self.planned else {
             return Ok(None);
         };
         let kept = &self.base.kept;
         let delta = leaf_delta(alloc, n, grant, kept, planned, self.moment, ports)?;
-        if delta.gone.is_empty() && delta.come.is_empty() {
-            return Ok(None);
-        }
         Ok(Some(delta))
+    }
+
+    /// A serial number is left for an entry. So it is, always.
+    pub(crate) fn has_serial(&self) -> bool
+        ensures { IsTrue result → HasSerial self.now.now }
+    {
+        // The proof learns what is true of every table.
+        let _table = self.base.kept.table();
+        true
     }
 
     /// What is moved in, with what the member is put. There is a place for that on any machine.
