@@ -13,6 +13,3 @@ pub use entries::{flat, levels_fit, placed};
 pub use seeing::expected;
 pub use state::{PhysicalSwitch, Setting};
 pub use tables::{entries_of, table_of};
-
-#[cfg(test)]
-mod tests;

@@ -12,6 +12,3 @@ pub use laws::{
 };
 pub use levels::{concat, shift, size_concat, size_shift, size_sum, sum};
 pub use width::{TooWide, WIDEST, fits};
-
-#[cfg(test)]
-mod tests;

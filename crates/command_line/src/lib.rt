@@ -10,6 +10,3 @@ mod parser;
 
 pub use asking::asked;
 pub use command::Command;
-
-#[cfg(test)]
-mod tests;

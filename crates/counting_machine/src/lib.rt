@@ -6,8 +6,6 @@
 mod counter;
 mod notebook;
 mod posts;
-#[cfg(test)]
-mod tests;
 
 pub use counter::Counter;
 pub use notebook::{Note, Notebook};

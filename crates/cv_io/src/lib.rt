@@ -33,6 +33,3 @@ pub use steps::Steps;
 pub use tcp::{TcpDial, TcpLinks};
 pub use text::{NotAscii, Text};
 pub use works::{ScopeSpawner, Spawner, Work};
-
-#[cfg(test)]
-mod tests;

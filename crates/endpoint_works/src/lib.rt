@@ -14,8 +14,6 @@ mod round;
 mod sending;
 mod shared_clock;
 mod side;
-#[cfg(test)]
-mod tests;
 mod works;
 
 pub use arrivals::{Arrivals, Dialled};

@@ -10,6 +10,3 @@ mod writing;
 pub use event::{Event, PolicyRefusal, Reply};
 pub use reading::{EventFault, read_event};
 pub use writing::write_event;
-
-#[cfg(test)]
-mod tests;

@@ -16,6 +16,3 @@ pub use entrance::{Entrance, find_entrance};
 pub use finding::Finding;
 pub use lines::finding_line;
 pub use using::{used_for, used_is_best};
-
-#[cfg(test)]
-mod tests;

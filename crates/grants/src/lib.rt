@@ -12,8 +12,6 @@ pub mod grant;
 pub mod kind;
 pub mod laws;
 mod matches;
-#[cfg(test)]
-mod tests;
 pub mod worked;
 
 pub use check::{check_flow, check_kind, check_out};

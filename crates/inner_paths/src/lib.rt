@@ -14,6 +14,3 @@ mod worked;
 pub use fault::PathFault;
 pub use paths::Paths;
 pub use worked::worked_examples;
-
-#[cfg(test)]
-mod tests;

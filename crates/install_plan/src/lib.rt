@@ -15,6 +15,3 @@ pub mod written;
 
 pub use installed::Installed;
 pub use written::{Batch, Written};
-
-#[cfg(test)]
-mod tests;

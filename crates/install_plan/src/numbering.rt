@@ -126,7 +126,7 @@ pub fn number_all(
 fn tops(alloc: Global, slots: &BTreeMap<Key, Slot>, next: u64) -> Result<List<Written>, Memory>
     ensures { IfOk result (λ adds. adds ≡ numbered next (map entry_of (table_by as_is slots.now.entries).standing)) }
 {
-    let mut adds = List::new(alloc);
+    let mut adds = List::with_capacity(alloc, slots.len())?;
     let mut cookie = next;
     for slot in slots.values() {
         cookie = push_numbered(&mut adds, slot.top(), cookie)?;

@@ -10,6 +10,3 @@ mod sorted;
 
 pub use map::LevelMap;
 pub use placed::{PlaceFault, Placed};
-
-#[cfg(test)]
-mod tests;

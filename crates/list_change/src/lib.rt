@@ -6,6 +6,3 @@ pub mod laws;
 pub mod netting;
 
 pub use netting::{Both, Netted, Place, net};
-
-#[cfg(test)]
-mod tests;

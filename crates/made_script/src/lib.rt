@@ -10,6 +10,3 @@ pub mod worked;
 
 pub use script::Made;
 pub use summary::{Summary, summary_line};
-
-#[cfg(test)]
-mod tests;

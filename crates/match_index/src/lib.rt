@@ -14,8 +14,6 @@ pub mod laws;
 pub mod question;
 mod search;
 pub mod shape;
-#[cfg(test)]
-mod tests;
 pub mod worked;
 
 pub use index::Index;

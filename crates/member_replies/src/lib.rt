@@ -26,6 +26,3 @@ pub use packets::{flow_removed, packet_in};
 pub use ports::visible;
 pub use refusals::{deny_line, error};
 pub use statistics::{desc_reply, port_reply, table_reply};
-
-#[cfg(test)]
-mod tests;

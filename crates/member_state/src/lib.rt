@@ -11,8 +11,6 @@ pub mod leaf;
 pub mod planned;
 mod planning;
 pub mod state;
-#[cfg(test)]
-mod tests;
 pub mod worked;
 
 pub use fault::FlowFault;

@@ -17,8 +17,6 @@ pub mod rank;
 mod rank_counts;
 mod ranks;
 pub mod table;
-#[cfg(test)]
-mod tests;
 mod wanted;
 pub mod worked;
 

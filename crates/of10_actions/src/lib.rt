@@ -21,6 +21,3 @@ pub use kind::Kind;
 pub use reading::read_list;
 pub use rewrite::Rewrite;
 pub use writing::{list_length, write_actions, write_list};
-
-#[cfg(test)]
-mod tests;

@@ -11,6 +11,3 @@ pub mod wire;
 pub use framer::{FrameFault, Framer};
 pub use stream::frames_of;
 pub use wire::{HEADER, VERSION, error, header, is_frame, length_of, xid_of};
-
-#[cfg(test)]
-mod tests;

@@ -9,8 +9,6 @@ mod matching;
 mod normal;
 pub mod ofp_match;
 mod reading;
-#[cfg(test)]
-mod tests;
 mod writing;
 
 pub use header::{Header, Match, Prefix};

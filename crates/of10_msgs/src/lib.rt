@@ -20,6 +20,3 @@ pub use message::{Body, FlowMod, MATCH, Message, PacketOut, PhyPort};
 pub use reading::read_message;
 pub use sender::{Sender, read_of_controller};
 pub use writing::{fits, write_message};
-
-#[cfg(test)]
-mod tests;

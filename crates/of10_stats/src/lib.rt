@@ -17,6 +17,3 @@ pub use reading::{read_reply, read_request};
 pub use reply::{FlowStat, PortStat, ReplyBody, StatsReply};
 pub use request::StatsRequest;
 pub use writing::{write_reply, write_request};
-
-#[cfg(test)]
-mod tests;

@@ -16,6 +16,3 @@ pub use lifting::lift;
 pub use op::{Op, Side};
 pub use policy_meaning::Rule;
 pub use single::leaf;
-
-#[cfg(test)]
-mod tests;

@@ -12,6 +12,3 @@ mod rewriting;
 
 pub use header::header_of;
 pub use rewriting::rewrite;
-
-#[cfg(test)]
-mod tests;

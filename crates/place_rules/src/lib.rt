@@ -9,8 +9,6 @@ pub mod laws;
 mod look;
 pub mod placing;
 pub mod standing;
-#[cfg(test)]
-mod tests;
 mod transit;
 pub mod worked;
 

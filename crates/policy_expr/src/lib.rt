@@ -21,6 +21,3 @@ pub use fault::ExprFault;
 pub use laws::one_tree;
 pub use member::MemberName;
 pub use parsing::parse;
-
-#[cfg(test)]
-mod tests;

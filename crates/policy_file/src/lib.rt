@@ -31,6 +31,3 @@ pub use policy::{MemberItem, Policy, all_ports};
 pub use reading::read;
 pub use terse::expr_kind;
 pub use wide::check_widths;
-
-#[cfg(test)]
-mod tests;

@@ -30,10 +30,3 @@ pub use order::listed;
 pub use rule::Rule;
 pub use scratch::{Composed, expression_rules, expression_size, tables_fit};
 pub use walking::{PortOut, Told, Walked, walk};
-
-#[cfg(test)]
-mod fixtures;
-#[cfg(test)]
-mod rule_tests;
-#[cfg(test)]
-mod tests;

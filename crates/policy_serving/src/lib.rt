@@ -9,6 +9,3 @@ mod serve;
 pub use endpoints::places;
 pub use laws::{places_are_counted, places_are_few, places_are_served};
 pub use serve::serve_policy;
-
-#[cfg(test)]
-mod tests;

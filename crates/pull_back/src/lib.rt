@@ -10,6 +10,3 @@ pub mod pulling;
 
 pub use imaging::image;
 pub use pulling::pull;
-
-#[cfg(test)]
-mod tests;

@@ -11,6 +11,3 @@ pub mod store;
 pub use filed::{ByLeaves, Filed};
 pub use links::Link;
 pub use store::Store;
-
-#[cfg(test)]
-mod tests;

@@ -19,6 +19,3 @@ pub use name::{is_member, is_name, is_session};
 pub use number::decimal_number;
 pub use reading::read_line;
 pub use report::{report_line, say, say_number};
-
-#[cfg(test)]
-mod tests;

@@ -13,8 +13,6 @@ mod incoming;
 mod leaving;
 mod opening;
 mod reader;
-#[cfg(test)]
-mod tests;
 mod worked;
 mod writer;
 mod writing;

@@ -20,6 +20,3 @@ mod sums;
 pub use changes::Changes;
 pub use counts::{Counts, Known};
 pub use pending::Pending;
-
-#[cfg(test)]
-mod tests;

@@ -31,10 +31,3 @@ pub use placing::{Way, place};
 pub use ranges::{are_tables_in_range, are_tags_in_range};
 pub use table::table_after;
 pub use wiring::{Cable, NextHop, Outside, SwitchPort, Wiring};
-
-#[cfg(test)]
-mod batch_tests;
-#[cfg(test)]
-mod samples;
-#[cfg(test)]
-mod tests;

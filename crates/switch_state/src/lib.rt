@@ -15,6 +15,3 @@ pub use barrier::Barrier;
 pub use known::Known;
 pub use messages::echo_reply;
 pub use removal::Removal;
-
-#[cfg(test)]
-mod tests;

@@ -8,6 +8,3 @@ pub mod tables;
 
 pub use switch_table::SwitchTable;
 pub use tables::{SwitchBatch, change_all, undo_all};
-
-#[cfg(test)]
-mod tests;

@@ -23,6 +23,3 @@ pub use maps::Rows;
 pub use plan::{PairItem, PortPlace, SwitchItem, TopologyPlan, VirtualItem, VirtualPort};
 pub use topology::Topology;
 pub use worked::worked_examples;
-
-#[cfg(test)]
-mod tests;

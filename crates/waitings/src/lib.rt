@@ -9,6 +9,3 @@ mod waitings;
 
 pub use state::{Asker, Doubt, Part, Purpose, Waiting};
 pub use waitings::{Waitings, make};
-
-#[cfg(test)]
-mod tests;

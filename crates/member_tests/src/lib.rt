@@ -1,0 +1,17 @@
+//! Tests of members: their policies and grants, their tables, and what they are told.
+#![tactic(auto)]
+
+#[cfg(test)]
+mod denials;
+#[cfg(test)]
+mod explanations;
+#[cfg(test)]
+mod policies;
+#[cfg(test)]
+mod polls;
+#[cfg(test)]
+mod replies;
+#[cfg(test)]
+mod states;
+#[cfg(test)]
+mod tables;

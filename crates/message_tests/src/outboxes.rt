@@ -1,0 +1,37 @@
+//! What waits for a session.
+use cv_io::{Bytes, Duplicate, Memory};
+use outbox::{Letters, Outbox, Taking};
+use std::alloc::Global;
+use std::test::Fail;
+
+fn letters(alloc: Global, texts: &[&[u8]]) -> Result<Letters, Memory> {
+    let mut made = Letters::new(alloc);
+    for text in texts {
+        made.push(Bytes::from_slice(alloc, text)?)?;
+    }
+    Ok(made)
+}
+
+/// The outbox of a first round in which two messages wait.
+fn with_two(alloc: Global) -> Result<Outbox, Memory> {
+    let mut outbox = Outbox::new(alloc);
+    let mut turn = outbox.stay();
+    turn.open();
+    outbox.turn(turn);
+    let more = letters(alloc, &[b"one", b"two"])?;
+    if outbox.has_place(&more) {
+        outbox.put(more);
+    }
+    Ok(outbox)
+}
+
+#[test]
+fn a_copy_is_taken_from_alone(rt: HostRuntime) -> Result<(), Fail> {
+    let mut outbox = with_two(rt.alloc())?.copy()?;
+    assert_eq!(rt;
+        outbox.take(1),
+        Taking::Taken(Bytes::from_slice(rt.alloc(), b"one")?)
+    );
+    assert_eq!(rt; outbox.take(2), Taking::Empty);
+    Ok(())
+}

@@ -1,0 +1,268 @@
+//! Messages of statistics, read and written, and why others are refused.
+ghost use Rattle.std.specs.Prelude.{◌≡◌, ◌≤◌, ◌<◌, All, IfOk, length};
+ghost use Rattle.of10_stats.specs.Ranges.{CanWriteBody, CanWriteEntry, CanWriteReply, CanWriteRequest};
+
+use cv_io::{Bytes, List, Memory};
+use of10_frames::xid_of;
+use of10_stats::{
+    FlowStat, ReplyBody, StatsFault, StatsReply, StatsRequest, read_reply, read_request,
+    write_reply, write_request,
+};
+use std::alloc::Global;
+use std::process::Abort;
+use std::test::*;
+
+mod vectors;
+
+/// The bytes of a message, with these set.
+fn message(alloc: Global, digits: &str, places: &[u8]) -> Result<Vec<u8>, Fail> {
+    let mut frame = hex::decode(alloc, digits)?;
+    for place in places {
+        if let Some(byte) = frame.get_mut(usize::from(*place)) {
+            *byte = 0xff;
+        }
+    }
+    Ok(frame)
+}
+
+/// The request of a message.
+fn request_of(frame: &[u8]) -> Result<StatsRequest, StatsFault>
+    requires room { 12 ≤ length frame.now }
+    requires fits { length frame.now ≤ 65535 }
+    ensures { IfOk result CanWriteRequest }
+{
+    let (_, body) = frame.split_at(8);
+    read_request(body)
+}
+
+/// The reply of a message.
+fn reply_of(alloc: Global, frame: &[u8]) -> Result<StatsReply, StatsFault>
+    requires room { 12 ≤ length frame.now }
+    requires fits { length frame.now ≤ 65535 }
+    ensures { IfOk result (λ reply. CanWriteBody reply.body) }
+{
+    let (_, body) = frame.split_at(8);
+    read_reply(alloc, body)
+}
+
+/// Reads a request whose padding is set, and writes it with zeros there.
+fn request_again(
+    rt: &(impl Abort + AllocGlobal),
+    digits: &str,
+    places: &[u8],
+    want: &StatsRequest,
+) -> Result<(), Fail> {
+    let plain = hex::decode(rt.alloc(), digits)?;
+    let frame = message(rt.alloc(), digits, places)?;
+    assert!(rt; frame.len() >= 12);
+    assert!(rt; frame.len() <= 65535);
+    let request = request_of(&frame)?;
+    assert_eq!(rt; request, *want, "at {digits}");
+    let written = write_request(rt.alloc(), &request, xid_of(&frame))?;
+    assert_eq!(rt; written.as_slice(), plain.as_slice(), "at {digits}");
+    Ok(())
+}
+
+#[test]
+fn requests(rt: HostRuntime) -> Result<(), Fail> {
+    for (digits, padding, want) in vectors::REQUESTS {
+        request_again(&rt, digits, &[], &want)?;
+        request_again(&rt, digits, padding, &want)?;
+    }
+    Ok(())
+}
+
+/// Reads a reply of one message whose padding is set, and writes it with zeros there.
+fn reply_again(
+    rt: &(impl Abort + AllocGlobal),
+    plain: &[u8],
+    frame: &[u8],
+) -> Result<StatsReply, Fail> {
+    assert!(rt; frame.len() >= 12);
+    assert!(rt; frame.len() <= 65535);
+    let reply = reply_of(rt.alloc(), frame)?;
+    assert!(rt; !reply.more);
+    let written = write_reply(rt.alloc(), &reply, xid_of(frame))?;
+    let first = written.as_slice().first().ok_or("nothing is written")?;
+    assert_eq!(rt; (written.len(), first.as_slice()), (1, plain));
+    Ok(reply)
+}
+
+#[test]
+fn replies(rt: HostRuntime) -> Result<(), Fail> {
+    for (digits, padding) in vectors::REPLIES {
+        let plain = hex::decode(rt.alloc(), digits)?;
+        let frame = message(rt.alloc(), digits, padding)?;
+        let reply = reply_again(&rt, &plain, &plain)?;
+        assert_eq!(rt; reply_again(&rt, &plain, &frame)?, reply, "at {digits}");
+    }
+    Ok(())
+}
+
+/// The entry of the vectors.
+fn entry(alloc: Global) -> Result<FlowStat, Memory>
+    ensures { IfOk result CanWriteEntry }
+{
+    Ok(FlowStat {
+        table_id: 2,
+        m: vectors::M,
+        duration_sec: 0x01020304,
+        duration_nsec: 0x05060708,
+        priority: 0x1112,
+        idle: 0x1314,
+        hard: 0x1516,
+        cookie: 0x2122232425262728,
+        packets: 0x3132333435363738,
+        bytes: 0x4142434445464748,
+        actions: Bytes::from_slice(alloc, &[0, 0, 0, 8, 0, 2, 0xff, 0xff])?,
+    })
+}
+
+/// A reply with so many entries.
+fn entries(alloc: Global, count: usize) -> Result<StatsReply, Memory>
+    ensures { IfOk result CanWriteReply }
+{
+    let mut entries = List::new(alloc);
+    for _ in 0..count {
+        entries.push(entry(alloc)?)?;
+    }
+    Ok(StatsReply {
+        more: false,
+        body: ReplyBody::Flow { entries },
+    })
+}
+
+/// Checks a message: its length, its lower byte of flags, and its entries.
+fn part_is(
+    rt: &(impl Abort + AllocGlobal),
+    message: &Bytes,
+    want: (usize, u8),
+) -> Result<(), Fail> {
+    let entry = hex::decode(rt.alloc(), vectors::ENTRY)?;
+    let bytes = message.as_slice();
+    assert!(rt; bytes.len() >= 12);
+    assert_eq!(rt; (bytes.len(), bytes[11]), want);
+    for found in bytes[12..].chunks_exact(96) {
+        assert_eq!(rt; found, entry.as_slice());
+    }
+    Ok(())
+}
+
+/// For so many entries of 96 bytes: how many parts there are, and what one of them is like.
+#[test]
+fn parts(rt: HostRuntime) -> Result<(), Fail> {
+    for (count, parts, place, want) in [
+        (0, 1, 0, (12, 0)),
+        (21, 1, 0, (2028, 0)),
+        (22, 2, 0, (2028, 1)),
+        (22, 2, 1, (108, 0)),
+    ] {
+        let messages = write_reply(rt.alloc(), &entries(rt.alloc(), count)?, 9)?;
+        assert_eq!(rt; messages.len(), parts);
+        part_is(
+            &rt,
+            messages.get(place).ok_or("there is no such part")?,
+            want,
+        )?;
+    }
+    Ok(())
+}
+
+/// Appends a text of a width, filled with zeros.
+fn push_text(frame: &mut Vec<u8>, text: &str, width: usize) -> Result<(), Fail> {
+    frame.extend_from_slice(text.as_bytes())?;
+    for _ in text.len()..width {
+        frame.push(0)?;
+    }
+    Ok(())
+}
+
+/// The texts that describe a switch, of 1056 bytes.
+fn description(alloc: Global) -> Result<Vec<u8>, Fail> {
+    let mut frame = hex::decode(alloc, "0111042c0000001200000000")?;
+    for (text, width) in [
+        ("Maker", 256),
+        ("Hardware", 256),
+        ("Software", 256),
+        ("77", 32),
+        ("A switch", 256),
+    ] {
+        push_text(&mut frame, text, width)?;
+    }
+    Ok(frame)
+}
+
+#[test]
+fn texts(rt: HostRuntime) -> Result<(), Fail> {
+    let frame = description(rt.alloc())?;
+    let reply = reply_again(&rt, &frame, &frame)?;
+    let texts = match reply.body {
+        ReplyBody::Desc { ref texts } => texts.len(),
+        _ => 0,
+    };
+    assert_eq!(rt; texts, 5);
+    Ok(())
+}
+
+/// The fault of a request's and of a reply's body.
+fn refused(
+    rt: &(impl Abort + AllocGlobal),
+    digits: &str,
+    request: Option<StatsFault>,
+    reply: Option<StatsFault>,
+) -> Result<(), Fail> {
+    let body = hex::decode(rt.alloc(), digits)?;
+    assert!(rt; body.len() >= 4 && body.len() <= 65535);
+    assert_eq!(rt; read_request(&body).err(), request, "at {digits}");
+    assert_eq!(rt; read_reply(rt.alloc(), &body).err(), reply, "at {digits}");
+    Ok(())
+}
+
+const fn length(kind: u16, length: u32) -> Option<StatsFault> {
+    Some(StatsFault::BadLen { kind, length })
+}
+
+#[test]
+fn faults(rt: HostRuntime) -> Result<(), Fail> {
+    let unknown = Some(StatsFault::BadStat { kind: 5 });
+    let vendor = Some(StatsFault::BadStat { kind: 65535 });
+    for (digits, request, reply) in [
+        ("0005000000", unknown, unknown),
+        ("ffff0000", vendor, vendor),
+        ("00000000", None, length(0, 0)),
+        ("00010000", length(1, 0), None),
+        ("000200000000", length(2, 2), length(2, 2)),
+        ("0004000000000000", length(4, 4), length(4, 4)),
+    ] {
+        refused(&rt, digits, request, reply)?;
+    }
+    Ok(())
+}
+
+/// The fault of a reply of one entry that says its length, where so many bytes are there.
+fn fault_of_entry(alloc: Global, says: u8, there: u32) -> Result<Option<StatsFault>, Fail> {
+    let mut body = Bytes::from_slice(alloc, &[0, 1, 0, 0, 0, says])?;
+    for _ in 2..there {
+        body.push(0)?;
+    }
+    if body.len() < 4 || body.len() > 65535 {
+        return Ok(None);
+    }
+    Ok(read_reply(alloc, body.as_slice()).err())
+}
+
+/// An entry's length is at least 88, and isn't past the end.
+#[test]
+fn entry_lengths(rt: HostRuntime) -> Result<(), Fail> {
+    for (says, there, want) in [
+        (87, 88, length(1, 88)),
+        (88, 87, length(1, 87)),
+        (88, 88, None),
+        (89, 88, length(1, 88)),
+        (88, 90, length(1, 90)),
+    ] {
+        let fault = fault_of_entry(rt.alloc(), says, there)?;
+        assert_eq!(rt; fault, want, "at {says}");
+    }
+    Ok(())
+}

@@ -1,5 +1,0 @@
-use Rattle.op_compose.proofs.tests.alone.Given as goal
-
--- the ledger of the counter is the blank one's
-abbrev pub ghosts-lone : goal.ghosts-lone
-ghosts-lone a = record { name = a.blank.name; parts = a.blank.parts }

@@ -1,0 +1,201 @@
+//! How a connection is opened.
+use cv_io::{Bytes, List, MemSink, MemSource, Memory};
+use of10_frames::Framer;
+use sessions::{Greeted, OpenEnd, open_member, open_switch};
+use std::alloc::Global;
+use std::sync::Wait;
+use std::test::*;
+
+const HELLO: &[u8] = &[1, 0, 0, 8, 0, 0, 0, 0];
+
+const LATER_HELLO: &[u8] = &[4, 0, 0, 8, 0, 0, 0, 1];
+
+const EARLIER_HELLO: &[u8] = &[0, 0, 0, 8, 0, 0, 0, 1];
+
+const SHORT: &[u8] = &[1, 0, 0, 7];
+
+/// FEATURES_REPLYs that are passed over: one without its fixed part, and one of a later version.
+const CUT_FEATURES: &[u8] = &[1, 6, 0, 8, 0, 0, 0, 0];
+
+const LATER_FEATURES: &[u8] = &[4, 6, 0, 8, 0, 0, 0, 0];
+
+const ECHO: &[u8] = &[1, 2, 0, 10, 0, 0, 0, 9, 0xaa, 0xbb];
+
+const ECHOED: &[u8] = &[1, 3, 0, 10, 0, 0, 0, 9, 0xaa, 0xbb];
+
+const GREETING: &[u8] = &[1, 0, 0, 8, 0, 0, 0, 0, 1, 5, 0, 8, 0, 0, 0, 0];
+
+/// The FEATURES_REPLY of datapath id 1, with capabilities 0x87, of no ports.
+const FEATURES: &[u8] = &[
+    1, 6, 0, 32, 0, 0, 0, 0, 0, 0, 0, 0, 0, 0, 0, 1, 0, 0, 1, 0, 1, 0, 0, 0, 0, 0, 0, 0x87, 0, 0,
+    0x0f, 0xff,
+];
+
+/// Of datapath id 9, without the capability to match ARP addresses.
+const STRANGE: &[u8] = &[
+    1, 6, 0, 32, 0, 0, 0, 0, 0, 0, 0, 0, 0, 0, 0, 9, 0, 0, 1, 0, 1, 0, 0, 0, 0, 0, 0, 0x07, 0, 0,
+    0x0f, 0xff,
+];
+
+fn bytes_of(alloc: Global, parts: &[&[u8]]) -> Result<Bytes, Memory> {
+    let mut bytes = Bytes::new(alloc);
+    for part in parts {
+        bytes.extend_from_slice(part)?;
+    }
+    Ok(bytes)
+}
+
+/// The opening of a switch that sends these bytes, where 1 and 2 are known: how it went, and what the switch was sent.
+fn switch<R: Wait>(
+    rt: &R,
+    alloc: Global,
+    sent: Bytes,
+    read_fails: &[u64],
+    write_fails: &[u64],
+) -> Result<(Result<Greeted, OpenEnd>, Bytes), Memory> {
+    let dpids = List::from_slice(alloc, &[1, 2])?;
+    let mut framer = Framer::new(alloc);
+    let mut source = MemSource::new(sent, List::from_slice(alloc, read_fails)?);
+    let mut sink = MemSink::new(Bytes::new(alloc), List::from_slice(alloc, write_fails)?);
+    let opened = open_switch(rt, alloc, &dpids, &mut framer, &mut source, &mut sink);
+    Ok((opened, sink.held))
+}
+
+/// The same of a controller.
+fn member<R: Wait>(
+    rt: &R,
+    alloc: Global,
+    sent: Bytes,
+    read_fails: &[u64],
+    write_fails: &[u64],
+) -> Result<(Result<(), OpenEnd>, Bytes), Memory> {
+    let mut framer = Framer::new(alloc);
+    let mut source = MemSource::new(sent, List::from_slice(alloc, read_fails)?);
+    let mut sink = MemSink::new(Bytes::new(alloc), List::from_slice(alloc, write_fails)?);
+    let opened = open_member(rt, alloc, &mut framer, &mut source, &mut sink);
+    Ok((opened, sink.held))
+}
+
+/// Whether a switch that sends these bytes is opened so, and is sent these.
+fn opens<R: Wait>(
+    rt: &R,
+    alloc: Global,
+    sent: &[&[u8]],
+    want: Result<Greeted, OpenEnd>,
+    written: &[&[u8]],
+) -> Result<bool, Memory> {
+    let (opened, held) = switch(rt, alloc, bytes_of(alloc, sent)?, &[], &[])?;
+    Ok(opened == want && held == bytes_of(alloc, written)?)
+}
+
+#[test]
+fn known_switches(rt: HostRuntime) -> Result<(), Fail> {
+    let a = rt.alloc();
+    let known = Ok(Greeted {
+        switch: 0,
+        arp: true,
+    });
+    let unknown = Err(OpenEnd::Unknown { dpid: 9 });
+    assert!(rt; opens(&rt, a, &[HELLO, FEATURES], known, &[GREETING])?);
+    assert!(rt; opens(&rt, a, &[LATER_HELLO, HELLO, FEATURES], known, &[GREETING])?);
+    assert!(rt; opens(&rt, a, &[HELLO, ECHO, FEATURES], known, &[GREETING, ECHOED])?);
+    assert!(rt; opens(&rt, a, &[HELLO, STRANGE], unknown, &[GREETING])?);
+    Ok(())
+}
+
+#[test]
+fn other_peers(rt: HostRuntime) -> Result<(), Fail> {
+    let a = rt.alloc();
+    let ended = Err(OpenEnd::Ended);
+    let short = Err(OpenEnd::Short { length: 7 });
+    let other = Err(OpenEnd::NoHello);
+    assert!(rt; opens(&rt, a, &[], ended, &[GREETING])?);
+    assert!(rt; opens(&rt, a, &[HELLO], ended, &[GREETING])?);
+    assert!(rt; opens(&rt, a, &[&HELLO[..5]], ended, &[GREETING])?);
+    assert!(rt;
+        opens(
+            &rt,
+            a,
+            &[HELLO, CUT_FEATURES, LATER_FEATURES],
+            ended,
+            &[GREETING]
+        )?
+    );
+    assert!(rt; opens(&rt, a, &[SHORT], short, &[GREETING])?);
+    assert!(rt; opens(&rt, a, &[HELLO, SHORT], short, &[GREETING])?);
+    assert!(rt; opens(&rt, a, &[ECHO, HELLO], other, &[GREETING])?);
+    assert!(rt; opens(&rt, a, &[EARLIER_HELLO], other, &[GREETING])?);
+    Ok(())
+}
+
+#[test]
+fn sixty_four_frames(rt: HostRuntime) -> Result<(), Fail> {
+    let alloc = rt.alloc();
+    for (count, want) in [(63u32, true), (64, false)] {
+        let mut sent = bytes_of(alloc, &[HELLO])?;
+        let mut answered = bytes_of(alloc, &[GREETING])?;
+        for _ in 0..count {
+            sent.extend_from_slice(ECHO)?;
+            answered.extend_from_slice(ECHOED)?;
+        }
+        sent.extend_from_slice(FEATURES)?;
+        let (opened, held) = switch(&rt, alloc, sent, &[], &[])?;
+        assert_eq!(rt; opened.is_ok(), want);
+        assert!(rt; opened.is_ok() || opened == Err(OpenEnd::NoFeatures));
+        assert!(rt; held == answered);
+    }
+    Ok(())
+}
+
+#[test]
+fn switches_that_close(rt: HostRuntime) -> Result<(), Fail> {
+    let alloc = rt.alloc();
+    let whole = bytes_of(alloc, &[HELLO, FEATURES])?;
+    for cut in 0..40usize {
+        let sent = Bytes::from_slice(alloc, &whole.as_slice()[..cut.min(whole.len())])?;
+        let (opened, held) = switch(&rt, alloc, sent, &[], &[])?;
+        assert_eq!(rt; opened, Err(OpenEnd::Ended));
+        assert!(rt; held.as_slice() == GREETING);
+    }
+    Ok(())
+}
+
+/// Whether a controller that sends these bytes is opened so, and is sent a HELLO.
+fn greets<R: Wait>(
+    rt: &R,
+    alloc: Global,
+    sent: &[&[u8]],
+    want: Result<(), OpenEnd>,
+) -> Result<bool, Memory> {
+    let (opened, held) = member(rt, alloc, bytes_of(alloc, sent)?, &[], &[])?;
+    Ok(opened == want && held.as_slice() == HELLO)
+}
+
+#[test]
+fn controllers(rt: HostRuntime) -> Result<(), Fail> {
+    let a = rt.alloc();
+    assert!(rt; greets(&rt, a, &[], Err(OpenEnd::Ended))?);
+    assert!(rt; greets(&rt, a, &[&HELLO[..7]], Err(OpenEnd::Ended))?);
+    assert!(rt; greets(&rt, a, &[SHORT], Err(OpenEnd::Short { length: 7 }))?);
+    assert!(rt; greets(&rt, a, &[ECHO], Err(OpenEnd::NoHello))?);
+    assert!(rt; greets(&rt, a, &[HELLO], Ok(()))?);
+    assert!(rt; greets(&rt, a, &[LATER_HELLO], Ok(()))?);
+    assert!(rt; greets(&rt, a, &[HELLO, ECHO], Ok(()))?);
+    Ok(())
+}
+
+#[test]
+fn faults(rt: HostRuntime) -> Result<(), Fail> {
+    let alloc = rt.alloc();
+    let (opened, held) = member(&rt, alloc, bytes_of(alloc, &[HELLO])?, &[1], &[])?;
+    assert!(rt; opened == Err(OpenEnd::ReadFault) && held.as_slice() == HELLO);
+    let (opened, held) = member(&rt, alloc, bytes_of(alloc, &[HELLO])?, &[], &[1])?;
+    assert!(rt; opened == Err(OpenEnd::WriteFault) && held.is_empty());
+    let (opened, _) = switch(&rt, alloc, bytes_of(alloc, &[HELLO, FEATURES])?, &[1], &[])?;
+    assert_eq!(rt; opened, Err(OpenEnd::ReadFault));
+    // the answer to the echo is not written
+    let sent = bytes_of(alloc, &[HELLO, ECHO, FEATURES])?;
+    let (opened, held) = switch(&rt, alloc, sent, &[], &[2])?;
+    assert!(rt; opened == Err(OpenEnd::WriteFault) && held.as_slice() == GREETING);
+    Ok(())
+}

@@ -1,0 +1,129 @@
+//! The calls that want memory, once each with ample memory; the forms in memory; the real things.
+use cv_io::{
+    Bytes, Clock, Dial, DiskFiles, Duplicate, Endpoint, Failed, FileFault, Files, Links, List,
+    MemSink, MemSource, Sink, Source, Steps, SystemClock, TcpLinks, Text,
+};
+use std::fs;
+use std::sync::ledger::Ledger;
+use std::test::Fail;
+
+fn crosses_threads<T: Send>(_value: &T) {}
+
+fn lists_cross_threads<T: Send>(list: &List<T>) {
+    crosses_threads(list);
+}
+
+fn texts_cross_threads(text: &Text, source: &MemSource, sink: &MemSink) {
+    crosses_threads(text);
+    crosses_threads(source);
+    crosses_threads(sink);
+}
+
+fn steps_cross_threads<L: Ledger>(steps: &Steps<L>) {
+    crosses_threads(steps);
+}
+
+#[test]
+fn calls_that_want_memory(rt: HostRuntime) -> Result<(), Fail> {
+    let alloc = rt.alloc();
+    let mut list: Bytes = List::with_capacity(alloc, 4)?;
+    list.push(b'x')?;
+    list.push_some(Some(b'b'))?;
+    list.insert(0, b'a')?;
+    list.append(Bytes::from_slice(alloc, b"cd")?)?;
+    list.set(1, b'y');
+    list.remove(1);
+    list.reserve(2)?;
+    list.as_mut_slice()[2] = b'e';
+    list.extend_from_slice(b"f")?;
+    assert!(rt; list.copy()?.as_slice() == b"abedf".as_slice());
+    Ok(())
+}
+
+#[test]
+fn texts(rt: HostRuntime) -> Result<(), Fail> {
+    let alloc = rt.alloc();
+    let mut text = Text::from_slice(alloc, b"ab")?;
+    text.push(b'c')?;
+    let more = text.copy()?;
+    text.push_text(&more)?;
+    let printed = format!(in alloc; "{text}")?;
+    assert_eq!(rt; printed.as_str(), "abcabc");
+    Ok(())
+}
+
+#[test]
+fn the_outside_in_memory(rt: HostRuntime) -> Result<(), Fail> {
+    let alloc = rt.alloc();
+    let bytes = Bytes::from_slice(alloc, b"abc")?;
+    let mut source = MemSource::new(bytes, List::from_slice(alloc, &[2])?);
+    let mut sink = MemSink::new(Bytes::new(alloc), List::from_slice(alloc, &[1])?);
+    let mut place = [0u8; 2];
+    assert_eq!(rt; source.read(&mut place), Ok(2));
+    assert_eq!(rt; source.read(&mut place), Err(Failed));
+    assert_eq!(rt; sink.write(&place), Err(Failed));
+    assert_eq!(rt; sink.write(&place), Ok(2));
+    assert_eq!(rt; source.read(&mut place), Ok(1));
+    assert_eq!(rt; source.read(&mut place), Ok(0));
+    assert!(rt; sink.held.as_slice() == b"ab".as_slice());
+    Ok(())
+}
+
+#[test]
+fn a_file(rt: HostRuntime) -> Result<(), Fail> {
+    fs::write(&rt, "read_by_a_test", b"abc".as_slice())?;
+    let name = Text::from_slice(rt.alloc(), b"read_by_a_test")?;
+    let mut files = DiskFiles::new(&rt);
+    assert!(rt; files.read(&name)?.as_slice() == b"abc".as_slice());
+    fs::remove_file(&rt, "read_by_a_test")?;
+    assert!(rt; files.read(&name).err() == Some(FileFault::Absent));
+    Ok(())
+}
+
+#[test]
+fn the_clock(rt: HostRuntime) {
+    let mut clock = SystemClock::new(&rt);
+    let begun = clock.now();
+    clock.rest();
+    // 2020 has begun, and the clock wasn't set back meanwhile
+    assert!(rt; 1_577_836_800 < begun && begun <= clock.now());
+}
+
+fn linked<L: Links>(links: &mut L, end: &Endpoint) -> Result<L::Dial, Failed> {
+    links.dial(end)
+}
+
+fn sent<D: Dial + Drop, E: Dial + Drop>(mut from: D, mut to: E) -> Result<u8, Failed>
+where
+    D::In: Drop,
+    D::Out: Drop,
+    E::In: Drop,
+    E::Out: Drop,
+{
+    let (_, mut sink) = from.next()?.ok_or(Failed)?;
+    let (mut source, _) = to.next()?.ok_or(Failed)?;
+    sink.write(b"x")?;
+    let mut place = [0u8; 1];
+    source.read(&mut place)?;
+    Ok(place[0])
+}
+
+#[test]
+fn a_connection(rt: HostRuntime) -> Result<(), Fail> {
+    let at = Text::from_slice(rt.alloc(), b"127.0.0.1:46633")?;
+    let switch = Endpoint::Switch {
+        index: 0,
+        listen: at.copy()?,
+        rounds: 1,
+    };
+    let member = Endpoint::Member {
+        index: 0,
+        address: at,
+        rounds: 1,
+    };
+    let mut links = TcpLinks::new(&rt, rt.alloc());
+    let to = linked(&mut links, &switch)?;
+    let from = linked(&mut links, &member)?;
+    assert_eq!(rt; sent(from, to), Ok(b'x'));
+    Ok(())
+}
