@@ -1,19 +1,21 @@
 -- What comes of a draft that is put is what comes of the event's draft.
 use Rattle.std.proofs.Common.{◌≡◌, ℕ, ◌-◌, ◌<◌, ◌^◌, Bool, true, length, map, sym, ap, ap₂, ◌∙◌, subst}
 use Rattle.std.specs.Prelude.{◌==◌}
-use Rattle.std.specs.Prelude.{Result, Ok, Err, OnErr}
+use Rattle.std.specs.Prelude.{Result, Ok, Err, IfSome, OnErr, OnOk, Option}
 use Rattle.std.proofs.lemmas.List.{length-map}
+use Rattle.composed_tables.specs.Composing.{ComposedOf}
 use Rattle.policy_file.specs.Policies.{PolicyOf}
 use Rattle.stats_map.specs.Changes.{CanMake, made}
 use Rattle.stats_map.specs.Told.{HeldOf}
 use Rattle.hyper_core.specs.Closings.{closing_of}
 use Rattle.hyper_core.specs.Drafting.{IsDraftOf, IsPutOf, bases_at}
 use Rattle.machine_meaning.specs.Drafts.{Draft}
+use Rattle.hyper_core.specs.Kept.{IsComposedOf}
 use Rattle.hyper_core.specs.Machines.{HasAll, bases_of, state_in_held}
 use Rattle.hyper_core.specs.Moments.{moment_of}
 use Rattle.hyper_core.specs.Moving.{AreParts, member_moved, moved_in, switch_moved}
 use Rattle.hyper_core.specs.Outcomes.{Bases, IsBefore, bases, draft_in}
-use Rattle.machine_meaning.specs.Phases.{both, draft_of, drafted, is_empty, overfilled, slow, slow_from}
+use Rattle.machine_meaning.specs.Phases.{both, draft_of, drafted, is_empty, overfilled, settled_of, slow, slow_from}
 use Rattle.hyper_core.specs.Puts.{HaveNumbers, IsPut, with_counts}
 use Rattle.machine_meaning.specs.Putting.{put}
 use Rattle.machine_meaning.specs.Rounds.{Closing}
@@ -138,7 +140,21 @@ has_all_moved p h new now parts all e =
           ∙ (length-map h.switches switch_of ∙ all.switches)));
     }
 
--- what holds in any case holds where memory is wanted
+-- what is kept of what settled where these are closed is kept of what settled where all that are slow are
+pub kept_drafted : (p : PolicyOf) (h : Held) (s : State) (e : Event) (c : Closing) (n : ℕ) (x : Drafted)
+    (k : Option ComposedOf) → state_in_held h ≡ s → IsPutOf p h e c (n == 0) (Ready x)
+    → slow_from n p s e c ≡ slow p s e → IfSome k (IsComposedOf p (settled_of p s e c).state)
+    → IfSome k (IsComposedOf p (settled_of p s e (slow p s e)).state)
+kept_drafted p h s e c n x k same put rest i =
+    let all : c ≡ slow p s e =
+    sym (slow_settled p (state_in_held h) e c n put.1) ∙ (ap (λ z. slow_from n p z e c) same ∙ rest) in
+    subst (λ (z : Closing). IfSome k (IsComposedOf p (settled_of p s e z).state)) all i
+
+-- what holds in any case holds where memory is wanted, and where there is a result
 pub in_any_case : {T E P : Type 0} (r : Result T E) → P → OnErr r P
 in_any_case (Ok x) p = tt
 in_any_case (Err e) p = p
+
+pub in_ok_case : {T E P : Type 0} (r : Result T E) → P → OnOk r P
+in_ok_case (Ok x) p = p
+in_ok_case (Err e) p = tt

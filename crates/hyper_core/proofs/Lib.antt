@@ -18,7 +18,6 @@ pub mod PacketOuts
 pub mod Ports
 pub mod Served
 pub mod Seen
-pub mod WrittenByKey
 pub mod MemberBodies
 pub mod Placed
 pub mod Requesting
@@ -53,3 +52,13 @@ pub mod Present
 pub mod Recomposed
 pub mod StaysSettled
 pub mod Unneeded
+pub mod Kept
+pub mod SameWanted
+pub mod ToldChanges
+pub mod Wanted
+pub mod Ported
+pub mod OneTurn
+pub mod Serials
+pub mod Sourced
+pub mod Following
+pub mod KeptOn

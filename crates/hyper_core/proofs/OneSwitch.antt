@@ -1,7 +1,7 @@
 -- What is written to one switch is what composing makes of it, and of the switch of a number among all.
 use Rattle.std.proofs.Common.{◌≡◌, ◌∙◌, ℕ, zero, suc, ◌<◌, Bool, true, false, List, [], ◌∷◌, ◌++◌, length, get_or, set}
 use Rattle.std.proofs.Common.{map, slice_get}
-use Rattle.std.proofs.Common.{Option, Some, refl, sym, ap}
+use Rattle.std.proofs.Common.{Option, Some, refl, sym, ap, subst}
 use Rattle.std.specs.Prelude.{if◌then◌else◌, unwrap_or}
 use Rattle.agreement.specs.Entries.{entries_of}
 use Rattle.agreement.specs.declared.state.Setting.{Setting}
@@ -23,7 +23,9 @@ use Rattle.machine_meaning.specs.declared.said.Letter.{Letter}
 use Rattle.machine_meaning.proofs.Places.{map-set_changed, map-set_same, slice_get-map}
 use Rattle.hyper_core.specs.Composed.{IsWrittenTo, with_composed, with_switch}
 use Rattle.hyper_core.specs.Outcomes.{standing_in, switch_bases, switches_in}
+use Rattle.hyper_core.specs.Settled.{IsSettled}
 use Rattle.hyper_core.specs.SwitchDrafts.{SwitchDraftOf, with_written}
+use Rattle.hyper_core.proofs.Unneeded.{nothing_written}
 
 -- what f makes of the item at a place is put there
 put_made : {A : Type 0} (f : A → A) (xs : List A) (n : ℕ) (x y : A) → slice_get xs n ≡ Some x → y ≡ f x
@@ -87,6 +89,28 @@ module _ (setting : Setting) (d : Draft) (n : ℕ) (begun : Option Who) (x : Swi
       if b then write n x.now wanted (batch_between d.state.next_cookie (standing_of d.state n) wanted) d else d)
       down in
       (λ i. with_composed (switches i) (stands i) (counted i) (cookies i) (said i) d) ∙ sym is
+
+  -- nor to one that is up, on which stands what is wanted, and whose round doesn't begin
+  pub composed_still : (counts : CountsOf) (next : ℕ) (batches : List Letter)
+      → IsWrittenTo d n begun x counts next batches → x.now.outbox.up ≡ true → is_switch n begun ≡ false
+      → IsSettled x.standing (installed (entries_of setting n))
+      → with_switch n x counts next batches d ≡ compose_at setting d n
+  composed_still counts next batches h up begins settled =
+      let wanted = installed (entries_of setting n) in
+      let switches = put_same d.state.switches n x.now h.switch in
+      let stands = put_same d.state.standing n x.standing h.standing in
+      let counted = sym h.counts_are in
+      let cookies = sym h.next_is in
+      let said = sym h.batches_are in
+      let batch = batch_between d.state.next_cookie (standing_of d.state n) wanted in
+      let is : compose_at setting d n ≡ write n x.now wanted batch d =
+      ap (λ (o : Option SwitchOf). compose_on n o wanted d) h.switch
+      ∙ ap (λ (b : Bool). if b then write n x.now wanted batch d else d) up in
+      let same : write n x.now wanted batch d ≡ d =
+      nothing_written n x.now wanted d h.switch (record { standing = x.standing; at = h.standing })
+      (λ ws at. let e : x.standing ≡ ws = cc in subst (λ (z : List Written). IsSettled z wanted) e settled)
+      (ap (is_switch n) h.begins ∙ begins) in
+      (λ i. with_composed (switches i) (stands i) (counted i) (cookies i) (said i) d) ∙ sym (is ∙ same)
 
   -- what is written to a switch that is up
   pub composed_up : (y : SwitchDraftOf) (counts after : CountsOf) (next later : ℕ) (batches longer : List Letter)

@@ -1,5 +1,6 @@
 -- An event that isn't answered at once is a taking, or goes through the phases.
-use Rattle.std.proofs.Common.{◌≡◌, ◌∙◌, ℕ, List, Some, None, length, refl, ap, subst, sym}
+use Rattle.std.proofs.Common.{◌≡◌, ◌∙◌, ℕ, List, Option, Some, None, length, refl, ap, subst, sym}
+use Rattle.composed_tables.specs.Composing.{ComposedOf}
 use Rattle.cv_io.specs.declared.leaf.Session.{Session}
 use Rattle.policy_file.specs.Policies.{PolicyOf}
 use Rattle.stats_map.specs.Counting.{CountsOf}
@@ -7,6 +8,7 @@ use Rattle.stats_map.specs.Told.{HeldOf, told}
 use Rattle.machine_meaning.specs.Glances.{glance_of}
 use Rattle.machine_meaning.specs.Hearing.{heard}
 use Rattle.hyper_core.specs.CookieCounts.{with_counts}
+use Rattle.hyper_core.specs.Kept.{IsKept, IsSoundWhile}
 use Rattle.hyper_core.specs.Machines.{HasAll, holding_of, state_held, state_in_held}
 use Rattle.hyper_core.specs.Moments.{taking_in}
 use Rattle.machine_meaning.specs.Phases.{drafted}
@@ -19,6 +21,7 @@ use Rattle.events.specs.declared.event.Reply.{Reply}
 use Rattle.hyper_core.specs.declared.held.Held.{Held}
 use Rattle.hyper_core.specs.declared.hearing.CookieCount.{CookieCount}
 use Rattle.hyper_core.proofs.Attempts.{has_all_kept}
+use Rattle.hyper_core.proofs.KeptOn.{kept_none}
 use Rattle.hyper_core.proofs.StaysSettled.{drafted_settled, left_settled}
 use Rattle.events.specs.declared.event.Event.TheVariants.{Up, Msg, Gone, Tick, Take, Policy}
 
@@ -96,9 +99,17 @@ settled_done p s e reply new is =
     subst (IsSettledState p) (sym (ap (λ (x : Reply × State). x.1) is)) (drafted_settled p s e)
 
 -- a copy has what is true of what is held
-pub held_copied : (p q : PolicyOf) (h new : Held) → q ≡ p → holding_of new ≡ holding_of h
-    → HasAll p h × IsSettledState p (state_in_held h) → HasAll q new × IsSettledState q (state_in_held new)
-held_copied p q h new same is i =
+pub held_copied : (p q : PolicyOf) (h new : Held) (k : Option ComposedOf) → q ≡ p → holding_of new ≡ holding_of h
+    → HasAll p h × (IsSettledState p (state_in_held h) × IsKept p (state_in_held h) k)
+    → HasAll q new × (IsSettledState q (state_in_held new) × IsKept q (state_in_held new) None)
+held_copied p q h new k same is i =
     let state = ap state_held is in
-    subst (λ (z : PolicyOf). HasAll z new × IsSettledState z (state_in_held new)) (sym same)
-    (has_all_kept p h new i.0 state, subst (IsSettledState p) (sym state) i.1)
+    subst
+    (λ (z : PolicyOf). HasAll z new × (IsSettledState z (state_in_held new) × IsKept z (state_in_held new) None))
+    (sym same) (
+      has_all_kept p h new i.0 state,
+      (
+        subst (IsSettledState p) (sym state) i.1.0,
+        kept_none p (state_in_held new) (subst (IsSoundWhile p) (sym state) i.1.1.sound),
+      ),
+    )

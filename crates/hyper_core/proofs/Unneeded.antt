@@ -37,9 +37,9 @@ use Rattle.hyper_core.proofs.StaysSettled.{settled_same}
 -- composing what is settled -----------------------------------------------------------------------------------------
 
 -- something stands on the switch of a number, if it is nothing
-record Stood (s : State) (n : ℕ) : Type 0 where
-  standing : List Written
-  at : slice_get s.standing n ≡ Some standing
+pub record Stood (s : State) (n : ℕ) : Type 0 where
+  pub standing : List Written
+  pub at : slice_get s.standing n ≡ Some standing
 
 known_stays : (n : ℕ) (x : SwitchOf) (d : Draft) → slice_get d.state.switches n ≡ Some x
     → changed_at n (sent_to (record { known = x.known; messages = [] })) d.state.switches ≡ d.state.switches
@@ -62,7 +62,7 @@ empty_written n x wanted d e h =
       batches = batches i;
     }
 
-nothing_written : (n : ℕ) (x : SwitchOf) (wanted : List PhysEntry) (d : Draft) → slice_get d.state.switches n ≡ Some x
+pub nothing_written : (n : ℕ) (x : SwitchOf) (wanted : List PhysEntry) (d : Draft) → slice_get d.state.switches n ≡ Some x
     → Stood d.state n → ((stood : List Written) → slice_get d.state.standing n ≡ Some stood → IsSettled stood wanted)
     → is_switch n d.begun ≡ false
     → write n x wanted (batch_between d.state.next_cookie (standing_of d.state n) wanted) d ≡ d
@@ -107,7 +107,7 @@ nothing_composed p d settled stood b =
 
 -- what composition reads --------------------------------------------------------------------------------------------
 
-same_kept : (xs : List MemberDraftOf) → AllByRecursion IsUnplanned xs
+pub same_kept : (xs : List MemberDraftOf) → AllByRecursion IsUnplanned xs
     → map kept_of (members_in xs) ≡ map kept_of (map member_of (member_bases xs))
 same_kept [] h = refl
 same_kept (x ∷ xs) h = ap₂ (λ (k : MemberStateOf) (ks : List MemberStateOf). k ∷ ks) h.0 (same_kept xs h.1)

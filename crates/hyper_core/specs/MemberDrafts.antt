@@ -1,9 +1,15 @@
 -- What an event makes of a member, beside the member as it stands.
-use Rattle.std.specs.Prelude.{◌≡◌, ℕ, Option, Some, None}
+use Rattle.std.specs.Prelude.{◌≡◌, ℕ, Option, Some, None, List, IsPermutation}
+use Rattle.grants.specs.declared.grant.Grant.{Grant}
+use Rattle.incr_compile.specs.Compiling.{rules_after}
+use Rattle.incr_compile.specs.declared.compiled.LeafDelta.{LeafDelta}
+use Rattle.member_state.specs.Leaves.{leaf_of}
 use Rattle.member_state.specs.Plans.{IsReady, after_planned}
 use Rattle.member_state.specs.States.{HeldState, MemberStateOf}
 use Rattle.member_state.specs.declared.planned.Planned.{Planned}
+use Rattle.leaf_changes.specs.Plans.{IsPlanOf}
 use Rattle.outbox.specs.Outboxes.{turned}
+use Rattle.policy_meaning.specs.LeafRules.{leaf_rules}
 use Rattle.outbox.specs.declared.outbox.Turn.{Turn}
 use Rattle.machine_meaning.specs.States.{MemberOf}
 use Rattle.hyper_core.specs.Views.{member_of}
@@ -28,6 +34,11 @@ abbrev pub IsReadyPlan : HeldState → Option Planned → Type 0
 IsReadyPlan h None = Unit {0}
 IsReadyPlan h (Some planned) = IsReady h planned
 
+-- and its changes told
+abbrev pub IsPlannedOf : MemberStateOf → Option Planned → Type 0
+IsPlannedOf x None = Unit {0}
+IsPlannedOf x (Some planned) = IsPlanOf x planned
+
 -- the member after a turn of its session, with this configuration, and after what is planned
 abbrev pub member_after : Member → ℕ → Turn → Config → Option Planned → MemberOf
 member_after x now turn config planned = record {
@@ -43,6 +54,13 @@ with_now f d = record d { now = f d.now }
 -- the table and the levels are as they stand
 abbrev pub IsUnplanned : MemberDraftOf → Type 0
 IsUnplanned d = d.now.kept ≡ d.base.kept.state
+
+-- so the rules of the member of a number, with this grant, at a virtual switch of these ports, change with what is planned
+pub record IsLeafDelta (n : ℕ) (grant : Grant) (ports : List ℕ) (d : MemberDraftOf) (delta : LeafDelta) : Type 0 where
+  pub member : delta.member ≡ n
+  pub rules :
+      IsPermutation (rules_after delta (leaf_rules ports (leaf_of n grant d.base.kept.state)))
+      (leaf_rules ports (leaf_of n grant d.now.kept))
 
 -- the table with its levels that is read of a draft
 abbrev pub kept_state : Kept → MemberStateOf

@@ -29,7 +29,7 @@ fn stay_members<'a>(
 {
     let mut drafts = List::new(alloc);
     for member in members {
-        drafts.push(MemberDraft::stay(member, now))?;
+        drafts.push(MemberDraft::stay(alloc, member, now))?;
     }
     Ok(drafts)
 }

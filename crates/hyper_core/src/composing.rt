@@ -1,6 +1,7 @@
 //! Each switch that is up is written the change from the entries that stand to those that the setting gives.
-ghost use Rattle.std.specs.Prelude.{◌≡◌, ◌<◌, ◌^◌, ◌++◌, [], IfOk, OnOk, length, map};
-ghost use Rattle.agreement.specs.Fitting.{IsFittingSetting};
+ghost use Rattle.std.specs.Prelude.{◌≡◌, ◌==◌, ℕ, ◌<◌, ◌+◌, ◌^◌, ◌++◌, [], IfSome, IsTrue, OnOk, Some, false, length, map};
+ghost use Rattle.std.specs.Prelude.{slice_get};
+ghost use Rattle.agreement.specs.declared.state.Setting.{Setting as SettingOf};
 ghost use Rattle.cv_io.specs.declared.leaf.Who.{Who as WhoOf};
 ghost use Rattle.install_plan.specs.declared.written.Batch.{Batch as BatchOf};
 ghost use Rattle.stats_map.specs.Told.{told};
@@ -11,24 +12,29 @@ ghost use Rattle.hyper_core.specs.Composed.{IsWrittenTo, with_composed, with_swi
 ghost use Rattle.machine_meaning.specs.Composing.{compose as compose_of, compose_all as compose_all_of};
 ghost use Rattle.machine_meaning.specs.Composing.{compose_at as compose_at_of};
 ghost use Rattle.machine_meaning.specs.Drafts.{Draft, letter};
+ghost use Rattle.hyper_core.specs.Kept.{DraftsHaveSerials, IsComposedOf, IsKeptBy};
 ghost use Rattle.hyper_core.specs.Outcomes.{bases, draft_in, standing_in, switch_bases, switches_in};
 ghost use Rattle.machine_meaning.specs.Sessions.{is_switch};
 ghost use Rattle.hyper_core.specs.Settled.{WasSettled};
-ghost use Rattle.hyper_core.specs.SwitchDrafts.{with_written};
+ghost use Rattle.hyper_core.specs.Sources.{CanGive, Gives, GivesAll};
+ghost use Rattle.hyper_core.specs.SwitchDrafts.{SwitchDraftOf, with_written};
 
-use crate::batches::{Change, can_send, change_between};
-use crate::composed::{fitting, wanted};
+use crate::composed::fitting;
+use crate::keeping::compose_kept;
+use crate::member_draft::MemberDraft;
 use crate::outcome::Outcome;
 use crate::setup::Setup;
+use crate::sources::Source;
 use crate::switch_draft::SwitchDraft;
 use crate::unchanged::is_unchanged;
-use agreement::Setting;
+use composed_tables::Composed;
 use cv_io::{List, Memory, Who};
 use install_plan::Written;
 use machine_meaning::Letter;
 use outbox::Letters;
 use stats_map::Pending;
 use std::alloc::Global;
+use told_batches::{Change, can_send};
 
 /// Whether the round of the switch of a number begins.
 fn begins(begun: &Option<Who>, n: u32) -> bool
@@ -89,10 +95,10 @@ fn write(
     say_all(batches, n, messages)
 }
 
-/// A switch that is up is written the change to the entries that the setting gives.
+/// A switch that is up is written the change to the entries that are wanted of it.
 fn compose_at(
     alloc: Global,
-    setting: &Setting,
+    source: &Source<'_>,
     begun: &Option<Who>,
     n: u32,
     switch: &mut SwitchDraft<'_>,
@@ -100,22 +106,23 @@ fn compose_at(
     next_cookie: &mut u64,
     batches: &mut List<Letter>,
 ) -> Result<(), Memory>
-    requires { IsFittingSetting setting.now }
+    requires { CanGive source.now (n + 1) }
     ensures base { OnOk result (switch.new.base ≡ switch.old.base) }
     ensures counts_base { OnOk result (counts.new.base ≡ counts.old.base) }
-    ensures composed { OnOk result ((d : Draft)
+    ensures composed { OnOk result ((t : SettingOf) → Gives t n source.now switch.old → (d : Draft)
         → IsWrittenTo d n begun.now switch.old (told counts.old.now) next_cookie.old batches.old
-        → with_switch n switch.new (told counts.new.now) next_cookie.new batches.new d
-        ≡ compose_at_of setting.now d n) }
+        → with_switch n switch.new (told counts.new.now) next_cookie.new batches.new d ≡ compose_at_of t d n) }
 {
     if !switch.is_up() {
         return Ok(());
     }
-    let wanted = wanted(alloc, setting, n)?;
-    let change = change_between(alloc, *next_cookie, switch.standing(), &wanted)?;
+    let begins = begins(begun, n);
+    let Some(change) = source.change(alloc, begins, n, *next_cookie, switch)? else {
+        return Ok(());
+    };
     let next = change.next;
     count_all(counts, n, change.batch.adds.as_slice())?;
-    write(alloc, begins(begun, n), n, change, switch, batches)?;
+    write(alloc, begins, n, change, switch, batches)?;
     *next_cookie = next;
     Ok(())
 }
@@ -123,7 +130,7 @@ fn compose_at(
 /// The switch of a number is composed.
 fn compose_nth(
     alloc: Global,
-    setting: &Setting,
+    source: &Source<'_>,
     begun: &Option<Who>,
     n: u32,
     switches: &mut [SwitchDraft<'_>],
@@ -131,21 +138,24 @@ fn compose_nth(
     next_cookie: &mut u64,
     batches: &mut List<Letter>,
 ) -> Result<(), Memory>
-    requires fits { IsFittingSetting setting.now }
+    requires can { CanGive source.now (n + 1) }
     requires there { n < length switches.old }
     ensures bases { OnOk result (switch_bases switches.new ≡ switch_bases switches.old) }
     ensures long { length switches.new ≡ length switches.old }
+    ensures others { (m : ℕ) → (m == n) ≡ false → slice_get switches.new m ≡ slice_get switches.old m }
     ensures counts_base { OnOk result (counts.new.base ≡ counts.old.base) }
-    ensures composed { OnOk result ((d : Draft) → d.begun ≡ begun.now
+    ensures composed { OnOk result ((t : SettingOf)
+        → ((x : SwitchDraftOf) → slice_get switches.old n ≡ Some x → Gives t n source.now x)
+        → (d : Draft) → d.begun ≡ begun.now
         → with_composed (switches_in switches.new) (standing_in switches.new) (told counts.new.now) next_cookie.new
         batches.new d
-        ≡ compose_at_of setting.now (with_composed (switches_in switches.old) (standing_in switches.old)
+        ≡ compose_at_of t (with_composed (switches_in switches.old) (standing_in switches.old)
         (told counts.old.now) next_cookie.old batches.old d) n) }
 {
     let place = n as usize;
     compose_at(
         alloc,
-        setting,
+        source,
         begun,
         n,
         &mut switches[place],
@@ -159,29 +169,30 @@ fn compose_nth(
 /// Switches are composed in the order of the file.
 fn compose_all(
     alloc: Global,
-    setting: &Setting,
+    source: &Source<'_>,
     begun: &Option<Who>,
     switches: &mut [SwitchDraft<'_>],
     counts: &mut Pending<'_>,
     next_cookie: &mut u64,
     batches: &mut List<Letter>,
 ) -> Result<(), Memory>
-    requires fits { IsFittingSetting setting.now }
+    requires can { CanGive source.now (length switches.old) }
     requires few { length switches.old < 2 ^ 32 }
     ensures long { OnOk result (length switches.new ≡ length switches.old) }
     ensures bases { OnOk result (switch_bases switches.new ≡ switch_bases switches.old) }
     ensures counts_base { OnOk result (counts.new.base ≡ counts.old.base) }
-    ensures composed { OnOk result ((d : Draft) → d.begun ≡ begun.now
+    ensures composed { OnOk result ((t : SettingOf) → GivesAll t source.now switches.old
+        → (d : Draft) → d.begun ≡ begun.now
         → with_composed (switches_in switches.new) (standing_in switches.new) (told counts.new.now) next_cookie.new
         batches.new d
-        ≡ compose_all_of setting.now (with_composed (switches_in switches.old) (standing_in switches.old)
+        ≡ compose_all_of t (with_composed (switches_in switches.old) (standing_in switches.old)
         (told counts.old.now) next_cookie.old batches.old d)) }
 {
     let count = switches.len() as u32;
     for n in 0..count {
         compose_nth(
             alloc,
-            setting,
+            source,
             begun,
             n,
             switches,
@@ -190,6 +201,32 @@ fn compose_all(
             batches,
         )?;
     }
+    Ok(())
+}
+
+/// The switches of a draft are composed of what is wanted of them.
+pub(crate) fn compose_from(
+    alloc: Global,
+    source: &Source<'_>,
+    draft: &mut Outcome<'_>,
+) -> Result<(), Memory>
+    requires { CanGive source.now (length draft.old.switches) }
+    ensures drafted { OnOk result ((t : SettingOf) → GivesAll t source.now draft.old.switches
+        → draft_in draft.new ≡ compose_all_of t (draft_in draft.old)) }
+    ensures bases { OnOk result (bases draft.new ≡ bases draft.old) }
+{
+    if draft.switches.len() > u32::MAX as usize {
+        return Err(Memory);
+    }
+    compose_all(
+        alloc,
+        source,
+        &draft.begun,
+        draft.switches.as_mut_slice(),
+        &mut draft.counts,
+        &mut draft.next_cookie,
+        &mut draft.batches,
+    )?;
     Ok(())
 }
 
@@ -204,30 +241,40 @@ fn compose_anew(setup: &Setup, draft: &mut Outcome<'_>) -> Result<(), Memory>
         draft.members.as_slice(),
         draft.switches.as_slice(),
     )?;
-    if draft.switches.len() > u32::MAX as usize {
-        return Err(Memory);
-    }
-    compose_all(
-        setup.alloc(),
-        &setting,
-        &draft.begun,
-        draft.switches.as_mut_slice(),
-        &mut draft.counts,
-        &mut draft.next_cookie,
-        &mut draft.batches,
-    )?;
-    Ok(())
+    compose_from(setup.alloc(), &Source::Anew(&setting), draft)
+}
+
+/// Each member has a serial number left for an entry. So they have, always.
+fn have_serials(members: &[MemberDraft<'_>]) -> bool
+    ensures { IsTrue result → DraftsHaveSerials members.now }
+{
+    members.iter().all(|member| member.has_serial())
 }
 
 /// Each switch that is up is written the change from the entries that stand to those that the setting gives. There is
-/// none where the event changed nothing that composition reads.
-pub(crate) fn compose(setup: &Setup, draft: &mut Outcome<'_>) -> Result<(), Memory>
-    requires { WasSettled setup.now (bases draft.old) }
+/// none where the event changed nothing that composition reads. What is kept follows the event, unless an expression is
+/// replaced.
+pub(crate) fn compose(
+    setup: &Setup,
+    draft: &mut Outcome<'_>,
+    composed: &mut Option<Composed>,
+) -> Result<(), Memory>
+    requires settled { WasSettled setup.now (bases draft.old) }
+    requires kept { IfSome composed.old (IsKeptBy setup.now (bases draft.old) (draft_in draft.old).state) }
     ensures drafted { OnOk result (draft_in draft.new ≡ compose_of setup.now (draft_in draft.old)) }
     ensures bases { OnOk result (bases draft.new ≡ bases draft.old) }
+    ensures kept { OnOk result (IfSome composed.new (IsComposedOf setup.now (draft_in draft.old).state)) }
 {
     if is_unchanged(draft) {
         return Ok(());
     }
-    compose_anew(setup, draft)
+    let Some(mut kept) = composed.take() else {
+        return compose_anew(setup, draft);
+    };
+    if !draft.exprs.is_kept() || !have_serials(draft.members.as_slice()) {
+        return compose_anew(setup, draft);
+    }
+    compose_kept(setup, draft, &mut kept)?;
+    *composed = Some(kept);
+    Ok(())
 }

@@ -1,15 +1,16 @@
 //! An event is drafted: it goes through its phases, anew where sessions are put more than they may be.
-ghost use Rattle.std.specs.Prelude.{◌≡◌, IfOk, OnOk};
+ghost use Rattle.std.specs.Prelude.{◌≡◌, IfOk, IfSome, OnOk};
 ghost use Rattle.hyper_core.specs.Acts.{IsJudgedFor};
 ghost use Rattle.hyper_core.specs.Closings.{closing_of};
 ghost use Rattle.hyper_core.specs.Drafting.{IsDraftOf, IsPutOf};
+ghost use Rattle.hyper_core.specs.Kept.{IsBegun, IsComposedOf};
 ghost use Rattle.hyper_core.specs.Machines.{bases_of, state_in_held};
 ghost use Rattle.hyper_core.specs.Moments.{moment_of as moment_of_event};
 ghost use Rattle.hyper_core.specs.Outcomes.{bases, draft_in};
 ghost use Rattle.hyper_core.specs.Overtaking.{IsHeardOf, IsWhole};
 ghost use Rattle.hyper_core.specs.Puts.{HaveNumbers};
 ghost use Rattle.hyper_core.specs.Settled.{IsSettledState};
-ghost use Rattle.machine_meaning.specs.Phases.{draft_of, drafted as drafted_of};
+ghost use Rattle.machine_meaning.specs.Phases.{draft_of, drafted as drafted_of, settled_of, slow as slow_of};
 ghost use Rattle.machine_meaning.specs.Rounds.{close as close_of};
 
 use crate::acting::{act, judge_event};
@@ -25,6 +26,7 @@ use crate::rounds;
 use crate::settling::settle;
 use crate::setup::Setup;
 use crate::telling::tell;
+use composed_tables::Composed;
 use cv_io::Memory;
 use events::Event;
 use std::alloc::Global;
@@ -60,16 +62,20 @@ fn draft<'a>(
     judged: Option<Judged>,
     heard: &Heard,
     closing: &Closing,
+    composed: &mut Option<Composed>,
 ) -> Result<Outcome<'a>, Memory>
     requires numbers { HaveNumbers (bases_of (moment_of_event event.now held.now.moment) held.now) }
     requires whole { IsWhole event.now }
     requires judged { IsJudgedFor setup.now held.now event.now judged }
     requires heard { IsHeardOf event.now heard.now (state_in_held held.now) }
     requires settled { IsSettledState setup.now (state_in_held held.now) }
+    requires kept { IfSome composed.old (IsBegun setup.now (state_in_held held.now) event.now) }
     ensures draft { IfOk result (λ o.
         draft_in o ≡ draft_of setup.now (state_in_held held.now) event.now (closing_of closing.now)) }
     ensures bases { IfOk result (λ o.
         bases o ≡ bases_of (moment_of_event event.now held.now.moment) held.now) }
+    ensures kept { OnOk result (IfSome composed.new (IsComposedOf setup.now
+        (settled_of setup.now (state_in_held held.now) event.now (closing_of closing.now)).state)) }
 {
     let alloc = setup.alloc();
     let now = moment_of(event, held.moment);
@@ -77,7 +83,7 @@ fn draft<'a>(
     act(setup, &mut draft, event, judged, heard)?;
     close(alloc, &mut draft, closing)?;
     settle(setup, &mut draft)?;
-    compose(setup, &mut draft)?;
+    compose(setup, &mut draft, composed)?;
     tell(setup, &mut draft)?;
     Ok(draft)
 }
@@ -91,16 +97,20 @@ fn attempt(
     heard: &Heard,
     closing: &Closing,
     last: bool,
+    composed: &mut Option<Composed>,
 ) -> Result<Trial, Memory>
     requires numbers { HaveNumbers (bases_of (moment_of_event event.now held.old.moment) held.old) }
     requires whole { IsWhole event.now }
     requires heard { IsHeardOf event.now heard.now (state_in_held held.old) }
     requires settled { IsSettledState setup.now (state_in_held held.old) }
+    requires kept { IfSome composed.old (IsBegun setup.now (state_in_held held.old) event.now) }
     ensures put { IfOk result (IsPutOf setup.now held.new event.now (closing_of closing.now) last) }
     ensures state { state_in_held held.new ≡ state_in_held held.old }
+    ensures kept { OnOk result (IfSome composed.new (IsComposedOf setup.now
+        (settled_of setup.now (state_in_held held.old) event.now (closing_of closing.now)).state)) }
 {
     let judged = judge_event(setup, held, event)?;
-    let drafted = draft(setup, held, event, judged, heard, closing)?;
+    let drafted = draft(setup, held, event, judged, heard, closing, composed)?;
     put(setup, drafted, last)
 }
 
@@ -110,22 +120,28 @@ pub(crate) fn draft_event(
     held: &mut Held,
     event: &Event,
     heard: &Heard,
+    composed: &mut Option<Composed>,
 ) -> Result<Drafted, Memory>
     requires numbers { HaveNumbers (bases_of (moment_of_event event.now held.old.moment) held.old) }
     requires whole { IsWhole event.now }
     requires heard { IsHeardOf event.now heard.now (state_in_held held.old) }
     requires settled { IsSettledState setup.now (state_in_held held.old) }
+    requires kept { IfSome composed.old (IsBegun setup.now (state_in_held held.old) event.now) }
     ensures draft { IfOk result (IsDraftOf held.new event.now
         (drafted_of setup.now (state_in_held held.old) event.now) setup.now) }
     ensures state { state_in_held held.new ≡ state_in_held held.old }
+    ensures kept { OnOk result (IfSome composed.new (IsComposedOf setup.now (settled_of setup.now
+        (state_in_held held.old) event.now (slow_of setup.now (state_in_held held.old) event.now)).state)) }
 {
     let mut closing = Closing::nobody(setup.alloc());
     let mut left = held.switches.len() + held.members.len();
     loop {
-        match attempt(setup, held, event, heard, &closing, left == 0)? {
+        match attempt(setup, held, event, heard, &closing, left == 0, composed)? {
             Trial::Ready(drafted) => return Ok(drafted),
             Trial::Slow(more) => closing.join(more)?,
         }
+        // It may have followed the draft that is dropped.
+        *composed = None;
         left -= 1;
     }
 }

@@ -78,6 +78,8 @@ fn plan_at(members: &mut [MemberDraft<'_>], n: u32, change: &FlowMod, planned: P
     ensures bases { member_bases members.new ≡ member_bases members.old }
     ensures moments { moments_of members.new ≡ moments_of members.old }
 {
+    // The proof learns what is true of every table.
+    let _ = members[n as usize].table_before().len();
     members[n as usize].plan(planned);
 }
 

@@ -18,6 +18,7 @@ use crate::starting::open as open_held;
 use crate::stepping::step as step_held;
 use crate::views::{installed, round, rules};
 use crate::worlds::{Tables, copied_tables, followed};
+use composed_tables::Composed;
 use cv_io::{Duplicate, Memory, Who};
 use events::{Event, Reply};
 use install_plan::Written;
@@ -32,10 +33,13 @@ use virtual_topology::Topology;
 pub struct Hyper {
     setup: Setup,
     held: Held,
+    /// The composed part of what is held, where it is kept; else it is composed from scratch.
+    composed: Option<Composed>,
 }
 
 impl Model for Hyper {
     ghost use Rattle.hyper_core.specs.Machines.{HasAll, MachineOf, holding_of, state_in_held};
+    ghost use Rattle.hyper_core.specs.Kept.{IsKept};
     ghost use Rattle.hyper_core.specs.Settled.{IsSettledState};
 
     ghost Value = { MachineOf };
@@ -47,8 +51,10 @@ impl Model for Hyper {
 
     ghost view = { λ a. record { plan = a.setup; holding = holding_of a.held } };
 
-    // There is a member for each of the policy's, and a switch. What stands on switches is what the setting gives.
-    ghost invariant = { λ a. HasAll a.setup a.held × IsSettledState a.setup (state_in_held a.held) };
+    // There is a member for each of the policy's, and a switch. What stands on switches is what the setting gives. The
+    // state is sound as long as numbers are left, and the composed part that is kept is that of its setting.
+    ghost invariant = { λ a. HasAll a.setup a.held
+        × (IsSettledState a.setup (state_in_held a.held) × IsKept a.setup (state_in_held a.held) a.composed) };
 }
 
 impl Hyper {
@@ -59,7 +65,11 @@ impl Hyper {
     {
         let setup = Setup::make(alloc, policy)?;
         let held = open_held(&setup)?;
-        Ok(Hyper { setup, held })
+        Ok(Hyper {
+            setup,
+            held,
+            composed: None,
+        })
     }
 
     /// The reply of an event that changes nothing, and None for every other.
@@ -76,7 +86,7 @@ impl Hyper {
         ensures plan { self.new.plan ≡ self.old.plan }
         ensures memory { OnErr result (state_of self.new ≡ state_of self.old) }
     {
-        step_held(&self.setup, &mut self.held, event)
+        step_held(&self.setup, &mut self.held, event, &mut self.composed)
     }
 }
 
@@ -142,6 +152,10 @@ impl Duplicate for Hyper {
     fn copy(&self) -> Result<Hyper, Memory> {
         let setup = self.setup.copy()?;
         let held = copied_held(&setup, &self.held)?;
-        Ok(Hyper { setup, held })
+        Ok(Hyper {
+            setup,
+            held,
+            composed: None,
+        })
     }
 }

@@ -1,9 +1,15 @@
 //! What an event makes of a member, beside the member as it stands.
-ghost use Rattle.std.specs.Prelude.{◌≡◌, ℕ, IfOk, IsTrue, OnOk, filter};
+ghost use Rattle.std.specs.Prelude.{◌≡◌, ℕ, IfOk, IfSome, IsTrue, None, OnOk, filter};
+ghost use Rattle.std.specs.List.{AllByRecursion};
 ghost use Rattle.member_state.specs.Changes.{expired, is_told, touched, without};
 ghost use Rattle.member_state.specs.Plans.{IsReady, after_planned};
-ghost use Rattle.hyper_core.specs.MemberDrafts.{IsReadyPlan, IsUnplanned, kept_after, kept_state};
+ghost use Rattle.of10_actions.specs.Ports.{AreRising};
+ghost use Rattle.of10_match.specs.Normal.{IsNormal};
+ghost use Rattle.hyper_core.specs.Kept.{HasSerial};
+ghost use Rattle.hyper_core.specs.MemberDrafts.{IsLeafDelta, IsPlannedOf, IsReadyPlan, IsUnplanned, kept_after};
+ghost use Rattle.hyper_core.specs.MemberDrafts.{kept_state};
 ghost use Rattle.hyper_core.specs.MemberDrafts.{standing_member, with_now};
+ghost use Rattle.leaf_changes.specs.Plans.{IsPlanOf};
 ghost use Rattle.hyper_core.specs.Moving.{IsMemberPart, member_moved, member_put};
 ghost use Rattle.machine_meaning.specs.MemberMessages.{with_config};
 ghost use Rattle.machine_meaning.specs.Removing.{due_in, with_kept};
@@ -12,10 +18,14 @@ ghost use Rattle.hyper_core.specs.Views.{member_of};
 
 use crate::session::Member;
 use cv_io::{List, Memory};
+use grants::Grant;
+use incr_compile::LeafDelta;
+use leaf_changes::{leaf_delta, plans};
 use machine_meaning::Config;
 use member_state::{MemberState, Planned};
 use member_table::{Entry, Table};
 use outbox::{Letters, Outbox, Turn};
+use std::alloc::Global;
 use std::marker::Model;
 
 /// The configuration that a round begins with.
@@ -48,6 +58,7 @@ pub(crate) struct MemberPart {
 /// A member as it stands, and what an event makes of it.
 #[derive(Drop)]
 pub(crate) struct MemberDraft<'a> {
+    alloc: Global,
     base: &'a Member,
     moment: u64,
     turn: Turn,
@@ -56,7 +67,7 @@ pub(crate) struct MemberDraft<'a> {
 }
 
 impl<'a> Model for MemberDraft<'a> {
-    ghost use Rattle.hyper_core.specs.MemberDrafts.{IsReadyPlan, MemberDraftOf, member_after};
+    ghost use Rattle.hyper_core.specs.MemberDrafts.{IsPlannedOf, IsReadyPlan, MemberDraftOf, member_after};
 
     ghost Value = { MemberDraftOf };
 
@@ -66,8 +77,8 @@ impl<'a> Model for MemberDraft<'a> {
       now = member_after a.base.now a.moment a.turn a.config a.planned;
     } };
 
-    // What is planned can be made.
-    ghost invariant = { λ a. IsReadyPlan a.base.now.kept a.planned };
+    // What is planned can be made, and its changes told.
+    ghost invariant = { λ a. IsReadyPlan a.base.now.kept a.planned × IsPlannedOf a.base.now.kept.state a.planned };
 }
 
 impl<'a> Kept<'a> {
@@ -83,25 +94,32 @@ impl<'a> Kept<'a> {
 }
 
 /// Takes what is planned, or what changes nothing where nothing is.
-fn planned_so_far(planned: &mut Option<Planned>, kept: &MemberState) -> Result<Planned, Memory>
-    requires { IsReadyPlan kept.now planned.old }
+fn planned_so_far(
+    alloc: Global,
+    planned: &mut Option<Planned>,
+    kept: &MemberState,
+) -> Result<Planned, Memory>
+    requires ready { IsReadyPlan kept.now planned.old }
+    requires plan { IsPlannedOf kept.now.state planned.old }
     ensures planned { IfOk result (λ p. (now : ℕ) →
         after_planned kept.now.state p now ≡ kept_after kept.now.state planned.old now) }
     ensures ready { IfOk result (IsReady kept.now) }
+    ensures plan { IfOk result (IsPlanOf kept.now.state) }
     ensures taken { planned.new ≡ None }
 {
     match planned.take() {
         Some(planned) => Ok(planned),
-        None => kept.stay(),
+        None => plans::stay(alloc, kept),
     }
 }
 
 impl<'a> MemberDraft<'a> {
     /// The member stays as it is.
-    pub(crate) fn stay(base: &'a Member, moment: u64) -> MemberDraft<'a>
+    pub(crate) fn stay(alloc: Global, base: &'a Member, moment: u64) -> MemberDraft<'a>
         ensures { result ≡ standing_member moment base.now }
     {
         MemberDraft {
+            alloc,
             base,
             moment,
             turn: base.outbox.stay(),
@@ -176,7 +194,8 @@ impl<'a> MemberDraft<'a> {
 
     /// The change of a message that was judged is planned: the table is to be as it stands.
     pub(crate) fn plan(&mut self, planned: Planned)
-        requires { IsReady self.old.base.kept planned }
+        requires ready { IsReady self.old.base.kept planned }
+        requires plan { IsPlanOf self.old.base.kept.state planned }
         ensures { self.new ≡
             with_now (with_kept (λ old. after_planned self.old.base.kept.state planned self.old.moment)) self.old }
     {
@@ -199,7 +218,7 @@ impl<'a> MemberDraft<'a> {
         if due.hard.is_empty() {
             return Ok(told);
         }
-        self.planned = Some(kept.expire(due.hard, self.moment)?);
+        self.planned = Some(plans::expire(self.alloc, kept, due.hard, self.moment)?);
         Ok(told)
     }
 
@@ -207,8 +226,8 @@ impl<'a> MemberDraft<'a> {
     pub(crate) fn drop(&mut self, serial: u64) -> Result<(), Memory>
         ensures { OnOk result (self.new ≡ with_now (with_kept (without serial)) self.old) }
     {
-        let mut planned = planned_so_far(&mut self.planned, &self.base.kept)?;
-        self.base.kept.plan_drop(&mut planned, serial)?;
+        let mut planned = planned_so_far(self.alloc, &mut self.planned, &self.base.kept)?;
+        plans::plan_drop(&self.base.kept, &mut planned, serial)?;
         self.planned = Some(planned);
         Ok(())
     }
@@ -217,8 +236,8 @@ impl<'a> MemberDraft<'a> {
     pub(crate) fn touch(&mut self, serial: u64) -> Result<(), Memory>
         ensures { OnOk result (self.new ≡ with_now (with_kept (touched serial self.old.moment)) self.old) }
     {
-        let mut planned = planned_so_far(&mut self.planned, &self.base.kept)?;
-        planned.touch(serial)?;
+        let mut planned = planned_so_far(self.alloc, &mut self.planned, &self.base.kept)?;
+        plans::touch(&mut planned, serial)?;
         self.planned = Some(planned);
         Ok(())
     }
@@ -231,6 +250,37 @@ impl<'a> MemberDraft<'a> {
             Some(planned) => Ok(Kept::Drafted(self.base.kept.drafted(planned, self.moment)?)),
             None => Ok(Kept::Standing(&self.base.kept)),
         }
+    }
+
+    /// How its rules change with what is planned, if anything is: of its number, with its grant, at a virtual switch of
+    /// these ports.
+    pub(crate) fn leaf_delta(
+        &self,
+        alloc: Global,
+        n: u32,
+        grant: &Grant,
+        ports: &List<u16>,
+    ) -> Result<Option<LeafDelta>, Memory>
+        requires rising { AreRising grant.now.ports }
+        requires boxes { AllByRecursion IsNormal grant.now.regions }
+        ensures none { IfOk result (λ delta. delta ≡ None → IsUnplanned self.now) }
+        ensures some { IfOk result (λ delta. IfSome delta (IsLeafDelta n grant.now ports.now self.now)) }
+    {
+        let Some(planned) = &self.planned else {
+            return Ok(None);
+        };
+        let kept = &self.base.kept;
+        let delta = leaf_delta(alloc, n, grant, kept, planned, self.moment, ports)?;
+        Ok(Some(delta))
+    }
+
+    /// A serial number is left for an entry. So it is, always.
+    pub(crate) fn has_serial(&self) -> bool
+        ensures { IsTrue result → HasSerial self.now.now }
+    {
+        // The proof learns what is true of every table.
+        let _table = self.base.kept.table();
+        true
     }
 
     /// What is moved in, with what the member is put. There is a place for that on any machine.

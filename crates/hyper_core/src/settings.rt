@@ -48,7 +48,7 @@ fn tables(
 }
 
 /// Which switches are up.
-fn ups(alloc: Global, switches: &[SwitchDraft<'_>]) -> Result<List<bool>, Memory>
+pub(crate) fn ups(alloc: Global, switches: &[SwitchDraft<'_>]) -> Result<List<bool>, Memory>
     ensures { IfOk result (λ ups. ups ≡ ups_with (switches_in switches.now)) }
 {
     let mut ups = List::new(alloc);

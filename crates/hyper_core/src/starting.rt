@@ -2,6 +2,7 @@
 ghost use Rattle.std.specs.Prelude.{◌≡◌, ◌≤◌, All, IfOk, map};
 ghost use Rattle.hyper_core.specs.Machines.{HasAll, HasBits, state_in_held};
 ghost use Rattle.hyper_core.specs.Settled.{IsSettledState};
+ghost use Rattle.machine_meaning.specs.Sound.{IsSoundState};
 ghost use Rattle.machine_meaning.specs.States.{new_member as new_member_of, new_switch as new_switch_of};
 ghost use Rattle.machine_meaning.specs.States.{nothing_stands, opening};
 ghost use Rattle.hyper_core.specs.Views.{member_of, standing_of, switch_of};
@@ -73,6 +74,7 @@ pub(crate) fn open(setup: &Setup) -> Result<Held, Memory>
     ensures opening { IfOk result (λ held. state_in_held held ≡ opening setup.now) }
     ensures all { IfOk result (HasAll setup.now) }
     ensures settled { IfOk result (λ held. IsSettledState setup.now (state_in_held held)) }
+    ensures sound { IfOk result (λ held. IsSoundState setup.now (state_in_held held)) }
 {
     let alloc = setup.alloc();
     let policy = setup.policy();

@@ -1,6 +1,9 @@
 //! An event that isn't answered at once, and is no taking: it is drafted, and what it leaves is moved in.
-ghost use Rattle.std.specs.Prelude.{◌≡◌, IfOk, OnErr};
+ghost use Rattle.std.specs.Prelude.{◌≡◌, ◌<◌, ◌^◌, IfOk, IfSome, IsTrue, None, OnErr, OnOk};
+ghost use Rattle.machine_meaning.specs.Events.{AreBytes, IsEvent};
+ghost use Rattle.machine_meaning.specs.Glances.{glance_of};
 ghost use Rattle.machine_meaning.specs.Hearing.{heard};
+ghost use Rattle.hyper_core.specs.Kept.{IsBegun, IsComposedOf, IsKept};
 ghost use Rattle.hyper_core.specs.Machines.{HasAll, state_in_held};
 ghost use Rattle.hyper_core.specs.Moments.{taking_in as taking_in_of};
 ghost use Rattle.hyper_core.specs.Overtaking.{IsHeardOf, IsWhole};
@@ -12,24 +15,35 @@ use crate::drafting::draft_event;
 use crate::glances::glance;
 use crate::heard::Heard;
 use crate::held::Held;
+use crate::keeping::keep;
 use crate::moving::move_in;
 use crate::overtaking::hear;
 use crate::putting::Drafted;
 use crate::setup::Setup;
 use crate::takings::take;
+use composed_tables::Composed;
 use cv_io::{Memory, Session};
 use events::{Event, Reply};
+use machine_meaning::laws::soundness_is_kept;
 
 /// An event is drafted, and what it leaves is moved in.
-fn drive(setup: &Setup, held: &mut Held, event: &Event, heard: &Heard) -> Result<Reply, Memory>
+fn drive(
+    setup: &Setup,
+    held: &mut Held,
+    event: &Event,
+    heard: &Heard,
+    composed: &mut Option<Composed>,
+) -> Result<Reply, Memory>
     requires all { HasAll setup.now held.old }
     requires whole { IsWhole event.now }
     requires heard { IsHeardOf event.now heard.now (state_in_held held.old) }
     requires settled { IsSettledState setup.now (state_in_held held.old) }
+    requires kept { IfSome composed.old (IsBegun setup.now (state_in_held held.old) event.now) }
     ensures done { IfOk result (λ reply. (reply, state_in_held held.new)
         ≡ done setup.now (drafted_of setup.now (state_in_held held.old) event.now)) }
     ensures all { HasAll setup.now held.new }
     ensures settled { IsSettledState setup.now (state_in_held held.new) }
+    ensures kept { OnOk result (IfSome composed.new (IsComposedOf setup.now (state_in_held held.new))) }
     ensures memory { OnErr result (state_in_held held.new ≡ state_in_held held.old) }
 {
     // The proof learns how many members and switches a policy has.
@@ -39,30 +53,89 @@ fn drive(setup: &Setup, held: &mut Held, event: &Event, heard: &Heard) -> Result
         reply,
         counts,
         parts,
-    } = draft_event(setup, held, event, heard)?;
+    } = draft_event(setup, held, event, heard, composed)?;
     held.counts.make(counts)?;
     move_in(held, parts);
     Ok(reply)
 }
 
-/// One step of such an event: what it tells is heard before, and taken back where memory is wanted.
-pub(crate) fn proceed(setup: &Setup, held: &mut Held, event: &Event) -> Result<Reply, Memory>
+/// The next cookie is a number of 64 bits: its type says so.
+fn cookie_fits(held: &Held)
+    ensures { held.now.next_cookie < 2 ^ 64 }
+{
+    let _next = held.next_cookie;
+}
+
+/// One step of such an event: what it tells is heard before, and taken back where memory is wanted. What is kept follows
+/// it, or is made anew.
+pub(crate) fn proceed(
+    setup: &Setup,
+    held: &mut Held,
+    event: &Event,
+    composed: &mut Option<Composed>,
+) -> Result<Reply, Memory>
     requires all { HasAll setup.now held.old }
     requires whole { IsWhole event.now }
+    requires given { IsEvent event.now }
+    requires changes { glance_of setup.now (state_in_held held.old) event.now ≡ None }
+    requires drafted { taking_in_of event.now ≡ None }
     requires settled { IsSettledState setup.now (state_in_held held.old) }
+    requires kept { IsKept setup.now (state_in_held held.old) composed.old }
     ensures done { IfOk result (λ reply. (reply, state_in_held held.new)
         ≡ done setup.now (drafted_of setup.now (heard (state_in_held held.old) event.now) event.now)) }
     ensures all { HasAll setup.now held.new }
     ensures settled { IsSettledState setup.now (state_in_held held.new) }
+    ensures kept { IsKept setup.now (state_in_held held.new) composed.new }
     ensures memory { OnErr result (state_in_held held.new ≡ state_in_held held.old) }
 {
+    // The proof learns what is true of every policy, of cookies, and of steps.
+    let _policy = setup.policy();
+    cookie_fits(held);
+    soundness_is_kept();
     let overtaken = hear(setup.alloc(), held, event)?;
-    match drive(setup, held, event, &overtaken.heard) {
-        Ok(reply) => Ok(reply),
+    match drive(setup, held, event, &overtaken.heard, composed) {
+        Ok(reply) => {
+            keep(setup, held, composed);
+            Ok(reply)
+        }
         Err(Memory) => {
+            // It may have followed the event.
+            *composed = None;
             overtaken.take_back(&mut held.counts);
             Err(Memory)
         }
+    }
+}
+
+/// Bytes are below 256, and fewer than 2^63: no memory has more.
+fn are_bytes(bytes: &[u8]) -> bool
+    ensures { IsTrue result → AreBytes bytes.now }
+{
+    bytes.len() < 1 << 63
+}
+
+/// The numbers of an event fit their types, as they always do.
+fn is_event(event: &Event) -> bool
+    ensures { IsTrue result → IsEvent event.now }
+{
+    match event {
+        Event::Msg { session, frame } => {
+            let _round = session.round;
+            are_bytes(frame.as_slice())
+        }
+        Event::Policy { v, text } => {
+            let _number = *v;
+            are_bytes(text.as_bytes())
+        }
+        Event::Gone { session } | Event::Take { session } => {
+            let _round = session.round;
+            true
+        }
+        Event::Tick { second } => {
+            let _second = *second;
+            true
+        }
+        Event::Up { .. } => true,
     }
 }
 
@@ -78,20 +151,34 @@ fn taking_in(event: &Event) -> Option<Session>
 
 /// One step.
 #[tactic(auto, using(crate::proofs::Stepped::step_glanced, crate::proofs::Stepped::step_taking, crate::proofs::Stepped::step_other, crate::proofs::Stepped::has_all_taken, crate::proofs::Stepped::settled_taken, crate::proofs::Whole::whole_event))]
-pub(crate) fn step(setup: &Setup, held: &mut Held, event: &Event) -> Result<Reply, Memory>
+pub(crate) fn step(
+    setup: &Setup,
+    held: &mut Held,
+    event: &Event,
+    composed: &mut Option<Composed>,
+) -> Result<Reply, Memory>
     requires all { HasAll setup.now held.old }
     requires settled { IsSettledState setup.now (state_in_held held.old) }
+    requires kept { IsKept setup.now (state_in_held held.old) composed.old }
     ensures step { IfOk result (λ reply. (reply, state_in_held held.new)
         ≡ step_of setup.now (state_in_held held.old) event.now) }
     ensures all { HasAll setup.now held.new }
     ensures settled { IsSettledState setup.now (state_in_held held.new) }
+    ensures kept { IsKept setup.now (state_in_held held.new) composed.new }
     ensures memory { OnErr result (state_in_held held.new ≡ state_in_held held.old) }
 {
+    // The proof learns what is true of every policy, of cookies, and of steps.
+    let _policy = setup.policy();
+    cookie_fits(held);
+    soundness_is_kept();
     if let Some(reply) = glance(setup, held, event) {
         return Ok(reply);
+    }
+    if !is_event(event) {
+        return Err(Memory);
     }
     if let Some(session) = taking_in(event) {
         return Ok(take(held, session));
     }
-    proceed(setup, held, event)
+    proceed(setup, held, event, composed)
 }

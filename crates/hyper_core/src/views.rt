@@ -39,7 +39,7 @@ pub(crate) fn installed(held: &Held, n: u32) -> Option<&[Written]>
 }
 
 /// What composition reads of the present state.
-fn present(setup: &Setup, held: &Held) -> Result<Setting, Memory>
+pub(crate) fn present(setup: &Setup, held: &Held) -> Result<Setting, Memory>
     ensures setting { IfOk result (λ setting. setting ≡ setting_of setup.now (state_in_held held.now)) }
     ensures fits { IfOk result IsFittingSetting }
 {

@@ -1,7 +1,11 @@
 use Rattle.std.proofs.Common.{sym, subst}
 use Rattle.std.proofs.lemmas.Result.{IfOk-weaker}
-use Rattle.hyper_core.proofs.Attempts.{numbers_kept, put_at}
+use Rattle.std.specs.Prelude.{IfSome}
+use Rattle.machine_meaning.specs.Phases.{settled_of}
+use Rattle.machine_meaning.specs.States.{State}
+use Rattle.hyper_core.proofs.Attempts.{in_ok_case, numbers_kept, put_at}
 use Rattle.hyper_core.specs.Closings.{closing_of}
+use Rattle.hyper_core.specs.Kept.{IsBegun, IsComposedOf}
 use Rattle.hyper_core.specs.Moments.{moment_of}
 use Rattle.hyper_core.specs.Overtaking.{IsHeardOf}
 use Rattle.hyper_core.specs.Puts.{HaveNumbers}
@@ -30,6 +34,11 @@ pub draft-requires-clause-settled : goal.draft-requires-clause-settled
 draft-requires-clause-settled c =
     subst (IsSettledState c.args.setup.now) (sym c.judge_event.ensures.state) c.requires.settled
 
+pub draft-requires-clause-kept : goal.draft-requires-clause-kept
+draft-requires-clause-kept c =
+    subst (λ (s : State). IfSome c.args.composed.now (IsBegun c.args.setup.now s c.args.event.now))
+    (sym c.judge_event.ensures.state) c.requires.kept
+
 pub put-requires : goal.put-requires
 put-requires c =
     let held = c.judge_event.new.held in
@@ -43,6 +52,14 @@ returns-clause-put c =
     (λ r i. put_at c.args.setup.now c.judge_event.new.held c.args.event.now (closing_of c.args.closing.now) c.args.last
     _ r c.in_ok-drafted.ensures.draft c.in_ok-drafted.ensures.bases i)
     c.put.ensures
+
+pub returns-clause-kept : goal.returns-clause-kept
+returns-clause-kept c =
+    in_ok_case c.put.result
+    (subst
+    (λ (s : State). IfSome c.draft.new.composed
+    (IsComposedOf c.args.setup.now (settled_of c.args.setup.now s c.args.event.now (closing_of c.args.closing.now)).state))
+    c.judge_event.ensures.state c.in_ok-drafted.ensures.kept)
 
 pub returns-clause-state : goal.returns-clause-state
 returns-clause-state c = c.judge_event.ensures.state

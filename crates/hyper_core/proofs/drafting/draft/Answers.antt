@@ -1,12 +1,15 @@
 use Rattle.std.proofs.Common.{◌≡◌, ◌∙◌, sym, ap, subst}
+use Rattle.std.specs.Prelude.{IfSome}
 use Rattle.hyper_core.proofs.Acted.{few_begun, fresh_begun, judged_begun, nothing_sent, sendable_after}
+use Rattle.hyper_core.proofs.KeptOn.{all_settled, kept_settled}
 use Rattle.hyper_core.proofs.Overtaken.{heard_at}
 use Rattle.hyper_core.proofs.Phased.{all_phases, moment_again, stands_before, timely_begun}
 use Rattle.hyper_core.specs.Closings.{closing_of}
 use Rattle.machine_meaning.specs.Drafts.{Draft, untouched}
 use Rattle.hyper_core.specs.Machines.{at_moment, bases_of, state_in_held}
 use Rattle.hyper_core.specs.Moments.{IsOfEvent, moment_of}
-use Rattle.hyper_core.specs.Outcomes.{AreTimely, IsBefore, draft_in}
+use Rattle.hyper_core.specs.Kept.{IsComposedOf}
+use Rattle.hyper_core.specs.Outcomes.{AreTimely, IsBefore, bases, draft_in}
 use Rattle.hyper_core.specs.Overtaking.{IsHeardOf}
 use Rattle.hyper_core.specs.Settled.{WasSettled}
 use Rattle.hyper_core.proofs.drafting.draft.Goals as goal
@@ -51,12 +54,24 @@ settle-requires c =
     (sym (c.in_ok-close.ensures.bases ∙ (c.in_ok-act.ensures.bases ∙ c.in_ok-draft.ensures.bases)))
     (timely_begun c.moment_of-now.result c.args.held.now)
 
-pub compose-requires : goal.compose-requires
-compose-requires c =
+pub compose-requires-clause-settled : goal.compose-requires-clause-settled
+compose-requires-clause-settled c =
     subst (WasSettled c.args.setup.now)
     (sym (c.in_ok-settle.ensures.bases ∙ (c.in_ok-close.ensures.bases ∙ (c.in_ok-act.ensures.bases
     ∙ c.in_ok-draft.ensures.bases))))
     c.requires.settled
+
+pub compose-requires-clause-kept : goal.compose-requires-clause-kept
+compose-requires-clause-kept c =
+    let s = state_in_held c.args.held.now in
+    let begun = c.in_ok-draft.ensures.draft ∙ ap (λ n. untouched (at_moment n s)) c.moment_of-now.ensures in
+    let is = all_settled c.args.setup.now s c.args.event.now (closing_of c.args.closing.now) _ _ _ _ begun
+    c.in_ok-act.ensures.drafted c.in_ok-close.ensures.drafted c.in_ok-settle.ensures.drafted in
+    kept_settled c.args.setup.now c.args.held.now c.args.event.now (closing_of c.args.closing.now)
+    c.moment_of-now.result (bases c.settle.new.draft) (draft_in c.settle.new.draft) c.args.composed.now
+    (c.in_ok-settle.ensures.bases ∙ (c.in_ok-close.ensures.bases ∙ (c.in_ok-act.ensures.bases
+    ∙ c.in_ok-draft.ensures.bases)))
+    is c.requires.kept
 
 pub tell-requires-clause-few : goal.tell-requires-clause-few
 tell-requires-clause-few c =
@@ -85,6 +100,15 @@ returns-clause-draft c =
     all_phases c.args.setup.now s c.args.event.now (closing_of c.args.closing.now) _ _ _ _ _ _ begun
     c.in_ok-act.ensures.drafted c.in_ok-close.ensures.drafted c.in_ok-settle.ensures.drafted
     c.in_ok-compose.ensures.drafted (c.in_ok-tell.ensures.drafted s before)
+
+pub returns-clause-kept : goal.returns-clause-kept
+returns-clause-kept c =
+    let s = state_in_held c.args.held.now in
+    let begun = c.in_ok-draft.ensures.draft ∙ ap (λ n. untouched (at_moment n s)) c.moment_of-now.ensures in
+    let is = all_settled c.args.setup.now s c.args.event.now (closing_of c.args.closing.now) _ _ _ _ begun
+    c.in_ok-act.ensures.drafted c.in_ok-close.ensures.drafted c.in_ok-settle.ensures.drafted in
+    subst (λ (d : Draft). IfSome c.compose.new.composed (IsComposedOf c.args.setup.now d.state)) is
+    c.in_ok-compose.ensures.kept
 
 pub returns-clause-bases : goal.returns-clause-bases
 returns-clause-bases c =

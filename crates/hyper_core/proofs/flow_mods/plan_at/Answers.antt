@@ -5,12 +5,27 @@ use Rattle.member_state.specs.Plans.{after_planned}
 use Rattle.hyper_core.specs.MemberDrafts.{MemberDraftOf, with_now}
 use Rattle.machine_meaning.specs.Removing.{with_kept}
 use Rattle.hyper_core.proofs.Changes.{after_message, bases_kept, get_there, moments_kept, now_changed}
+use Rattle.leaf_changes.proofs.PlansMade.{messages-are-plans}
+use Rattle.leaf_changes.specs.Plans.{IsPlanOf}
+use Rattle.member_table.specs.Sound.{IsSound}
+use Rattle.member_table.specs.Tables.{TableOf}
 use Rattle.hyper_core.proofs.flow_mods.plan_at.Goals as goal
+
+pub plan-requires-clause-plan : goal.plan-requires-clause-plan
+plan-requires-clause-plan c =
+    let x = c.requires.x in
+    let first = get_there c.args.members.now c.args.n x c.index-members-n.result c.requires.stands.there in
+    let second = get_there c.args.members.now c.args.n x c.index-members-n-2.result c.requires.stands.there in
+    let sound = subst (λ (t : TableOf). IsSound t)
+    (c.table_before.ensures ∙ sym (ap (λ (z : MemberDraftOf). z.base.kept.state.table) first)) c.len.ensures.sound in
+    subst (λ (z : MemberDraftOf). IsPlanOf z.base.kept.state c.args.planned) second
+    (messages-are-plans x.base.kept.state c.args.change.now c.args.planned c.args.now sound c.requires.plans.change
+    c.requires.plans.after)
 
 pub returns-clause-now : goal.returns-clause-now
 returns-clause-now c =
     let x = c.requires.x in
-    let d = c.index-members-n.result in
+    let d = c.index-members-n-2.result in
     let y = c.plan.new.self in
     let p = c.args.planned in
     let found = get_there c.args.members.now c.args.n x d c.requires.stands.there in
@@ -25,10 +40,10 @@ returns-clause-now c =
 
 pub returns-clause-bases : goal.returns-clause-bases
 returns-clause-bases c =
-    bases_kept c.args.members.now c.args.n c.plan.new.self c.index-members-n.result
+    bases_kept c.args.members.now c.args.n c.plan.new.self c.index-members-n-2.result
     (ap (λ (z : MemberDraftOf). z.base) c.plan.ensures)
 
 pub returns-clause-moments : goal.returns-clause-moments
 returns-clause-moments c =
-    moments_kept c.args.members.now c.args.n c.plan.new.self c.index-members-n.result
+    moments_kept c.args.members.now c.args.n c.plan.new.self c.index-members-n-2.result
     (ap (λ (z : MemberDraftOf). z.moment) c.plan.ensures)

@@ -6,6 +6,8 @@ use Rattle.policy_file.specs.declared.policy.MemberItem.{MemberItem}
 use Rattle.stats_map.specs.Told.{told}
 use Rattle.virtual_topology.specs.declared.plan.SwitchItem.{SwitchItem}
 use Rattle.machine_meaning.specs.States.{State, exprs_read, new_member, new_switch, nothing_stands, opening}
+use Rattle.machine_meaning.specs.Sound.{IsSoundState}
+use Rattle.machine_meaning.proofs.Opening.{opening_sound}
 use Rattle.hyper_core.specs.Machines.{HasBits}
 use Rattle.hyper_core.specs.Views.{member_of, standing_of, switch_of}
 use Rattle.hyper_core.proofs.Opened.{all_bits, as_many}
@@ -51,6 +53,11 @@ returns-clause-opening c =
 pub returns-clause-settled : goal.returns-clause-settled
 returns-clause-settled c =
     subst (IsSettledState c.args.setup.now) (sym (returns-clause-opening c)) (opening_settled c.args.setup.now)
+
+pub returns-clause-sound : goal.returns-clause-sound
+returns-clause-sound c =
+    subst (IsSoundState c.args.setup.now) (sym (returns-clause-opening c))
+    (opening_sound c.args.setup.now c.policy-policy.ensures.sound)
 
 pub returns-clause-all : goal.returns-clause-all
 returns-clause-all c =

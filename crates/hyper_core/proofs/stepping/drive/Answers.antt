@@ -3,6 +3,7 @@ use Rattle.stats_map.specs.Told.{HeldOf}
 use Rattle.hyper_core.specs.Machines.{state_in_held}
 use Rattle.hyper_core.proofs.Attempts.{drafted_done, drafted_moves, has_all_kept, has_all_moved, held_with}
 use Rattle.hyper_core.proofs.Attempts.{in_any_case}
+use Rattle.hyper_core.proofs.KeptOn.{kept_done}
 use Rattle.hyper_core.proofs.Stepped.{settled_done}
 use Rattle.hyper_core.specs.Settled.{IsSettledState}
 use Rattle.hyper_core.proofs.stepping.drive.Goals as goal
@@ -15,6 +16,9 @@ draft_event-requires-clause-heard c = c.requires.heard
 
 pub draft_event-requires-clause-settled : goal.draft_event-requires-clause-settled
 draft_event-requires-clause-settled c = c.requires.settled
+
+pub draft_event-requires-clause-kept : goal.draft_event-requires-clause-kept
+draft_event-requires-clause-kept c = c.requires.kept
 
 pub make-requires : goal.make-requires
 make-requires c = c.in_ok-reply.ensures.draft.counts
@@ -40,6 +44,11 @@ returns-clause-all c =
 pub returns-clause-settled : goal.returns-clause-settled
 returns-clause-settled c =
     settled_done c.args.setup.now (state_in_held c.args.held.now) c.args.event.now _ _ (returns-clause-done c)
+
+pub returns-clause-kept : goal.returns-clause-kept
+returns-clause-kept c =
+    kept_done c.args.setup.now (state_in_held c.args.held.now) c.args.event.now _ (state_in_held c.move_in.new.held)
+    c.draft_event.new.composed (returns-clause-done c) c.in_ok-reply.ensures.kept
 
 -- where memory is wanted
 

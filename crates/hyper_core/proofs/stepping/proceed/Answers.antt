@@ -1,10 +1,13 @@
-use Rattle.std.proofs.Common.{◌∙◌, ap, subst, sym}
+use Rattle.std.proofs.Common.{◌≡◌, ◌∙◌, ap, subst, sym}
 use Rattle.std.specs.Prelude.{reverse}
 use Rattle.machine_meaning.specs.Phases.{drafted}
 use Rattle.machine_meaning.specs.States.{State}
-use Rattle.machine_meaning.specs.Steps.{done}
+use Rattle.machine_meaning.specs.Steps.{done, step_of}
+use Rattle.events.specs.declared.event.Reply.{Reply}
 use Rattle.hyper_core.proofs.Attempts.{has_all_kept}
-use Rattle.hyper_core.proofs.Stepped.{has_all_counted, settled_counted, taken_back}
+use Rattle.hyper_core.proofs.KeptOn.{begun_kept, kept_none, sound_stepped}
+use Rattle.hyper_core.proofs.Stepped.{has_all_counted, settled_counted, step_other, taken_back}
+use Rattle.hyper_core.specs.Kept.{IsKept, IsSoundWhile}
 use Rattle.hyper_core.specs.Machines.{state_in_held}
 use Rattle.hyper_core.specs.Settled.{IsSettledState}
 use Rattle.hyper_core.specs.declared.held.Held.{Held}
@@ -26,6 +29,35 @@ drive-requires-clause-heard c = c.in_ok-overtaken.ensures.hears
 pub drive-requires-clause-settled : goal.drive-requires-clause-settled
 drive-requires-clause-settled c =
     settled_counted c.args.setup.now c.args.held.now c.hear.new.held c.requires.settled c.in_ok-overtaken.ensures.rest
+
+pub drive-requires-clause-kept : goal.drive-requires-clause-kept
+drive-requires-clause-kept c =
+    begun_kept c.args.setup.now c.args.held.now c.hear.new.held c.args.event.now c.args.composed.now c.requires.given
+    c.requires.changes c.in_ok-overtaken.ensures.heard c.in_ok-overtaken.ensures.rest c.requires.kept
+
+pub keep-requires-clause-sound : goal.keep-requires-clause-sound
+keep-requires-clause-sound c =
+    let p = c.args.setup.now in
+    let s = state_in_held c.args.held.now in
+    let e = c.args.event.now in
+    let is : (step_of p s e).1 ≡ state_in_held c.drive.new.held =
+    ap (λ (x : Reply × State). x.1)
+    (step_other p s e c.requires.changes c.requires.drafted
+    ∙ sym (c.in-Ok.ensures.done ∙ ap (λ (z : State). done p (drafted p z e)) c.in_ok-overtaken.ensures.heard)) in
+    subst (IsSoundWhile p) is
+    (sound_stepped c.soundness_is_kept.ensures p c.policy.ensures.sound s c.cookie_fits.ensures e c.requires.given
+    c.requires.kept.sound)
+
+pub keep-requires-clause-followed : goal.keep-requires-clause-followed
+keep-requires-clause-followed c = c.in-Ok.ensures.kept
+
+pub returns-in_err-overtaken-clause-kept : goal.returns-in_err-overtaken-clause-kept
+returns-in_err-overtaken-clause-kept c =
+    subst (λ (h : Held). IsKept c.args.setup.now (state_in_held h) c.args.composed.now)
+    (sym c.in_err-overtaken.ensures.memory) c.requires.kept
+
+pub returns-in-Ok-clause-kept : goal.returns-in-Ok-clause-kept
+returns-in-Ok-clause-kept c = c.keep.ensures
 
 pub returns-in-Ok-clause-done : goal.returns-in-Ok-clause-done
 returns-in-Ok-clause-done c =
@@ -54,6 +86,15 @@ returns-in-Err-clause-all c =
     (taken_back c.args.held.now c.hear.new.held c.drive.new.held c.take_back.new.counts
     c.in_ok-overtaken.overtaken.switch (reverse c.in_ok-overtaken.overtaken.exchanged) c.in_ok-overtaken.ensures.rest c.in_ok-overtaken.ensures.back
     c.in-Err.ensures.memory c.take_back.ensures)
+
+pub returns-in-Err-clause-kept : goal.returns-in-Err-clause-kept
+returns-in-Err-clause-kept c =
+    kept_none c.args.setup.now _
+    (subst (IsSoundWhile c.args.setup.now)
+    (sym (taken_back c.args.held.now c.hear.new.held c.drive.new.held c.take_back.new.counts
+    c.in_ok-overtaken.overtaken.switch (reverse c.in_ok-overtaken.overtaken.exchanged) c.in_ok-overtaken.ensures.rest
+    c.in_ok-overtaken.ensures.back c.in-Err.ensures.memory c.take_back.ensures))
+    c.requires.kept.sound)
 
 pub returns-in-Err-clause-memory : goal.returns-in-Err-clause-memory
 returns-in-Err-clause-memory c =

@@ -1,0 +1,39 @@
+use Rattle.std.proofs.Common.{◌≡◌, ◌<◌, ◌^◌, ◌∙◌, length, subst, sym}
+use Rattle.agreement.specs.declared.state.Setting.{Setting}
+use Rattle.composed_tables.specs.Composing.{ComposedOf, IsGood, IsOf}
+use Rattle.composed_tables.specs.Rules.{IsReadyFor}
+use Rattle.std.proofs.lemmas.Result.{IfOk-weaker}
+use Rattle.virtual_topology.specs.declared.plan.TopologyPlan.{TopologyPlan}
+use Rattle.hyper_core.specs.Machines.{state_in_held}
+use Rattle.hyper_core.proofs.Kept.{built_kept, tables_sound}
+use Rattle.hyper_core.proofs.keeping.build_from.Goals as goal
+
+pub build-requires-clause-fits : goal.build-requires-clause-fits
+build-requires-clause-fits g c = c.in_ok-setting.ensures.fits
+
+pub build-requires-clause-good : goal.build-requires-clause-good
+build-requires-clause-good g c =
+    let p = c.args.setup.now in
+    let s = state_in_held c.args.held.now in
+    subst IsGood (sym c.in_ok-setting.ensures.setting)
+    (c.settings_are_ready.ensures p c.policy.ensures.sound s (tables_sound p s c.requires)).good
+
+pub build-requires-clause-ready : goal.build-requires-clause-ready
+build-requires-clause-ready g c =
+    let p = c.args.setup.now in
+    let s = state_in_held c.args.held.now in
+    subst (λ (t : TopologyPlan). IsReadyFor t c.in_ok-setting.setting) (sym c.topology.ensures)
+    (subst (λ (t : Setting). IsReadyFor _ t) (sym c.in_ok-setting.ensures.setting)
+    (c.settings_are_ready.ensures p c.policy.ensures.sound s (tables_sound p s c.requires)).ready)
+
+pub build-requires-clause-few : goal.build-requires-clause-few
+build-requires-clause-few g c =
+    let p = c.args.setup.now in
+    let s = state_in_held c.args.held.now in
+    subst (λ (t : Setting). length t.switches < 2 ^ 32) (sym c.in_ok-setting.ensures.setting)
+    (c.settings_are_ready.ensures p c.policy.ensures.sound s (tables_sound p s c.requires)).few
+
+pub returns : goal.returns
+returns g c =
+    built_kept c.args.setup.now (state_in_held c.args.held.now) c.in_ok-setting.setting c.build.result
+    c.in_ok-setting.ensures.setting c.build.ensures.of c.build.ensures.compiled

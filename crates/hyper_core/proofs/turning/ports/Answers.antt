@@ -1,0 +1,23 @@
+use Rattle.std.proofs.Common.{◌∙◌, false, ap, sym}
+use Rattle.std.specs.Option.{option_copied}
+use Rattle.std.proofs.lemmas.Result.{IfOk-weaker}
+use Rattle.policy_expr.specs.Policy.{policy_of}
+use Rattle.policy_meaning.specs.Networks.{ports_of}
+use Rattle.policy_setting.specs.Networks.{virtual_switch}
+use Rattle.virtual_topology.specs.declared.plan.TopologyPlan.{TopologyPlan}
+use Rattle.hyper_core.proofs.Ported.{ports_nowhere, ports_there}
+use Rattle.hyper_core.proofs.turning.ports.Goals as goal
+
+pub returns-in_default : goal.returns-in_default
+returns-in_default c =
+    ports_nowhere c.args.setup.now c.args.v _ (sym c.virtual_at.ensures ∙ ap option_copied c.in_default.is)
+
+pub returns : goal.returns
+returns c =
+    let item = c.in-Some.item.now in
+    IfOk-weaker c.ports.result _ _
+    (λ ports is. ports_there c.args.setup.now c.args.v item _ false ports
+    (sym c.virtual_at.ensures ∙ ap option_copied c.in-Some.is)
+    (is ∙ ap ports_of (c.in_ok-switch.ensures
+    ∙ ap (λ (t : TopologyPlan). virtual_switch t _ false (c.args.v, item)) c.topology.ensures)))
+    c.ports.ensures

@@ -1,0 +1,37 @@
+use Rattle.std.proofs.Common.{◌≡◌, Bool, List, length, refl, ap, arith}
+use Rattle.std.proofs.lemmas.List.{length-map}
+use Rattle.setting_laws.proofs.Ups.{long_physical}
+use Rattle.machine_meaning.specs.Settings.{ups_with}
+use Rattle.machine_meaning.specs.States.{SwitchOf}
+use Rattle.hyper_core.specs.Outcomes.{switches_in}
+use Rattle.hyper_core.specs.SwitchDrafts.{SwitchDraftOf}
+use Rattle.hyper_core.specs.Turning.{mixed_at}
+use Rattle.hyper_core.proofs.OneTurn.{kept_first, kept_last}
+use Rattle.hyper_core.proofs.turning.turn.Goals as goal
+
+pub loop-n-init : goal.loop-n-init
+loop-n-init g c = record {
+  of = kept_first c.args.setup.now c.args.draft.now c.requires.exprs c.args.composed.now c.requires.of;
+  told = refl;
+}
+
+-- which switches are up is told of as many as there are tables
+pub turn_member-requires-clause-ups : goal.turn_member-requires-clause-ups
+turn_member-requires-clause-ups g c =
+    let o = c.args.draft.now in
+    let ups = ap (λ (us : List Bool). length us) c.in_ok-ups.ensures in
+    let seen = length-map (switches_in c.as_slice.result.now) (λ (x : SwitchOf). x.outbox.up) in
+    let now = length-map c.as_slice.result.now (λ (x : SwitchDraftOf). x.now) in
+    let same = ap (λ (xs : List SwitchDraftOf). length xs) c.as_slice.ensures in
+    let all = c.requires.all in
+    let count = c.loop-n.invariant.of.of.count in
+    let physical = long_physical (ups_with (mixed_at c.loop-n.n o).switches) c.args.setup.now.switches in
+    let slice = ap (λ (us : List Bool). length us) c.as_slice-2.ensures in
+    omega (arith, ups, seen, now, same, all, count, physical, slice)
+
+pub returns-clause-of : goal.returns-clause-of
+returns-clause-of g c =
+    let test = c.loop-n-test.false in
+    let end : c.loop-n.n ≡ length c.args.draft.now.members = omega arith in
+    kept_last c.args.setup.now c.args.draft.now c.requires.exprs c.loop-n.composed c.loop-n.n end
+    c.loop-n.invariant.of

@@ -1,0 +1,133 @@
+//! The composed part is kept beside what the machine holds, under changes of members' tables.
+ghost use Rattle.std.specs.Prelude.{◌≡◌, IfOk, IfSome, IsTrue, OnOk};
+ghost use Rattle.hyper_core.specs.Kept.{AreTables, DraftsHaveSerials, HasSerial, IsComposedOf, IsKept};
+ghost use Rattle.hyper_core.specs.Kept.{IsKeptBy, IsSoundWhile, StandingHaveSerials};
+ghost use Rattle.hyper_core.specs.Machines.{state_in_held};
+ghost use Rattle.hyper_core.specs.Outcomes.{bases, draft_in};
+ghost use Rattle.hyper_core.specs.Settled.{WasSettled};
+ghost use Rattle.hyper_core.specs.Views.{member_of};
+ghost use Rattle.machine_meaning.specs.Composing.{compose as compose_of};
+ghost use Rattle.machine_meaning.specs.Sound.{HasNumbers, IsSoundState};
+
+use crate::composing::compose_from;
+use crate::held::Held;
+use crate::outcome::Outcome;
+use crate::session::Member;
+use crate::setup::Setup;
+use crate::sources::Source;
+use crate::turning::turn;
+use crate::views::present;
+use composed_tables::Composed;
+use cv_io::{Memory, Steps};
+use setting_laws::laws::settings_are_ready;
+use std::marker::Brand;
+use std::sync::ledger::{Blank, Ledger};
+
+/// What is true of what is to stand on each switch.
+fn are_tables(composed: &Composed)
+    ensures { AreTables composed.now.tables }
+{
+    let _ = composed;
+}
+
+/// What is kept changes with the draft, and switches are written it.
+fn compose_on<G: Ledger>(
+    setup: &Setup,
+    draft: &mut Outcome<'_>,
+    composed: &mut Composed,
+    blank: Blank,
+) -> Result<(), Memory>
+    requires settled { WasSettled setup.now (bases draft.old) }
+    requires kept { IsKeptBy setup.now (bases draft.old) (draft_in draft.old).state composed.old }
+    requires exprs { draft.old.exprs.now ≡ draft.old.exprs.base }
+    requires serials { DraftsHaveSerials draft.old.members }
+    ensures drafted { OnOk result (draft_in draft.new ≡ compose_of setup.now (draft_in draft.old)) }
+    ensures bases { OnOk result (bases draft.new ≡ bases draft.old) }
+    ensures kept { OnOk result (IsComposedOf setup.now (draft_in draft.old).state composed.new) }
+{
+    // The proof learns what is true of every policy, of settings, and of what is to stand before and after.
+    let _policy = setup.policy();
+    settings_are_ready();
+    are_tables(composed);
+    let mut steps = Steps::<G>::new(blank);
+    let turned = turn(setup, draft, composed, &mut steps)?;
+    are_tables(composed);
+    compose_from(setup.alloc(), &Source::Kept(composed, &turned), draft)
+}
+
+/// What is kept changes with the draft, and each switch that is up is written the change.
+pub(crate) fn compose_kept(
+    setup: &Setup,
+    draft: &mut Outcome<'_>,
+    composed: &mut Composed,
+) -> Result<(), Memory>
+    requires settled { WasSettled setup.now (bases draft.old) }
+    requires kept { IsKeptBy setup.now (bases draft.old) (draft_in draft.old).state composed.old }
+    requires exprs { draft.old.exprs.now ≡ draft.old.exprs.base }
+    requires serials { DraftsHaveSerials draft.old.members }
+    ensures drafted { OnOk result (draft_in draft.new ≡ compose_of setup.now (draft_in draft.old)) }
+    ensures bases { OnOk result (bases draft.new ≡ bases draft.old) }
+    ensures kept { OnOk result (IsComposedOf setup.now (draft_in draft.old).state composed.new) }
+{
+    compose_on::<Brand>(setup, draft, composed, Blank::new(1))
+}
+
+/// The composed part of what is held.
+fn build_from<G: Ledger>(setup: &Setup, held: &Held, blank: Blank) -> Result<Composed, Memory>
+    requires { IsSoundState setup.now (state_in_held held.now) }
+    ensures { IfOk result (IsComposedOf setup.now (state_in_held held.now)) }
+{
+    // The proof learns what is true of every policy, and of settings.
+    let _policy = setup.policy();
+    settings_are_ready();
+    let mut steps = Steps::<G>::new(blank);
+    let setting = present(setup, held)?;
+    Composed::build(setup.alloc(), setup.topology(), &setting, &mut steps)
+}
+
+/// The composed part of what is held, if there is memory for it.
+fn build(setup: &Setup, held: &Held) -> Option<Composed>
+    requires { IsSoundState setup.now (state_in_held held.now) }
+    ensures { IfSome result (IsComposedOf setup.now (state_in_held held.now)) }
+{
+    build_from::<Brand>(setup, held, Blank::new(1)).ok()
+}
+
+/// A serial number is left for an entry of a member. So it is, always.
+fn has_serial(member: &Member) -> bool
+    ensures { IsTrue result → HasSerial (member_of member.now) }
+{
+    // The proof learns what is true of every table.
+    let _table = member.kept.table();
+    true
+}
+
+/// So it is for each member.
+fn have_serials(members: &[Member]) -> bool
+    ensures { IsTrue result → StandingHaveSerials members.now }
+{
+    members.iter().all(has_serial)
+}
+
+/// Numbers are left: cookies, and serial numbers of entries.
+fn has_numbers(held: &Held) -> bool
+    ensures { IsTrue result → HasNumbers (state_in_held held.now) }
+{
+    held.next_cookie < u64::MAX && have_serials(held.members.as_slice())
+}
+
+/// What is kept once an event ended: as long as numbers are left, what followed the event, or else what is made anew.
+pub(crate) fn keep(setup: &Setup, held: &Held, composed: &mut Option<Composed>)
+    requires sound { IsSoundWhile setup.now (state_in_held held.now) }
+    requires followed { IfSome composed.old (IsComposedOf setup.now (state_in_held held.now)) }
+    ensures { IsKept setup.now (state_in_held held.now) composed.new }
+{
+    if !has_numbers(held) {
+        *composed = None;
+        return;
+    }
+    if composed.is_some() {
+        return;
+    }
+    *composed = build(setup, held);
+}
