@@ -74,6 +74,10 @@ pub record Changes (v : ℕ) (delta : LeafDelta) (before after : Setting) : Type
   pub others : (u : ℕ) (x : SwitchOf) → u ≢ v → slice_get before.network.switches u ≡ Some x
       → EachMember (λ i. table_rules (ports_of x) (slice_get after.network.tables i) ≡ table_rules (ports_of x) (slice_get before.network.tables i)) x.expr
 
+-- what stands on each switch is a table of what is put there
+abbrev pub AreTables : List SwitchTableOf → Type 0
+AreTables tables = AllByRecursion (λ (x : SwitchTableOf). IsTable x.installed.now) tables
+
 -- what stands on a switch is what is installed of the setting's entries, in some order
 abbrev pub IsStandingOf : Setting → ℕ → List Written → Type 0
 IsStandingOf s n standing = IsPermutation (installed (entries_of s n)) (map entry_of standing)

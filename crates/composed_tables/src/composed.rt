@@ -5,9 +5,9 @@ ghost use Rattle.std.specs.List.{range_with_len};
 ghost use Rattle.agreement.specs.Entries.{entries_of as entries_of_of};
 ghost use Rattle.agreement.specs.Fitting.{IsFittingSetting};
 ghost use Rattle.agreement.specs.declared.state.Setting.{Setting as SettingOf};
-ghost use Rattle.install_plan.specs.Tables.{entry_of};
-ghost use Rattle.composed_tables.specs.Composing.{AreMoved, Changes, IsGood, IsMovedFrom, IsOf, IsStandingOf};
-ghost use Rattle.composed_tables.specs.Composing.{IsWholeAt, WasOf};
+ghost use Rattle.install_plan.specs.Tables.{IsTable, entry_of};
+ghost use Rattle.composed_tables.specs.Composing.{AreMoved, AreTables, Changes, IsGood, IsMovedFrom, IsOf};
+ghost use Rattle.composed_tables.specs.Composing.{IsStandingOf, IsWholeAt, WasOf};
 ghost use Rattle.switch_tables.specs.Turning.{AreBatches, AreKept, AreTurned, HaveNow, IsUndoneAt, StandAsBefore};
 ghost use Rattle.switch_tables.specs.Turning.{up_of};
 ghost use Rattle.composed_tables.specs.Placing.{entry_delta};
@@ -205,6 +205,23 @@ fn undo_tables(tables: &mut List<SwitchTable>)
     undo_all(tables.as_mut_slice());
 }
 
+/// What stands on a switch is a table.
+fn is_table(table: &SwitchTable)
+    ensures { IsTable table.now.installed.now }
+{
+    // The proof learns that what stands is a table.
+    let _ = table.count();
+}
+
+/// So it is on each switch.
+fn are_tables(tables: &List<SwitchTable>)
+    ensures { AreTables tables.now }
+{
+    for table in tables.as_slice() {
+        is_table(table);
+    }
+}
+
 impl Composed {
     /// That of a setting, from scratch.
     pub fn build<G: Ledger>(
@@ -295,6 +312,15 @@ impl Composed {
             steps,
         )?;
         Ok(batches)
+    }
+
+    /// How many switches there are. What is true of what stands on each is said here.
+    pub fn count(&self) -> usize
+        ensures count { result ≡ length self.now.tables }
+        ensures tables { AreTables self.now.tables }
+    {
+        are_tables(&self.tables);
+        self.tables.len()
     }
 
     /// What stands on a switch, by rising key: what is installed of the entries of the setting.

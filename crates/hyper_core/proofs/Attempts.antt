@@ -7,31 +7,31 @@ use Rattle.composed_tables.specs.Composing.{ComposedOf}
 use Rattle.policy_file.specs.Policies.{PolicyOf}
 use Rattle.stats_map.specs.Changes.{CanMake, made}
 use Rattle.stats_map.specs.Told.{HeldOf}
-use Rattle.hyper_core.specs.Closings.{closing_of}
+use Rattle.machine_drafts.specs.Closings.{closing_of}
 use Rattle.hyper_core.specs.Drafting.{IsDraftOf, IsPutOf, bases_at}
 use Rattle.machine_meaning.specs.Drafts.{Draft}
 use Rattle.hyper_core.specs.Kept.{IsComposedOf}
-use Rattle.hyper_core.specs.Machines.{HasAll, bases_of, state_in_held}
-use Rattle.hyper_core.specs.Moments.{moment_of}
-use Rattle.hyper_core.specs.Moving.{AreParts, member_moved, moved_in, switch_moved}
-use Rattle.hyper_core.specs.Outcomes.{Bases, IsBefore, bases, draft_in}
+use Rattle.machine_drafts.specs.Machines.{HasAll, bases_of, state_in_held}
+use Rattle.machine_drafts.specs.Moments.{moment_of}
+use Rattle.machine_drafts.specs.Moving.{AreParts, member_moved, moved_in, switch_moved}
+use Rattle.machine_drafts.specs.Outcomes.{Bases, IsBefore, bases, draft_in}
 use Rattle.machine_meaning.specs.Phases.{both, draft_of, drafted, is_empty, overfilled, settled_of, slow, slow_from}
-use Rattle.hyper_core.specs.Puts.{HaveNumbers, IsPut, with_counts}
+use Rattle.machine_drafts.specs.Puts.{HaveNumbers, IsPut, with_counts}
 use Rattle.machine_meaning.specs.Putting.{put}
 use Rattle.machine_meaning.specs.Rounds.{Closing}
 use Rattle.machine_meaning.specs.States.{State}
 use Rattle.machine_meaning.specs.Steps.{done}
-use Rattle.hyper_core.specs.Views.{member_of, switch_of}
+use Rattle.machine_drafts.specs.Views.{member_of, switch_of}
 use Rattle.events.specs.declared.event.Event.{Event}
 use Rattle.events.specs.declared.event.Reply.{Reply}
-use Rattle.hyper_core.specs.declared.held.Held.{Held}
-use Rattle.hyper_core.specs.declared.moving.Parts.{Parts}
-use Rattle.hyper_core.specs.declared.outcome.Outcome.{Outcome}
-use Rattle.hyper_core.specs.declared.overfilled.Closing.{Closing as ClosingHeld}
-use Rattle.hyper_core.specs.declared.putting.Drafted.{Drafted}
-use Rattle.hyper_core.specs.declared.putting.Trial.{Trial}
-use Rattle.hyper_core.specs.declared.putting.Trial.TheVariants.{Ready, Slow}
-use Rattle.hyper_core.proofs.Parted.{length-after_parts}
+use Rattle.machine_drafts.specs.declared.held.Held.{Held}
+use Rattle.machine_drafts.specs.declared.moving.Parts.{Parts}
+use Rattle.machine_drafts.specs.declared.outcome.Outcome.{Outcome}
+use Rattle.machine_drafts.specs.declared.overfilled.Closing.{Closing as ClosingHeld}
+use Rattle.machine_drafts.specs.declared.putting.Drafted.{Drafted}
+use Rattle.machine_drafts.specs.declared.putting.Trial.{Trial}
+use Rattle.machine_drafts.specs.declared.putting.Trial.TheVariants.{Ready, Slow}
+use Rattle.machine_drafts.proofs.Parted.{length-after_parts}
 use Rattle.hyper_core.proofs.Phased.{slow_more, slow_settled, stands_before}
 
 pub put_at : (p : PolicyOf) (h : Held) (e : Event) (c : Closing) (last : Bool) (o : Outcome) (r : Trial)

@@ -22,14 +22,14 @@ use Rattle.switch_tables.specs.declared.tables.SwitchBatch.{SwitchBatch}
 use Rattle.machine_meaning.specs.Settings.{setting_of, ups_with}
 use Rattle.machine_meaning.specs.States.{SwitchOf}
 use Rattle.hyper_core.specs.Kept.{AreTables, IsComposedOf, IsKeptBy}
-use Rattle.hyper_core.specs.Outcomes.{bases, members_in, state_in, switch_bases}
+use Rattle.machine_drafts.specs.Outcomes.{bases, members_in, state_in, switch_bases}
 use Rattle.hyper_core.specs.Settled.{IsUnchanged, WasSettled}
 use Rattle.hyper_core.specs.Sources.{IsToldFor, IsWantedBy}
-use Rattle.hyper_core.specs.SwitchDrafts.{IsUnmoved, SwitchDraftOf}
+use Rattle.machine_drafts.specs.SwitchDrafts.{IsUnmoved, SwitchDraftOf}
 use Rattle.hyper_core.specs.Turning.{AreTold, CanFollow, stood_in}
-use Rattle.hyper_core.specs.Views.{standing_of, switch_of}
-use Rattle.hyper_core.specs.declared.outcome.Outcome.{Outcome}
-use Rattle.hyper_core.specs.declared.session.Switch.{Switch}
+use Rattle.machine_drafts.specs.Views.{standing_of, switch_of}
+use Rattle.machine_drafts.specs.declared.outcome.Outcome.{Outcome}
+use Rattle.machine_drafts.specs.declared.session.Switch.{Switch}
 use Rattle.hyper_core.specs.declared.turning.Turned.{Turned}
 use Rattle.hyper_core.specs.declared.turning.Turned.TheVariants.{Nothing, Once, Often}
 use Rattle.hyper_core.proofs.ToldChanges.{is_told, still_settled}

@@ -34,11 +34,11 @@ use Rattle.machine_meaning.specs.Takings.{left_after, left_by}
 use Rattle.machine_meaning.proofs.Places.{made_of}
 use Rattle.machine_meaning.proofs.TypedSteps.{numbers_left}
 use Rattle.hyper_core.specs.Kept.{AreGiven, IsBegun, IsComposedOf, IsKept, IsKeptBy, IsSoundWhile}
-use Rattle.hyper_core.specs.Machines.{at_moment, bases_of, state_in_held}
-use Rattle.hyper_core.specs.Moments.{moment_of}
-use Rattle.hyper_core.specs.Outcomes.{Bases}
-use Rattle.hyper_core.specs.Views.{switch_of}
-use Rattle.hyper_core.specs.declared.held.Held.{Held}
+use Rattle.machine_drafts.specs.Machines.{at_moment, bases_of, state_in_held}
+use Rattle.machine_drafts.specs.Moments.{moment_of}
+use Rattle.machine_drafts.specs.Outcomes.{Bases}
+use Rattle.machine_drafts.specs.Views.{switch_of}
+use Rattle.machine_drafts.specs.declared.held.Held.{Held}
 use Rattle.hyper_core.proofs.Phased.{act_at}
 
 -- soundness ---------------------------------------------------------------------------------------------------------

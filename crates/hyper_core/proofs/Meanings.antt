@@ -28,7 +28,7 @@ use Rattle.machine_meaning.specs.Glances.{glance_of}
 use Rattle.machine_meaning.specs.States.{State}
 use Rattle.machine_meaning.specs.Steps.{step_by, step_of}
 use Rattle.machine_meaning.proofs.CountSteps.{counts_counted}
-use Rattle.hyper_core.specs.Machines.{MachineOf, state_of}
+use Rattle.machine_drafts.specs.Machines.{MachineOf, state_of}
 use Rattle.hyper_core.specs.Meanings.{Left, Lefts, MeaningsAreStates, NextIsStep, StateData, counts_in, data_in}
 use Rattle.hyper_core.specs.Meanings.{data_of, dropped_by, forgotten_in, has_left, is_idle, is_something}
 use Rattle.hyper_core.specs.Meanings.{leaves_after, leaves_in, left_at, lefts_of, next_by, next_data, reply_to}

@@ -22,9 +22,9 @@ use Rattle.machine_meaning.specs.States.{SwitchOf}
 use Rattle.machine_meaning.specs.declared.said.Letter.{Letter}
 use Rattle.machine_meaning.proofs.Places.{map-set_changed, map-set_same, slice_get-map}
 use Rattle.hyper_core.specs.Composed.{IsWrittenTo, with_composed, with_switch}
-use Rattle.hyper_core.specs.Outcomes.{standing_in, switch_bases, switches_in}
+use Rattle.machine_drafts.specs.Outcomes.{standing_in, switch_bases, switches_in}
 use Rattle.hyper_core.specs.Settled.{IsSettled}
-use Rattle.hyper_core.specs.SwitchDrafts.{SwitchDraftOf, with_written}
+use Rattle.machine_drafts.specs.SwitchDrafts.{SwitchDraftOf, with_written}
 use Rattle.hyper_core.proofs.Unneeded.{nothing_written}
 
 -- what f makes of the item at a place is put there

@@ -20,11 +20,11 @@ use Rattle.switch_tables.specs.declared.tables.SwitchBatch.{SwitchBatch}
 use Rattle.machine_meaning.specs.Sound.{AreSoundTables}
 use Rattle.machine_meaning.specs.States.{MemberOf, State}
 use Rattle.hyper_core.specs.Kept.{IsComposedOf}
-use Rattle.hyper_core.specs.MemberDrafts.{IsLeafDelta, IsUnplanned, MemberDraftOf}
-use Rattle.hyper_core.specs.Outcomes.{state_in}
+use Rattle.machine_drafts.specs.MemberDrafts.{IsLeafDelta, IsUnplanned, MemberDraftOf}
+use Rattle.machine_drafts.specs.Outcomes.{state_in}
 use Rattle.hyper_core.specs.Turning.{ArePortsAt, AreTold, joined, mixed_at, stood_in}
-use Rattle.hyper_core.specs.Views.{member_of}
-use Rattle.hyper_core.specs.declared.outcome.Outcome.{Outcome}
+use Rattle.machine_drafts.specs.Views.{member_of}
+use Rattle.machine_drafts.specs.declared.outcome.Outcome.{Outcome}
 use Rattle.hyper_core.specs.declared.turning.Turned.{Turned}
 use Rattle.hyper_core.specs.declared.turning.Turned.TheVariants.{Nothing, Once, Often}
 

@@ -4,7 +4,7 @@ use Rattle.std.proofs.lemmas.List.{length-map}
 use Rattle.std.proofs.lemmas.List.Elements.{All-from_recursion, All-weaker}
 use Rattle.policy_file.specs.Policies.{PolicyOf}
 use Rattle.policy_file.specs.Sound.{IsSound, IsSoundMember}
-use Rattle.hyper_core.specs.Machines.{HasBits}
+use Rattle.machine_drafts.specs.Machines.{HasBits}
 
 -- the levels of members are as many as there may be
 pub all_bits : (p : PolicyOf) → IsSound p → All HasBits p.members

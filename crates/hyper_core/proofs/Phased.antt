@@ -8,17 +8,17 @@ use Rattle.policy_file.specs.Policies.{PolicyOf}
 use Rattle.machine_meaning.specs.Acting.{act, act_on}
 use Rattle.machine_meaning.specs.Composing.{compose}
 use Rattle.machine_meaning.specs.Drafts.{Draft, untouched}
-use Rattle.hyper_core.specs.Machines.{at_moment, bases_of, state_in_held}
-use Rattle.hyper_core.specs.Moments.{moment_of}
-use Rattle.hyper_core.specs.Outcomes.{AreTimely, IsBefore}
+use Rattle.machine_drafts.specs.Machines.{at_moment, bases_of, state_in_held}
+use Rattle.machine_drafts.specs.Moments.{moment_of}
+use Rattle.machine_drafts.specs.Outcomes.{AreTimely, IsBefore}
 use Rattle.machine_meaning.specs.Phases.{both, draft_of, is_empty, overfilled, slow_from, slow_with}
 use Rattle.machine_meaning.specs.Rounds.{Closing, close}
 use Rattle.machine_meaning.specs.Settling.{settle}
 use Rattle.machine_meaning.specs.States.{State}
 use Rattle.machine_meaning.specs.Telling.{tell}
-use Rattle.hyper_core.specs.Views.{member_of}
+use Rattle.machine_drafts.specs.Views.{member_of}
 use Rattle.events.specs.declared.event.Event.{Event}
-use Rattle.hyper_core.specs.declared.held.Held.{Held}
+use Rattle.machine_drafts.specs.declared.held.Held.{Held}
 use Rattle.events.specs.declared.event.Event.TheVariants.{Up, Msg, Gone, Tick, Take, Policy}
 
 -- what an event does from its moment on is what it does

@@ -4,12 +4,12 @@ use Rattle.agreement.specs.declared.state.Setting.{Setting}
 use Rattle.policy_file.specs.Policies.{PolicyOf}
 use Rattle.machine_meaning.specs.Drafts.{Draft, untouched}
 use Rattle.machine_meaning.specs.Settings.{setting_of, setting_with}
-use Rattle.hyper_core.specs.Machines.{at_moment, state_in_held}
-use Rattle.hyper_core.specs.MemberDrafts.{MemberDraftOf}
-use Rattle.hyper_core.specs.Outcomes.{draft_in, members_in, switches_in}
-use Rattle.hyper_core.specs.SwitchDrafts.{SwitchDraftOf}
-use Rattle.hyper_core.specs.declared.held.Held.{Held}
-use Rattle.hyper_core.specs.declared.outcome.Outcome.{Outcome}
+use Rattle.machine_drafts.specs.Machines.{at_moment, state_in_held}
+use Rattle.machine_drafts.specs.MemberDrafts.{MemberDraftOf}
+use Rattle.machine_drafts.specs.Outcomes.{draft_in, members_in, switches_in}
+use Rattle.machine_drafts.specs.SwitchDrafts.{SwitchDraftOf}
+use Rattle.machine_drafts.specs.declared.held.Held.{Held}
+use Rattle.machine_drafts.specs.declared.outcome.Outcome.{Outcome}
 
 -- the setting of a draft that has just begun is that of the state
 pub present_setting : (p : PolicyOf) (held : Held) (o : Outcome) (members : List MemberDraftOf)

@@ -7,10 +7,10 @@ use Rattle.stats_map.specs.Counting.{CountsOf}
 use Rattle.stats_map.specs.Told.{HeldOf, told}
 use Rattle.machine_meaning.specs.Glances.{glance_of}
 use Rattle.machine_meaning.specs.Hearing.{heard}
-use Rattle.hyper_core.specs.CookieCounts.{with_counts}
+use Rattle.machine_drafts.specs.CookieCounts.{with_counts}
 use Rattle.hyper_core.specs.Kept.{IsKept, IsSoundWhile}
-use Rattle.hyper_core.specs.Machines.{HasAll, holding_of, state_held, state_in_held}
-use Rattle.hyper_core.specs.Moments.{taking_in}
+use Rattle.machine_drafts.specs.Machines.{HasAll, holding_of, state_held, state_in_held}
+use Rattle.machine_drafts.specs.Moments.{taking_in}
 use Rattle.machine_meaning.specs.Phases.{drafted}
 use Rattle.machine_meaning.specs.States.{State}
 use Rattle.machine_meaning.specs.Steps.{done, proceed, step_by, step_of}
@@ -18,8 +18,8 @@ use Rattle.machine_meaning.specs.Takings.{left_after, left_by, takes}
 use Rattle.hyper_core.specs.Settled.{IsSettledState}
 use Rattle.events.specs.declared.event.Event.{Event}
 use Rattle.events.specs.declared.event.Reply.{Reply}
-use Rattle.hyper_core.specs.declared.held.Held.{Held}
-use Rattle.hyper_core.specs.declared.hearing.CookieCount.{CookieCount}
+use Rattle.machine_drafts.specs.declared.held.Held.{Held}
+use Rattle.machine_drafts.specs.declared.hearing.CookieCount.{CookieCount}
 use Rattle.hyper_core.proofs.Attempts.{has_all_kept}
 use Rattle.hyper_core.proofs.KeptOn.{kept_none}
 use Rattle.hyper_core.proofs.StaysSettled.{drafted_settled, left_settled}

@@ -26,12 +26,12 @@ use Rattle.machine_meaning.proofs.Numbered.{changed_same, fold_still}
 use Rattle.machine_meaning.proofs.Places.{made_of}
 use Rattle.machine_meaning.proofs.Quiet.{kept_of, same_tables}
 use Rattle.machine_meaning.proofs.Unchanged.{nothing_after}
-use Rattle.hyper_core.specs.MemberDrafts.{IsUnplanned, MemberDraftOf}
-use Rattle.hyper_core.specs.Outcomes.{bases, draft_in, member_bases, members_in, standing_in, switch_bases, switches_in}
+use Rattle.machine_drafts.specs.MemberDrafts.{IsUnplanned, MemberDraftOf}
+use Rattle.machine_drafts.specs.Outcomes.{bases, draft_in, member_bases, members_in, standing_in, switch_bases, switches_in}
 use Rattle.hyper_core.specs.Settled.{AreSettled, IsSettled, IsSettledState, IsUnchanged, WasSettled}
-use Rattle.hyper_core.specs.SwitchDrafts.{IsUnmoved, SwitchDraftOf}
-use Rattle.hyper_core.specs.Views.{member_of, standing_of as stands_on, switch_of}
-use Rattle.hyper_core.specs.declared.outcome.Outcome.{Outcome}
+use Rattle.machine_drafts.specs.SwitchDrafts.{IsUnmoved, SwitchDraftOf}
+use Rattle.machine_drafts.specs.Views.{member_of, standing_of as stands_on, switch_of}
+use Rattle.machine_drafts.specs.declared.outcome.Outcome.{Outcome}
 use Rattle.hyper_core.proofs.StaysSettled.{settled_same}
 
 -- composing what is settled -----------------------------------------------------------------------------------------

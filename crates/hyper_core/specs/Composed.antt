@@ -6,7 +6,7 @@ use Rattle.stats_map.specs.Counting.{CountsOf}
 use Rattle.machine_meaning.specs.Drafts.{Draft}
 use Rattle.machine_meaning.specs.Lists.{changed_at}
 use Rattle.machine_meaning.specs.States.{SwitchOf}
-use Rattle.hyper_core.specs.SwitchDrafts.{SwitchDraftOf}
+use Rattle.machine_drafts.specs.SwitchDrafts.{SwitchDraftOf}
 use Rattle.machine_meaning.specs.declared.said.Letter.{Letter}
 
 -- these are a draft's switch of a number, what is counted, the next cookie, and the batches so far

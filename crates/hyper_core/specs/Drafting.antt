@@ -2,21 +2,21 @@
 use Rattle.std.specs.Prelude.{◌≡◌, Bool, true, false}
 use Rattle.stats_map.specs.Changes.{CanMake}
 use Rattle.policy_file.specs.Policies.{PolicyOf}
-use Rattle.hyper_core.specs.Closings.{closing_of}
+use Rattle.machine_drafts.specs.Closings.{closing_of}
 use Rattle.machine_meaning.specs.Drafts.{Draft}
-use Rattle.hyper_core.specs.Machines.{bases_of, state_in_held}
-use Rattle.hyper_core.specs.Moments.{moment_of}
-use Rattle.hyper_core.specs.Moving.{AreParts, moved_in}
-use Rattle.hyper_core.specs.Outcomes.{Bases}
+use Rattle.machine_drafts.specs.Machines.{bases_of, state_in_held}
+use Rattle.machine_drafts.specs.Moments.{moment_of}
+use Rattle.machine_drafts.specs.Moving.{AreParts, moved_in}
+use Rattle.machine_drafts.specs.Outcomes.{Bases}
 use Rattle.machine_meaning.specs.Phases.{draft_of, is_empty, overfilled}
-use Rattle.hyper_core.specs.Puts.{with_counts}
+use Rattle.machine_drafts.specs.Puts.{with_counts}
 use Rattle.machine_meaning.specs.Putting.{put}
 use Rattle.machine_meaning.specs.Rounds.{Closing}
 use Rattle.events.specs.declared.event.Event.{Event}
-use Rattle.hyper_core.specs.declared.held.Held.{Held}
-use Rattle.hyper_core.specs.declared.putting.Drafted.{Drafted}
-use Rattle.hyper_core.specs.declared.putting.Trial.{Trial}
-use Rattle.hyper_core.specs.declared.putting.Trial.TheVariants.{Ready, Slow}
+use Rattle.machine_drafts.specs.declared.held.Held.{Held}
+use Rattle.machine_drafts.specs.declared.putting.Drafted.{Drafted}
+use Rattle.machine_drafts.specs.declared.putting.Trial.{Trial}
+use Rattle.machine_drafts.specs.declared.putting.Trial.TheVariants.{Ready, Slow}
 
 -- what stands beside the draft of an event
 abbrev pub bases_at : Held → Event → Bases

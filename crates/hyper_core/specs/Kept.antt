@@ -18,10 +18,10 @@ use Rattle.machine_meaning.specs.Rounds.{Closing}
 use Rattle.machine_meaning.specs.Settings.{setting_of, ups_with}
 use Rattle.machine_meaning.specs.Sound.{AreSoundTables, HasNumbers, IsSoundState}
 use Rattle.machine_meaning.specs.States.{MemberOf, State}
-use Rattle.hyper_core.specs.MemberDrafts.{MemberDraftOf}
-use Rattle.hyper_core.specs.Outcomes.{Bases}
-use Rattle.hyper_core.specs.Views.{member_of, standing_of, switch_of}
-use Rattle.hyper_core.specs.declared.session.Member.{Member}
+use Rattle.machine_drafts.specs.MemberDrafts.{MemberDraftOf}
+use Rattle.machine_drafts.specs.Outcomes.{Bases}
+use Rattle.machine_drafts.specs.Views.{member_of, standing_of, switch_of}
+use Rattle.machine_drafts.specs.declared.session.Member.{Member}
 
 -- it is that of the setting of a state, and its rules are there
 pub record IsComposedOf (p : PolicyOf) (s : State) (c : ComposedOf) : Type 0 where
@@ -73,17 +73,6 @@ pub record IsKeptBy (p : PolicyOf) (b : Bases) (s : State) (c : ComposedOf) : Ty
   pub given :
       AreGiven (setting_of p (standing_state b s)) (ups_with (map switch_of b.switches)) (map standing_of b.switches)
   pub of : IsComposedOf p (standing_state b s) c
-
--- a serial number is left for an entry of a member
-abbrev pub HasSerial : MemberOf → Type 0
-HasSerial x = x.kept.table.next + 1 < 2 ^ 64
-
--- of each member that stands, and of each as an event leaves it so far
-abbrev pub StandingHaveSerials : List Member → Type 0
-StandingHaveSerials ms = AllByRecursion (λ (m : Member). HasSerial (member_of m)) ms
-
-abbrev pub DraftsHaveSerials : List MemberDraftOf → Type 0
-DraftsHaveSerials ms = AllByRecursion (λ (m : MemberDraftOf). HasSerial m.now) ms
 
 -- what stands on each switch is a table of what is put there
 abbrev pub AreTables : List SwitchTableOf → Type 0

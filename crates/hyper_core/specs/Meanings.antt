@@ -22,7 +22,7 @@ use Rattle.machine_meaning.specs.Glances.{glance_of}
 use Rattle.machine_meaning.specs.States.{MemberOf, State, SwitchOf, opening}
 use Rattle.machine_meaning.specs.Steps.{step_of}
 use Rattle.machine_meaning.specs.declared.state.Owed.{Owed}
-use Rattle.hyper_core.specs.Machines.{MachineOf, state_of}
+use Rattle.machine_drafts.specs.Machines.{MachineOf, state_of}
 
 -- what counts have of a leaf beside the cookies that matter: its total, and whether that goes with the last of these
 pub record Left : Type 0 where

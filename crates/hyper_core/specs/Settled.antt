@@ -7,11 +7,11 @@ use Rattle.install_plan.specs.declared.written.Written.{Written}
 use Rattle.policy_file.specs.Policies.{PolicyOf}
 use Rattle.switch_meaning.specs.Keys.{installed}
 use Rattle.switch_meaning.specs.declared.entry.PhysEntry.{PhysEntry}
-use Rattle.hyper_core.specs.MemberDrafts.{IsUnplanned}
-use Rattle.hyper_core.specs.Outcomes.{Bases}
-use Rattle.hyper_core.specs.SwitchDrafts.{IsUnmoved}
-use Rattle.hyper_core.specs.Views.{member_of, standing_of, switch_of}
-use Rattle.hyper_core.specs.declared.outcome.Outcome.{Outcome}
+use Rattle.machine_drafts.specs.MemberDrafts.{IsUnplanned}
+use Rattle.machine_drafts.specs.Outcomes.{Bases}
+use Rattle.machine_drafts.specs.SwitchDrafts.{IsUnmoved}
+use Rattle.machine_drafts.specs.Views.{member_of, standing_of, switch_of}
+use Rattle.machine_drafts.specs.declared.outcome.Outcome.{Outcome}
 use Rattle.machine_meaning.specs.Batches.{batch_between, standing_after}
 use Rattle.machine_meaning.specs.Sessions.{is_switch}
 use Rattle.machine_meaning.specs.Settings.{setting_of, setting_with, ups_with}

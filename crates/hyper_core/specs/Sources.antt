@@ -12,7 +12,7 @@ use Rattle.told_batches.specs.Told.{IsToldOf}
 use Rattle.told_batches.specs.declared.change.Change.{Change}
 use Rattle.machine_meaning.specs.Batches.{batch_between, coming, next_after, standing_after}
 use Rattle.hyper_core.specs.Settled.{IsSettled}
-use Rattle.hyper_core.specs.SwitchDrafts.{IsUnmoved, SwitchDraftOf}
+use Rattle.machine_drafts.specs.SwitchDrafts.{IsUnmoved, SwitchDraftOf}
 use Rattle.hyper_core.specs.declared.sources.Source.{Source}
 use Rattle.hyper_core.specs.declared.sources.Source.TheVariants.{Anew, Kept}
 use Rattle.hyper_core.specs.declared.turning.Turned.{Turned}

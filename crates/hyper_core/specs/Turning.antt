@@ -13,8 +13,8 @@ use Rattle.machine_meaning.specs.Settings.{setting_with}
 use Rattle.machine_meaning.specs.Sound.{AreSoundTables}
 use Rattle.machine_meaning.specs.States.{MemberOf, State, SwitchOf}
 use Rattle.hyper_core.specs.Kept.{IsComposedOf, standing_state}
-use Rattle.hyper_core.specs.Outcomes.{bases, state_in}
-use Rattle.hyper_core.specs.declared.outcome.Outcome.{Outcome}
+use Rattle.machine_drafts.specs.Outcomes.{bases, state_in}
+use Rattle.machine_drafts.specs.declared.outcome.Outcome.{Outcome}
 use Rattle.hyper_core.specs.declared.turning.Turned.{Turned}
 use Rattle.hyper_core.specs.declared.turning.Turned.TheVariants.{Nothing, Once, Often}
 

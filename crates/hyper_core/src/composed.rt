@@ -3,16 +3,16 @@ ghost use Rattle.std.specs.Prelude.{◌≡◌, IfOk};
 ghost use Rattle.agreement.specs.Entries.{entries_of as entries_of_of};
 ghost use Rattle.agreement.specs.Fitting.{IsFittingSetting};
 ghost use Rattle.switch_meaning.specs.Keys.{installed as installed_of};
-ghost use Rattle.hyper_core.specs.Outcomes.{members_in, switches_in};
+ghost use Rattle.machine_drafts.specs.Outcomes.{members_in, switches_in};
 ghost use Rattle.machine_meaning.specs.Settings.{setting_with};
 
-use crate::exprs_draft::Exprs;
-use crate::member_draft::MemberDraft;
-use crate::settings::setting;
-use crate::setup::Setup;
-use crate::switch_draft::SwitchDraft;
 use agreement::{Setting, entries_of};
 use cv_io::{List, Memory};
+use machine_drafts::exprs_draft::Exprs;
+use machine_drafts::member_draft::MemberDraft;
+use machine_drafts::settings::setting;
+use machine_drafts::setup::Setup;
+use machine_drafts::switch_draft::SwitchDraft;
 use std::alloc::Global;
 use switch_meaning::{PhysEntry, installed};
 

@@ -1,34 +1,34 @@
 //! An event is drafted: it goes through its phases, anew where sessions are put more than they may be.
 ghost use Rattle.std.specs.Prelude.{◌≡◌, IfOk, IfSome, OnOk};
-ghost use Rattle.hyper_core.specs.Acts.{IsJudgedFor};
-ghost use Rattle.hyper_core.specs.Closings.{closing_of};
+ghost use Rattle.machine_drafts.specs.Acts.{IsJudgedFor};
+ghost use Rattle.machine_drafts.specs.Closings.{closing_of};
 ghost use Rattle.hyper_core.specs.Drafting.{IsDraftOf, IsPutOf};
 ghost use Rattle.hyper_core.specs.Kept.{IsBegun, IsComposedOf};
-ghost use Rattle.hyper_core.specs.Machines.{bases_of, state_in_held};
-ghost use Rattle.hyper_core.specs.Moments.{moment_of as moment_of_event};
-ghost use Rattle.hyper_core.specs.Outcomes.{bases, draft_in};
-ghost use Rattle.hyper_core.specs.Overtaking.{IsHeardOf, IsWhole};
-ghost use Rattle.hyper_core.specs.Puts.{HaveNumbers};
+ghost use Rattle.machine_drafts.specs.Machines.{bases_of, state_in_held};
+ghost use Rattle.machine_drafts.specs.Moments.{moment_of as moment_of_event};
+ghost use Rattle.machine_drafts.specs.Outcomes.{bases, draft_in};
+ghost use Rattle.machine_drafts.specs.Overtaking.{IsHeardOf, IsWhole};
+ghost use Rattle.machine_drafts.specs.Puts.{HaveNumbers};
 ghost use Rattle.hyper_core.specs.Settled.{IsSettledState};
 ghost use Rattle.machine_meaning.specs.Phases.{draft_of, drafted as drafted_of, settled_of, slow as slow_of};
 ghost use Rattle.machine_meaning.specs.Rounds.{close as close_of};
 
-use crate::acting::{act, judge_event};
-use crate::beginning::begin_outcome;
 use crate::composing::compose;
-use crate::heard::Heard;
-use crate::held::Held;
-use crate::judging::Judged;
-use crate::outcome::Outcome;
-use crate::overfilled::Closing;
-use crate::putting::{Drafted, Trial, put};
-use crate::rounds;
-use crate::settling::settle;
-use crate::setup::Setup;
-use crate::telling::tell;
 use composed_tables::Composed;
 use cv_io::Memory;
 use events::Event;
+use machine_drafts::acting::{act, judge_event};
+use machine_drafts::beginning::begin_outcome;
+use machine_drafts::heard::Heard;
+use machine_drafts::held::Held;
+use machine_drafts::judging::Judged;
+use machine_drafts::outcome::Outcome;
+use machine_drafts::overfilled::Closing;
+use machine_drafts::putting::{Drafted, Trial, put};
+use machine_drafts::rounds;
+use machine_drafts::settling::settle;
+use machine_drafts::setup::Setup;
+use machine_drafts::telling::tell;
 use std::alloc::Global;
 
 /// The moment of an event.

@@ -4,19 +4,19 @@ ghost use Rattle.std.specs.Option.{option_copied};
 ghost use Rattle.outbox.specs.Outboxes.{OutboxOf};
 ghost use Rattle.machine_meaning.specs.Glances.{closed_unless as closed_unless_of, glance_of, is_frame as is_frame_of};
 ghost use Rattle.machine_meaning.specs.Glances.{is_present as is_present_of, unless_taken as unless_taken_of};
-ghost use Rattle.hyper_core.specs.Machines.{state_in_held};
+ghost use Rattle.machine_drafts.specs.Machines.{state_in_held};
 ghost use Rattle.machine_meaning.specs.Replacing.{is_expression_for as is_expression_for_of};
 ghost use Rattle.machine_meaning.specs.Sessions.{outbox_of};
 ghost use Rattle.machine_meaning.specs.States.{MemberOf, SwitchOf};
 ghost use Rattle.machine_meaning.specs.Takings.{takes as takes_of};
-ghost use Rattle.hyper_core.specs.Views.{member_of, switch_of};
+ghost use Rattle.machine_drafts.specs.Views.{member_of, switch_of};
 
-use crate::held::Held;
-use crate::session::{Member, Switch};
-use crate::setup::Setup;
 use crate::takings::reply_of;
 use cv_io::{Bytes, Session, Text, Who};
 use events::{Event, Reply};
+use machine_drafts::held::Held;
+use machine_drafts::session::{Member, Switch};
+use machine_drafts::setup::Setup;
 use of10_frames::length_of;
 use outbox::Outbox;
 

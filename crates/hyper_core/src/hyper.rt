@@ -4,16 +4,13 @@ ghost use Rattle.packet_map.specs.Networks.{SeeRising, network_of};
 ghost use Rattle.policy_file.specs.Policies.{plan};
 ghost use Rattle.policy_file.specs.Sound.{IsSound};
 ghost use Rattle.machine_meaning.specs.Glances.{glance_of};
-ghost use Rattle.hyper_core.specs.Machines.{state_of};
+ghost use Rattle.machine_drafts.specs.Machines.{state_of};
 ghost use Rattle.hyper_core.specs.Worlds.{AreTablesOf, installed_on, network_in, rule_count};
 ghost use Rattle.machine_meaning.specs.Sessions.{round_of};
 ghost use Rattle.machine_meaning.specs.States.{opening};
 ghost use Rattle.machine_meaning.specs.Steps.{step_of};
 
-use crate::copying::copied_held;
 use crate::glances::glance;
-use crate::held::Held;
-use crate::setup::Setup;
 use crate::starting::open as open_held;
 use crate::stepping::step as step_held;
 use crate::views::{installed, round, rules};
@@ -22,6 +19,9 @@ use composed_tables::Composed;
 use cv_io::{Duplicate, Memory, Who};
 use events::{Event, Reply};
 use install_plan::Written;
+use machine_drafts::copying::copied_held;
+use machine_drafts::held::Held;
+use machine_drafts::setup::Setup;
 use packet_map::World;
 use policy_file::Policy;
 use std::alloc::Global;
@@ -38,7 +38,7 @@ pub struct Hyper {
 }
 
 impl Model for Hyper {
-    ghost use Rattle.hyper_core.specs.Machines.{HasAll, MachineOf, holding_of, state_in_held};
+    ghost use Rattle.machine_drafts.specs.Machines.{HasAll, MachineOf, holding_of, state_in_held};
     ghost use Rattle.hyper_core.specs.Kept.{IsKept};
     ghost use Rattle.hyper_core.specs.Settled.{IsSettledState};
 

@@ -1,24 +1,26 @@
 //! The composed part is kept beside what the machine holds, under changes of members' tables.
 ghost use Rattle.std.specs.Prelude.{◌≡◌, IfOk, IfSome, IsTrue, OnOk};
-ghost use Rattle.hyper_core.specs.Kept.{AreTables, DraftsHaveSerials, HasSerial, IsComposedOf, IsKept};
-ghost use Rattle.hyper_core.specs.Kept.{IsKeptBy, IsSoundWhile, StandingHaveSerials};
-ghost use Rattle.hyper_core.specs.Machines.{state_in_held};
-ghost use Rattle.hyper_core.specs.Outcomes.{bases, draft_in};
+ghost use Rattle.hyper_core.specs.Kept.{AreTables, IsComposedOf, IsKept};
+ghost use Rattle.machine_drafts.specs.Serials.{DraftsHaveSerials, HasSerial};
+ghost use Rattle.hyper_core.specs.Kept.{IsKeptBy, IsSoundWhile};
+ghost use Rattle.machine_drafts.specs.Serials.{StandingHaveSerials};
+ghost use Rattle.machine_drafts.specs.Machines.{state_in_held};
+ghost use Rattle.machine_drafts.specs.Outcomes.{bases, draft_in};
 ghost use Rattle.hyper_core.specs.Settled.{WasSettled};
-ghost use Rattle.hyper_core.specs.Views.{member_of};
+ghost use Rattle.machine_drafts.specs.Views.{member_of};
 ghost use Rattle.machine_meaning.specs.Composing.{compose as compose_of};
 ghost use Rattle.machine_meaning.specs.Sound.{HasNumbers, IsSoundState};
 
 use crate::composing::compose_from;
-use crate::held::Held;
-use crate::outcome::Outcome;
-use crate::session::Member;
-use crate::setup::Setup;
 use crate::sources::Source;
 use crate::turning::turn;
 use crate::views::present;
 use composed_tables::Composed;
 use cv_io::{Memory, Steps};
+use machine_drafts::held::Held;
+use machine_drafts::outcome::Outcome;
+use machine_drafts::session::Member;
+use machine_drafts::setup::Setup;
 use setting_laws::laws::settings_are_ready;
 use std::marker::Brand;
 use std::sync::ledger::{Blank, Ledger};

@@ -12,12 +12,12 @@ ghost use Rattle.hyper_core.specs.Sources.{CanGive, Gives, IsChangeFor, IsChange
 ghost use Rattle.hyper_core.specs.Sources.{IsToldFor, IsWantedBy};
 
 use crate::composed::wanted;
-use crate::switch_draft::SwitchDraft;
 use crate::turning::Turned;
 use agreement::Setting;
 use composed_tables::Composed;
 use cv_io::{List, Memory};
 use install_plan::{Batch, Written};
+use machine_drafts::switch_draft::SwitchDraft;
 use std::alloc::Global;
 use switch_meaning::PhysEntry;
 use told_batches::{Change, change_between, change_told};

@@ -1,17 +1,17 @@
 //! The machine as it opens: nothing is up, and tables are empty.
 ghost use Rattle.std.specs.Prelude.{◌≡◌, ◌≤◌, All, IfOk, map};
-ghost use Rattle.hyper_core.specs.Machines.{HasAll, HasBits, state_in_held};
+ghost use Rattle.machine_drafts.specs.Machines.{HasAll, HasBits, state_in_held};
 ghost use Rattle.hyper_core.specs.Settled.{IsSettledState};
 ghost use Rattle.machine_meaning.specs.Sound.{IsSoundState};
 ghost use Rattle.machine_meaning.specs.States.{new_member as new_member_of, new_switch as new_switch_of};
 ghost use Rattle.machine_meaning.specs.States.{nothing_stands, opening};
-ghost use Rattle.hyper_core.specs.Views.{member_of, standing_of, switch_of};
+ghost use Rattle.machine_drafts.specs.Views.{member_of, standing_of, switch_of};
 
-use crate::held::Held;
-use crate::member_draft::FIRST_CONFIG;
-use crate::session::{Member, Switch};
-use crate::setup::Setup;
 use cv_io::{List, Memory};
+use machine_drafts::held::Held;
+use machine_drafts::member_draft::FIRST_CONFIG;
+use machine_drafts::session::{Member, Switch};
+use machine_drafts::setup::Setup;
 use member_state::MemberState;
 use outbox::{Letters, Outbox};
 use policy_file::MemberItem;

@@ -4,26 +4,26 @@ ghost use Rattle.machine_meaning.specs.Events.{AreBytes, IsEvent};
 ghost use Rattle.machine_meaning.specs.Glances.{glance_of};
 ghost use Rattle.machine_meaning.specs.Hearing.{heard};
 ghost use Rattle.hyper_core.specs.Kept.{IsBegun, IsComposedOf, IsKept};
-ghost use Rattle.hyper_core.specs.Machines.{HasAll, state_in_held};
-ghost use Rattle.hyper_core.specs.Moments.{taking_in as taking_in_of};
-ghost use Rattle.hyper_core.specs.Overtaking.{IsHeardOf, IsWhole};
+ghost use Rattle.machine_drafts.specs.Machines.{HasAll, state_in_held};
+ghost use Rattle.machine_drafts.specs.Moments.{taking_in as taking_in_of};
+ghost use Rattle.machine_drafts.specs.Overtaking.{IsHeardOf, IsWhole};
 ghost use Rattle.hyper_core.specs.Settled.{IsSettledState};
 ghost use Rattle.machine_meaning.specs.Phases.{drafted as drafted_of};
 ghost use Rattle.machine_meaning.specs.Steps.{done, step_of};
 
 use crate::drafting::draft_event;
 use crate::glances::glance;
-use crate::heard::Heard;
-use crate::held::Held;
 use crate::keeping::keep;
-use crate::moving::move_in;
 use crate::overtaking::hear;
-use crate::putting::Drafted;
-use crate::setup::Setup;
 use crate::takings::take;
 use composed_tables::Composed;
 use cv_io::{Memory, Session};
 use events::{Event, Reply};
+use machine_drafts::heard::Heard;
+use machine_drafts::held::Held;
+use machine_drafts::moving::move_in;
+use machine_drafts::putting::Drafted;
+use machine_drafts::setup::Setup;
 use machine_meaning::laws::soundness_is_kept;
 
 /// An event is drafted, and what it leaves is moved in.

@@ -2,16 +2,16 @@
 ghost use Rattle.std.specs.Prelude.{◌≡◌, length, map, option_map, slice_get};
 ghost use Rattle.outbox.specs.Outboxes.{OutboxOf, taken};
 ghost use Rattle.machine_meaning.specs.Lists.{changed_at};
-ghost use Rattle.hyper_core.specs.Machines.{state_in_held};
+ghost use Rattle.machine_drafts.specs.Machines.{state_in_held};
 ghost use Rattle.machine_meaning.specs.States.{MemberOf, State, SwitchOf};
 ghost use Rattle.machine_meaning.specs.Takings.{audit_outbox, left_by, reply_of as reply_of_of, takes as takes_of};
 ghost use Rattle.machine_meaning.specs.Takings.{takes_by, taking_from};
-ghost use Rattle.hyper_core.specs.Views.{member_of, standing_of, switch_of};
+ghost use Rattle.machine_drafts.specs.Views.{member_of, standing_of, switch_of};
 
-use crate::held::Held;
-use crate::session::{Member, Switch};
 use cv_io::{Session, Who};
 use events::Reply;
+use machine_drafts::held::Held;
+use machine_drafts::session::{Member, Switch};
 use outbox::{Letters, Taking};
 
 /// The reply to a taking.

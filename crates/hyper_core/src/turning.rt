@@ -1,16 +1,16 @@
 //! What is kept of the composed part changes with what an event plans for members' tables.
 ghost use Rattle.std.specs.Prelude.{◌≡◌, ◌<◌, ◌+◌, IfOk, List, OnOk, length};
 ghost use Rattle.hyper_core.specs.Kept.{IsComposedOf};
-ghost use Rattle.hyper_core.specs.Outcomes.{state_in};
+ghost use Rattle.machine_drafts.specs.Outcomes.{state_in};
 ghost use Rattle.hyper_core.specs.Turning.{ArePortsAt, AreTold, CanFollow, joined, mixed_at, stood_in};
 ghost use Rattle.machine_meaning.specs.Sound.{AreSoundTables};
 ghost use Rattle.switch_tables.specs.Tables.{SwitchTableOf};
 
-use crate::outcome::Outcome;
-use crate::settings::ups;
-use crate::setup::Setup;
 use composed_tables::{Composed, SwitchBatch};
 use cv_io::{List, Memory, Steps};
+use machine_drafts::outcome::Outcome;
+use machine_drafts::settings::ups;
+use machine_drafts::setup::Setup;
 use policy_expr::Expr;
 use policy_setting::virtual_switch;
 use setting_laws::laws::mixtures_turn;

@@ -2,15 +2,15 @@
 //! what stands on them.
 ghost use Rattle.std.specs.Prelude.{◌≡◌, ℕ, false, IsTrue};
 ghost use Rattle.std.specs.List.{AllByRecursion};
-ghost use Rattle.hyper_core.specs.MemberDrafts.{IsUnplanned};
+ghost use Rattle.machine_drafts.specs.MemberDrafts.{IsUnplanned};
 ghost use Rattle.hyper_core.specs.Settled.{IsUnchanged};
-ghost use Rattle.hyper_core.specs.SwitchDrafts.{IsUnmoved};
+ghost use Rattle.machine_drafts.specs.SwitchDrafts.{IsUnmoved};
 ghost use Rattle.machine_meaning.specs.Sessions.{is_switch};
 
-use crate::member_draft::MemberDraft;
-use crate::outcome::Outcome;
-use crate::switch_draft::SwitchDraft;
 use cv_io::Who;
+use machine_drafts::member_draft::MemberDraft;
+use machine_drafts::outcome::Outcome;
+use machine_drafts::switch_draft::SwitchDraft;
 
 /// The round of no switch begins.
 fn begins_none(begun: &Option<Who>) -> bool

@@ -2,19 +2,19 @@
 ghost use Rattle.std.specs.Prelude.{◌≡◌, IfOk, length, map, option_map, slice_get};
 ghost use Rattle.agreement.specs.Fitting.{IsFittingSetting};
 ghost use Rattle.policy_meaning.specs.Networks.{switch_rules as switch_rules_of};
-ghost use Rattle.hyper_core.specs.Machines.{state_in_held};
+ghost use Rattle.machine_drafts.specs.Machines.{state_in_held};
 ghost use Rattle.hyper_core.specs.Worlds.{installed_on, rule_count};
 ghost use Rattle.machine_meaning.specs.Sessions.{round_of};
 ghost use Rattle.machine_meaning.specs.Settings.{setting_of};
 
-use crate::beginning::begin_outcome;
 use crate::composed::fitting;
 use crate::glances::outbox_for;
-use crate::held::Held;
-use crate::setup::Setup;
 use agreement::Setting;
 use cv_io::{Memory, Who};
 use install_plan::Written;
+use machine_drafts::beginning::begin_outcome;
+use machine_drafts::held::Held;
+use machine_drafts::setup::Setup;
 use policy_meaning::switch_rules;
 use std::alloc::Global;
 

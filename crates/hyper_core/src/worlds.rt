@@ -2,15 +2,15 @@
 ghost use Rattle.std.specs.Prelude.{◌≡◌, IfOk, map};
 ghost use Rattle.packet_map.specs.Networks.{SeeRising, network_of};
 ghost use Rattle.policy_file.specs.Policies.{plan};
-ghost use Rattle.hyper_core.specs.Machines.{state_in_held};
-ghost use Rattle.hyper_core.specs.Views.{member_of};
+ghost use Rattle.machine_drafts.specs.Machines.{state_in_held};
+ghost use Rattle.machine_drafts.specs.Views.{member_of};
 ghost use Rattle.hyper_core.specs.Worlds.{AreTablesOf, grant_of, network_in, table_in, table_of};
 
-use crate::held::Held;
-use crate::session::Member;
-use crate::setup::Setup;
 use cv_io::{Duplicate, List, Memory};
 use grants::Grant;
+use machine_drafts::held::Held;
+use machine_drafts::session::Member;
+use machine_drafts::setup::Setup;
 use member_table::Table;
 use packet_map::World;
 use policy_file::MemberItem;

@@ -3,12 +3,12 @@ use denote.Param.Send.{IsSend, sendable}
 use denote.Param.SendFields.{as_row_send}
 use Rattle.std.proofs.Crossing.{Box-send}
 use Rattle.cv_io.proofs.list.List.TheSendSync.{the_send as list}
-use Rattle.hyper_core.proofs.session.Member.TheSendSync.{the_send as member}
-use Rattle.hyper_core.proofs.session.Switch.TheSendSync.{the_send as switch}
-use Rattle.hyper_core.proofs.setup.Setup.TheSendSync.{the_send as setup}
-use Rattle.hyper_core.specs.contracts.held.Held as Held
+use Rattle.machine_drafts.proofs.session.Member.TheSendSync.{the_send as member}
+use Rattle.machine_drafts.proofs.session.Switch.TheSendSync.{the_send as switch}
+use Rattle.machine_drafts.proofs.setup.Setup.TheSendSync.{the_send as setup}
+use Rattle.machine_drafts.specs.contracts.held.Held as Held
 use Rattle.hyper_core.specs.contracts.hyper.Hyper as Hyper
-use Rattle.hyper_core.specs.contracts.setup.Setup as Setup
+use Rattle.machine_drafts.specs.contracts.setup.Setup as Setup
 use Rattle.machine_meaning.proofs.state.Owed.TheSendSync.{the_send as owed}
 use Rattle.outbox.proofs.letters.Letters.TheSendSync.{the_send as letters}
 use Rattle.policy_expr.proofs.expr.Expr.TheLaws.TheKnot as knot

@@ -1,7 +1,7 @@
 -- What holds of the places of a policy.
 use Rattle.std.specs.Prelude.{◌≡◌, ◌<◌, ◌+◌, ◌*◌, ◌^◌, ℕ, All, length}
 use Rattle.endpoint_works.specs.Sides.{IsServedSide}
-use Rattle.hyper_core.specs.Machines.{MachineOf, state_of}
+use Rattle.machine_drafts.specs.Machines.{MachineOf, state_of}
 use Rattle.hyper_core.specs.Meanings.{data_in}
 use Rattle.hyper_desk.specs.Proxies.{HasOne}
 use Rattle.machine_meaning.specs.States.{opening}

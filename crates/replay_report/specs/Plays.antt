@@ -1,6 +1,6 @@
 -- What a call leaves of a replay, beside what it is to do.
 use Rattle.std.specs.Prelude.{◌≡◌, Bool, true, false, List, [], ◌++◌, Option, Some, None, Result, Ok, Err}
-use Rattle.hyper_core.specs.Machines.{MachineOf, state_of}
+use Rattle.machine_drafts.specs.Machines.{MachineOf, state_of}
 use Rattle.replay_report.specs.Playing.{Played, Stand}
 use Rattle.replay_report.specs.declared.streams.Stream.{Stream}
 use Rattle.replay_report.specs.declared.telling.Stage.{Stage}

@@ -1,6 +1,6 @@
 //! What a session sends: each frame of it is a message.
 ghost use Rattle.std.specs.Prelude.{◌≡◌, ◌++◌, ◌∷◌, [], IfOk, OnOk, true};
-ghost use Rattle.hyper_core.specs.Machines.{state_of};
+ghost use Rattle.machine_drafts.specs.Machines.{state_of};
 ghost use Rattle.replay_report.specs.Playing.{hears, sends, short_line as short_line_of};
 ghost use Rattle.replay_report.specs.Cuts.{Left, frames_of, rest_of};
 

@@ -1,6 +1,6 @@
 //! What a line of a script does.
 ghost use Rattle.std.specs.Prelude.{◌≡◌, ◌<◌, ◌++◌, IfOk, OnOk, length};
-ghost use Rattle.hyper_core.specs.Machines.{state_of};
+ghost use Rattle.machine_drafts.specs.Machines.{state_of};
 ghost use Rattle.replay_report.specs.Playing.{comes_up as comes_up_of, goes, line_does, sent as sent_of};
 ghost use Rattle.replay_report.specs.Playing.{tells_arp as tells_arp_of};
 ghost use Rattle.replay_report.specs.Takings.{does};

@@ -1,7 +1,7 @@
 //! An event, and the report of what it puts into outboxes and audit.
 ghost use Rattle.std.specs.Prelude.{◌≡◌, ◌++◌, [], IfOk, OnOk};
 ghost use Rattle.machine_meaning.specs.States.{opening};
-ghost use Rattle.hyper_core.specs.Machines.{state_of};
+ghost use Rattle.machine_drafts.specs.Machines.{state_of};
 ghost use Rattle.replay_report.specs.Playing.{present as present_of};
 ghost use Rattle.replay_report.specs.Explaining.{Asks, asked};
 ghost use Rattle.replay_report.specs.Sessions.{sessions_of, virtual_named};

@@ -1,5 +1,5 @@
 //! What is to stand on a switch: a gate with all entries that are put there, and the table of those that pass.
-ghost use Rattle.std.specs.Prelude.{◌≡◌, [], List, OnErr, IfOk};
+ghost use Rattle.std.specs.Prelude.{◌≡◌, [], List, OnErr, IfOk, length};
 ghost use Rattle.agreement.specs.FreeOrder.{HaveMatches};
 ghost use Rattle.install_plan.specs.Tables.{IsTable};
 ghost use Rattle.of10_match.specs.Ranges.{IsMatch};
@@ -54,6 +54,14 @@ impl SwitchTable {
             gate: Gate::new(alloc),
             installed: Installed::new(alloc),
         }
+    }
+
+    /// How many entries stand. What is true of every table is said here.
+    pub fn count(&self) -> usize
+        ensures count { result ≡ length self.now.installed.now.standing }
+        ensures table { IsTable self.now.installed.now }
+    {
+        self.installed.len()
     }
 
     /// What stands, by rising key.

@@ -2,7 +2,7 @@ use Rattle.std.proofs.Common.{◌∙◌, Option, Some, subst, sym}
 use Rattle.std.specs.Prelude.{IfSome}
 use Rattle.composed_tables.specs.Composing.{ComposedOf}
 use Rattle.hyper_core.specs.Kept.{IsComposedOf, IsKeptBy}
-use Rattle.hyper_core.specs.Outcomes.{bases, draft_in}
+use Rattle.machine_drafts.specs.Outcomes.{bases, draft_in}
 use Rattle.hyper_core.proofs.Attempts.{in_ok_case}
 use Rattle.hyper_core.proofs.Following.{unchanged_kept}
 use Rattle.hyper_core.proofs.Unneeded.{unchanged_composed}

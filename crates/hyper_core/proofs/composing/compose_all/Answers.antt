@@ -2,14 +2,14 @@ use Rattle.std.proofs.Common.{◌≡◌, ◌∙◌, ◌+◌, ◌<◌, ◌≤◌,
 use Rattle.std.specs.Prelude.{fold}
 use Rattle.std.proofs.lemmas.List.{length-map}
 use Rattle.stats_map.specs.Told.{told}
-use Rattle.hyper_core.proofs.Numbers.{fold_end, fold_next}
+use Rattle.machine_drafts.proofs.Numbers.{fold_end, fold_next}
 use Rattle.hyper_core.proofs.Sourced.{can_give_one, later_apart}
 use Rattle.hyper_core.specs.Composed.{with_composed}
 use Rattle.machine_meaning.specs.Composing.{compose_at}
 use Rattle.machine_meaning.specs.Drafts.{Draft}
 use Rattle.machine_meaning.specs.Lists.{places}
-use Rattle.hyper_core.specs.Outcomes.{standing_in, switches_in}
-use Rattle.hyper_core.specs.SwitchDrafts.{SwitchDraftOf}
+use Rattle.machine_drafts.specs.Outcomes.{standing_in, switches_in}
+use Rattle.machine_drafts.specs.SwitchDrafts.{SwitchDraftOf}
 use Rattle.hyper_core.proofs.composing.compose_all.Goals as goal
 
 pub compose_nth-requires-clause-can : goal.compose_nth-requires-clause-can

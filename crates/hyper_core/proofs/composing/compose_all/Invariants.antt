@@ -6,7 +6,7 @@ use Rattle.hyper_core.specs.Composed.{with_composed}
 use Rattle.machine_meaning.specs.Composing.{compose_all, compose_at}
 use Rattle.machine_meaning.specs.Drafts.{Draft}
 use Rattle.machine_meaning.specs.Lists.{places}
-use Rattle.hyper_core.specs.Outcomes.{standing_in, switch_bases, switches_in}
+use Rattle.machine_drafts.specs.Outcomes.{standing_in, switch_bases, switches_in}
 use Rattle.hyper_core.specs.Sources.{GivesAll}
 use Rattle.hyper_core.proofs.composing.compose_all.Given as goal
 

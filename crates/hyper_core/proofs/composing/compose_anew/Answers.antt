@@ -1,6 +1,6 @@
 use Rattle.std.proofs.Common.{◌≡◌, ◌∙◌}
 use Rattle.std.proofs.lemmas.Result.{on_ok_weaker}
-use Rattle.hyper_core.specs.Outcomes.{draft_in, members_in, switches_in}
+use Rattle.machine_drafts.specs.Outcomes.{draft_in, members_in, switches_in}
 use Rattle.machine_meaning.specs.Settings.{setting_of, setting_with}
 use Rattle.hyper_core.proofs.composing.compose_anew.Goals as goal
 

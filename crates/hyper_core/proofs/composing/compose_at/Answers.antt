@@ -11,7 +11,7 @@ use Rattle.hyper_core.proofs.OneSwitch.{composed_down, composed_still, composed_
 use Rattle.machine_meaning.specs.Batches.{counts_after, next_after}
 use Rattle.machine_meaning.specs.Drafts.{letter}
 use Rattle.hyper_core.specs.Sources.{IsChangeFor}
-use Rattle.hyper_core.specs.SwitchDrafts.{with_written}
+use Rattle.machine_drafts.specs.SwitchDrafts.{with_written}
 use Rattle.hyper_core.proofs.composing.compose_at.Goals as goal
 
 pub returns-then-not-is_up-clause-composed : goal.returns-then-not-is_up-clause-composed

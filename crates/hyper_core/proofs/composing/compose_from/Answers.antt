@@ -4,9 +4,9 @@ use Rattle.stats_map.specs.Told.{told}
 use Rattle.hyper_core.proofs.Refilled.{refilled}
 use Rattle.hyper_core.specs.Composed.{with_composed}
 use Rattle.machine_meaning.specs.Composing.{compose_all}
-use Rattle.hyper_core.specs.Outcomes.{draft_in, standing_in, switches_in}
+use Rattle.machine_drafts.specs.Outcomes.{draft_in, standing_in, switches_in}
 use Rattle.hyper_core.specs.Sources.{CanGive, GivesAll}
-use Rattle.hyper_core.specs.SwitchDrafts.{SwitchDraftOf}
+use Rattle.machine_drafts.specs.SwitchDrafts.{SwitchDraftOf}
 use Rattle.hyper_core.proofs.composing.compose_from.Goals as goal
 
 pub compose_all-requires-clause-can : goal.compose_all-requires-clause-can

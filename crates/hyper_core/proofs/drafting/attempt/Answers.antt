@@ -4,11 +4,11 @@ use Rattle.std.specs.Prelude.{IfSome}
 use Rattle.machine_meaning.specs.Phases.{settled_of}
 use Rattle.machine_meaning.specs.States.{State}
 use Rattle.hyper_core.proofs.Attempts.{in_ok_case, numbers_kept, put_at}
-use Rattle.hyper_core.specs.Closings.{closing_of}
+use Rattle.machine_drafts.specs.Closings.{closing_of}
 use Rattle.hyper_core.specs.Kept.{IsBegun, IsComposedOf}
-use Rattle.hyper_core.specs.Moments.{moment_of}
-use Rattle.hyper_core.specs.Overtaking.{IsHeardOf}
-use Rattle.hyper_core.specs.Puts.{HaveNumbers}
+use Rattle.machine_drafts.specs.Moments.{moment_of}
+use Rattle.machine_drafts.specs.Overtaking.{IsHeardOf}
+use Rattle.machine_drafts.specs.Puts.{HaveNumbers}
 use Rattle.hyper_core.specs.Settled.{IsSettledState}
 use Rattle.hyper_core.proofs.drafting.attempt.Goals as goal
 

@@ -1,16 +1,16 @@
 use Rattle.std.proofs.Common.{◌≡◌, ◌∙◌, sym, ap, subst}
 use Rattle.std.specs.Prelude.{IfSome}
-use Rattle.hyper_core.proofs.Acted.{few_begun, fresh_begun, judged_begun, nothing_sent, sendable_after}
+use Rattle.machine_drafts.proofs.Acted.{few_begun, fresh_begun, judged_begun, nothing_sent, sendable_after}
 use Rattle.hyper_core.proofs.KeptOn.{all_settled, kept_settled}
 use Rattle.hyper_core.proofs.Overtaken.{heard_at}
 use Rattle.hyper_core.proofs.Phased.{all_phases, moment_again, stands_before, timely_begun}
-use Rattle.hyper_core.specs.Closings.{closing_of}
+use Rattle.machine_drafts.specs.Closings.{closing_of}
 use Rattle.machine_meaning.specs.Drafts.{Draft, untouched}
-use Rattle.hyper_core.specs.Machines.{at_moment, bases_of, state_in_held}
-use Rattle.hyper_core.specs.Moments.{IsOfEvent, moment_of}
+use Rattle.machine_drafts.specs.Machines.{at_moment, bases_of, state_in_held}
+use Rattle.machine_drafts.specs.Moments.{IsOfEvent, moment_of}
 use Rattle.hyper_core.specs.Kept.{IsComposedOf}
-use Rattle.hyper_core.specs.Outcomes.{AreTimely, IsBefore, bases, draft_in}
-use Rattle.hyper_core.specs.Overtaking.{IsHeardOf}
+use Rattle.machine_drafts.specs.Outcomes.{AreTimely, IsBefore, bases, draft_in}
+use Rattle.machine_drafts.specs.Overtaking.{IsHeardOf}
 use Rattle.hyper_core.specs.Settled.{WasSettled}
 use Rattle.hyper_core.proofs.drafting.draft.Goals as goal
 

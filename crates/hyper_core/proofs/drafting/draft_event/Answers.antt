@@ -4,12 +4,12 @@ use Rattle.std.specs.Prelude.{IfSome}
 use Rattle.machine_meaning.specs.Phases.{settled_of}
 use Rattle.machine_meaning.specs.States.{State}
 use Rattle.hyper_core.proofs.Attempts.{all_drafted, drafted_anew, kept_drafted, numbers_kept}
-use Rattle.hyper_core.specs.Closings.{closing_of}
+use Rattle.machine_drafts.specs.Closings.{closing_of}
 use Rattle.hyper_core.specs.Drafting.{IsPutOf}
 use Rattle.hyper_core.specs.Kept.{IsBegun, IsComposedOf}
-use Rattle.hyper_core.specs.Machines.{state_in_held}
-use Rattle.hyper_core.specs.Moments.{moment_of}
-use Rattle.hyper_core.specs.Overtaking.{IsHeardOf}
+use Rattle.machine_drafts.specs.Machines.{state_in_held}
+use Rattle.machine_drafts.specs.Moments.{moment_of}
+use Rattle.machine_drafts.specs.Overtaking.{IsHeardOf}
 use Rattle.machine_meaning.specs.Phases.{slow_from}
 use Rattle.hyper_core.specs.Settled.{IsSettledState}
 use Rattle.hyper_core.proofs.drafting.draft_event.Goals as goal

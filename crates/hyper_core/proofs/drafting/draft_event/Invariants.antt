@@ -1,8 +1,8 @@
 use Rattle.std.proofs.Common.{◌≡◌}
 use Rattle.std.specs.Prelude.{IfSome}
-use Rattle.hyper_core.specs.Closings.{closing_of}
+use Rattle.machine_drafts.specs.Closings.{closing_of}
 use Rattle.hyper_core.specs.Kept.{IsBegun}
-use Rattle.hyper_core.specs.Machines.{state_in_held}
+use Rattle.machine_drafts.specs.Machines.{state_in_held}
 use Rattle.machine_meaning.specs.Phases.{slow, slow_from}
 use Rattle.hyper_core.proofs.drafting.draft_event.Given as goal
 

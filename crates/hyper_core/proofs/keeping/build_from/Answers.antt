@@ -4,7 +4,7 @@ use Rattle.composed_tables.specs.Composing.{ComposedOf, IsGood, IsOf}
 use Rattle.composed_tables.specs.Rules.{IsReadyFor}
 use Rattle.std.proofs.lemmas.Result.{IfOk-weaker}
 use Rattle.virtual_topology.specs.declared.plan.TopologyPlan.{TopologyPlan}
-use Rattle.hyper_core.specs.Machines.{state_in_held}
+use Rattle.machine_drafts.specs.Machines.{state_in_held}
 use Rattle.hyper_core.proofs.Kept.{built_kept, tables_sound}
 use Rattle.hyper_core.proofs.keeping.build_from.Goals as goal
 

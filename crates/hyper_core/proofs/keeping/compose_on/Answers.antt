@@ -1,7 +1,7 @@
 use Rattle.std.proofs.Common.{◌∙◌, arith, length}
 use Rattle.std.proofs.lemmas.Result.{on_ok_weaker}
 use Rattle.machine_meaning.specs.Settings.{setting_of}
-use Rattle.hyper_core.specs.Outcomes.{state_in}
+use Rattle.machine_drafts.specs.Outcomes.{state_in}
 use Rattle.hyper_core.proofs.Attempts.{in_ok_case}
 use Rattle.hyper_core.proofs.Following.{can_follow, can_give, wanted_by}
 use Rattle.hyper_core.proofs.Serials.{drafts_have}

@@ -1,6 +1,6 @@
 use Rattle.std.proofs.Common.{arith, subst, sym}
 use Rattle.hyper_core.proofs.Serials.{members_have}
-use Rattle.hyper_core.specs.Kept.{StandingHaveSerials}
+use Rattle.machine_drafts.specs.Serials.{StandingHaveSerials}
 use Rattle.hyper_core.proofs.keeping.has_numbers.Goals as goal
 
 pub returns-then-held-lt18446744073709551615 : goal.returns-then-held-lt18446744073709551615

@@ -1,4 +1,4 @@
-use Rattle.hyper_core.specs.Machines.{state_in_held}
+use Rattle.machine_drafts.specs.Machines.{state_in_held}
 use Rattle.hyper_core.proofs.KeptOn.{kept_none}
 use Rattle.hyper_core.proofs.keeping.keep.Goals as goal
 

@@ -1,6 +1,6 @@
 use Rattle.std.proofs.Common.{◌≡◌, map, take}
 use Rattle.machine_meaning.specs.States.{new_member}
-use Rattle.hyper_core.specs.Views.{member_of}
+use Rattle.machine_drafts.specs.Views.{member_of}
 use Rattle.hyper_core.proofs.starting.new_members.Given as goal
 
 abbrev pub invariant-loop-item : goal.invariant-loop-item

@@ -1,6 +1,6 @@
 use Rattle.std.proofs.Common.{◌≡◌, map, take}
 use Rattle.machine_meaning.specs.States.{new_switch, nothing_stands}
-use Rattle.hyper_core.specs.Views.{standing_of, switch_of}
+use Rattle.machine_drafts.specs.Views.{standing_of, switch_of}
 use Rattle.hyper_core.proofs.starting.new_switches.Given as goal
 
 abbrev pub invariant-loop-item : goal.invariant-loop-item

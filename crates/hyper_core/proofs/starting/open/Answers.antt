@@ -8,10 +8,10 @@ use Rattle.virtual_topology.specs.declared.plan.SwitchItem.{SwitchItem}
 use Rattle.machine_meaning.specs.States.{State, exprs_read, new_member, new_switch, nothing_stands, opening}
 use Rattle.machine_meaning.specs.Sound.{IsSoundState}
 use Rattle.machine_meaning.proofs.Opening.{opening_sound}
-use Rattle.hyper_core.specs.Machines.{HasBits}
-use Rattle.hyper_core.specs.Views.{member_of, standing_of, switch_of}
+use Rattle.machine_drafts.specs.Machines.{HasBits}
+use Rattle.machine_drafts.specs.Views.{member_of, standing_of, switch_of}
 use Rattle.hyper_core.proofs.Opened.{all_bits, as_many}
-use Rattle.hyper_core.proofs.Puts.{state_same}
+use Rattle.machine_drafts.proofs.Puts.{state_same}
 use Rattle.hyper_core.proofs.StaysSettled.{opening_settled}
 use Rattle.hyper_core.specs.Settled.{IsSettledState}
 use Rattle.hyper_core.proofs.starting.open.Goals as goal

@@ -1,6 +1,6 @@
 use Rattle.std.proofs.Common.{◌∙◌, ap, subst, sym}
 use Rattle.stats_map.specs.Told.{HeldOf}
-use Rattle.hyper_core.specs.Machines.{state_in_held}
+use Rattle.machine_drafts.specs.Machines.{state_in_held}
 use Rattle.hyper_core.proofs.Attempts.{drafted_done, drafted_moves, has_all_kept, has_all_moved, held_with}
 use Rattle.hyper_core.proofs.Attempts.{in_any_case}
 use Rattle.hyper_core.proofs.KeptOn.{kept_done}

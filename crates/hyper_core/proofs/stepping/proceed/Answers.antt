@@ -8,9 +8,9 @@ use Rattle.hyper_core.proofs.Attempts.{has_all_kept}
 use Rattle.hyper_core.proofs.KeptOn.{begun_kept, kept_none, sound_stepped}
 use Rattle.hyper_core.proofs.Stepped.{has_all_counted, settled_counted, step_other, taken_back}
 use Rattle.hyper_core.specs.Kept.{IsKept, IsSoundWhile}
-use Rattle.hyper_core.specs.Machines.{state_in_held}
+use Rattle.machine_drafts.specs.Machines.{state_in_held}
 use Rattle.hyper_core.specs.Settled.{IsSettledState}
-use Rattle.hyper_core.specs.declared.held.Held.{Held}
+use Rattle.machine_drafts.specs.declared.held.Held.{Held}
 use Rattle.hyper_core.proofs.stepping.proceed.Goals as goal
 
 pub hear-requires : goal.hear-requires

@@ -1,6 +1,6 @@
 use Rattle.std.proofs.Common.{◌∙◌, List, ℕ, ap, refl, sym}
 use Rattle.cv_io.specs.declared.leaf.Who.{Who}
-use Rattle.hyper_core.specs.Machines.{state_in_held}
+use Rattle.machine_drafts.specs.Machines.{state_in_held}
 use Rattle.machine_meaning.specs.Takings.{left_by, takes_by}
 use Rattle.hyper_core.proofs.takings.take.Goals as goal
 

@@ -5,7 +5,7 @@ use Rattle.outbox.specs.Outboxes.{OutboxOf, taken}
 use Rattle.machine_meaning.proofs.Places.{changed_past, map-set_changed, slice_get-map}
 use Rattle.machine_meaning.specs.States.{MemberOf}
 use Rattle.machine_meaning.specs.Takings.{reply_of, taking_from}
-use Rattle.hyper_core.specs.Views.{member_of}
+use Rattle.machine_drafts.specs.Views.{member_of}
 use Rattle.hyper_core.proofs.takings.take_member.Goals as goal
 
 pub returns-then-n-members-clause-left : goal.returns-then-n-members-clause-left

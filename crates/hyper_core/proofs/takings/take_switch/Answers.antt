@@ -5,7 +5,7 @@ use Rattle.outbox.specs.Outboxes.{OutboxOf, taken}
 use Rattle.machine_meaning.proofs.Places.{changed_past, map-set_changed, map-set_same, slice_get-map}
 use Rattle.machine_meaning.specs.States.{SwitchOf}
 use Rattle.machine_meaning.specs.Takings.{reply_of, taking_from}
-use Rattle.hyper_core.specs.Views.{standing_of, switch_of}
+use Rattle.machine_drafts.specs.Views.{standing_of, switch_of}
 use Rattle.hyper_core.proofs.takings.take_switch.Goals as goal
 
 pub returns-then-n-switches-clause-left : goal.returns-then-n-switches-clause-left

@@ -3,8 +3,8 @@ use Rattle.std.proofs.lemmas.List.{length-map}
 use Rattle.setting_laws.proofs.Ups.{long_physical}
 use Rattle.machine_meaning.specs.Settings.{ups_with}
 use Rattle.machine_meaning.specs.States.{SwitchOf}
-use Rattle.hyper_core.specs.Outcomes.{switches_in}
-use Rattle.hyper_core.specs.SwitchDrafts.{SwitchDraftOf}
+use Rattle.machine_drafts.specs.Outcomes.{switches_in}
+use Rattle.machine_drafts.specs.SwitchDrafts.{SwitchDraftOf}
 use Rattle.hyper_core.specs.Turning.{mixed_at}
 use Rattle.hyper_core.proofs.OneTurn.{kept_first, kept_last}
 use Rattle.hyper_core.proofs.turning.turn.Goals as goal

@@ -3,7 +3,7 @@ use Rattle.std.specs.Prelude.{IfSome}
 use Rattle.policy_file.specs.declared.policy.MemberItem.{MemberItem}
 use Rattle.machine_meaning.proofs.Grants.{grant_sound, item_of}
 use Rattle.incr_compile.specs.declared.compiled.LeafDelta.{LeafDelta}
-use Rattle.hyper_core.specs.MemberDrafts.{IsLeafDelta}
+use Rattle.machine_drafts.specs.MemberDrafts.{IsLeafDelta}
 use Rattle.hyper_core.specs.Turning.{AreTold}
 use Rattle.hyper_core.proofs.OneTurn.{can_turn, item_at, items_long, kept_unplanned, told_more}
 use Rattle.hyper_core.proofs.turning.turn_member.Goals as goal

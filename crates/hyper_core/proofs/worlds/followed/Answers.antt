@@ -2,7 +2,7 @@ use Rattle.std.proofs.Common.{◌∙◌, List, All, ap, map, refl, subst, sym}
 use Rattle.grants.specs.declared.grant.Grant.{Grant}
 use Rattle.packet_map.specs.Rising.{SeesRising}
 use Rattle.hyper_core.proofs.Followed.{grants_rise, same_network}
-use Rattle.hyper_core.specs.Machines.{state_in_held}
+use Rattle.machine_drafts.specs.Machines.{state_in_held}
 use Rattle.hyper_core.specs.Worlds.{grant_of}
 use Rattle.hyper_core.proofs.worlds.followed.Goals as goal
 

@@ -1,5 +1,5 @@
 use Rattle.std.proofs.Common.{◌≡◌, map, take}
-use Rattle.hyper_core.specs.Views.{member_of}
+use Rattle.machine_drafts.specs.Views.{member_of}
 use Rattle.hyper_core.specs.Worlds.{table_in, table_of}
 use Rattle.hyper_core.proofs.worlds.member_tables.Given as goal
 

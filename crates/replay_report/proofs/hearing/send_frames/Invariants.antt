@@ -1,5 +1,5 @@
 use Rattle.std.proofs.Common.{◌≡◌, ◌++◌, length}
-use Rattle.hyper_core.specs.Machines.{state_of}
+use Rattle.machine_drafts.specs.Machines.{state_of}
 use Rattle.replay_report.specs.Cuts.{frames_of, rest_of}
 use Rattle.replay_report.specs.Playing.{sends}
 use Rattle.replay_report.proofs.hearing.send_frames.Given as goal

@@ -1,6 +1,6 @@
 use Rattle.std.proofs.Common.{◌∙◌, ℕ, Option, List, ap, subst, sym}
 use Rattle.events.specs.declared.event.Event.TheVariants.{Take}
-use Rattle.hyper_core.specs.Machines.{state_of}
+use Rattle.machine_drafts.specs.Machines.{state_of}
 use Rattle.machine_meaning.specs.Steps.{step_of}
 use Rattle.replay_report.specs.Takings.{TakesFirst}
 use Rattle.replay_report.proofs.Takes.{takes_first}

@@ -1,5 +1,5 @@
 use Rattle.std.proofs.Common.{◌≡◌, ◌++◌, drop}
-use Rattle.hyper_core.specs.Machines.{state_of}
+use Rattle.machine_drafts.specs.Machines.{state_of}
 use Rattle.replay_report.specs.Takings.{takes_all, takes_of}
 use Rattle.replay_report.proofs.telling.tell.Given as goal
 

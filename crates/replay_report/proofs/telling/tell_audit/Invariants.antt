@@ -1,6 +1,6 @@
 use Rattle.std.proofs.Common.{◌≡◌, ◌++◌, length}
 use Rattle.cv_io.specs.declared.leaf.Who.TheVariants.{Audit}
-use Rattle.hyper_core.specs.Machines.{state_of}
+use Rattle.machine_drafts.specs.Machines.{state_of}
 use Rattle.replay_report.specs.Takings.{audit_lines, emptied, waits_for}
 use Rattle.replay_report.proofs.telling.tell_audit.Given as goal
 

@@ -1,5 +1,5 @@
 use Rattle.std.proofs.Common.{◌≡◌, ◌++◌, length}
-use Rattle.hyper_core.specs.Machines.{state_of}
+use Rattle.machine_drafts.specs.Machines.{state_of}
 use Rattle.replay_report.specs.Takings.{emptied, message_lines, waits_for}
 use Rattle.replay_report.proofs.telling.tell_session.Given as goal
 

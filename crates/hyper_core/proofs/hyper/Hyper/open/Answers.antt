@@ -1,5 +1,5 @@
 use Rattle.hyper_core.proofs.KeptOn.{kept_none}
-use Rattle.hyper_core.specs.Machines.{state_in_held}
+use Rattle.machine_drafts.specs.Machines.{state_in_held}
 use Rattle.hyper_core.proofs.hyper.Hyper.open.Goals as goal
 
 pub invariant_of-result : goal.invariant_of-result

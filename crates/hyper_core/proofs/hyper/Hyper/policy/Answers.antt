@@ -1,6 +1,6 @@
 use Rattle.std.proofs.Common.{subst}
 use Rattle.policy_file.specs.Sound.{IsSound}
-use Rattle.hyper_core.specs.Machines.{MachineOf}
+use Rattle.machine_drafts.specs.Machines.{MachineOf}
 use Rattle.hyper_core.proofs.hyper.Hyper.policy.Goals as goal
 
 pub returns-clause-sound : goal.returns-clause-sound

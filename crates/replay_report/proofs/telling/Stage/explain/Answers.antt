@@ -1,6 +1,6 @@
 use Rattle.std.proofs.Common.{◌≡◌, ◌++◌, ℕ, Bool, true, false, List, Option, Some, None, refl, sym, ap, ◌∙◌}
 use Rattle.std.specs.Prelude.{option_map}
-use Rattle.hyper_core.specs.Machines.{state_of}
+use Rattle.machine_drafts.specs.Machines.{state_of}
 use Rattle.packet_map.specs.Networks.{network_of}
 use Rattle.replay_report.proofs.Asked.{not_asked, was_asked}
 use Rattle.replay_report.proofs.telling.Stage.explain.Goals as goal

@@ -1,6 +1,0 @@
-use Rattle.std.proofs.Common.{◌≡◌, map, take}
-use Rattle.hyper_core.specs.MemberDrafts.{standing_member}
-use Rattle.hyper_core.proofs.beginning.stay_members.Given as goal
-
-abbrev pub invariant-loop-member : goal.invariant-loop-member
-invariant-loop-member l = l.drafts ≡ map (standing_member l.now) (take l.member-index l.members)

@@ -1,9 +1,0 @@
-use Rattle.std.proofs.Common.{◌≡◌, drop, map}
-use Rattle.policy_expr.specs.Policy.{policy_of}
-use Rattle.hyper_core.specs.ExprsDrafts.{replaced_in}
-use Rattle.hyper_core.proofs.exprs_draft.set_copies.Given as goal
-
-abbrev pub invariant-loop-one : goal.invariant-loop-one
-invariant-loop-one l =
-    replaced_in (drop l.one-index l.replaced) (map policy_of l.exprs)
-    ≡ replaced_in l.replaced (map policy_of l.fn.exprs)

@@ -1,8 +1,0 @@
-use Rattle.stats_map.specs.Told.{told}
-use Rattle.hyper_core.proofs.Forgotten.{unplanned_kept}
-use Rattle.hyper_core.proofs.forgetting.forget_member.Goals as goal
-
-pub returns-then-is_unplanned-clause-told : goal.returns-then-is_unplanned-clause-told
-returns-then-is_unplanned-clause-told c =
-    unplanned_kept c.args.owed.now (told c.args.counts.now.now) c.args.n c.args.member.now
-    (c.is_unplanned.ensures c.if-is_unplanned.true)

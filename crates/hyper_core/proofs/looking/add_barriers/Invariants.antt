@@ -1,7 +1,0 @@
-use Rattle.std.proofs.Common.{◌≡◌, ◌++◌, take}
-use Rattle.std.specs.Prelude.{map}
-use Rattle.hyper_core.proofs.looking.add_barriers.Given as goal
-
-abbrev pub invariant-loop-number : goal.invariant-loop-number
-invariant-loop-number l =
-    l.parts ≡ l.fn.parts ++ map (λ number. record { switch = l.n; number = number }) (take l.number-index l.numbers)

@@ -1,6 +1,0 @@
-use Rattle.std.proofs.Common.{subst}
-use Rattle.policy_file.specs.Sound.{IsSound}
-use Rattle.hyper_core.proofs.setup.Setup.policy.Goals as goal
-
-pub returns-clause-sound : goal.returns-clause-sound
-returns-clause-sound c = subst IsSound c.self.view_is c.is_sound.ensures

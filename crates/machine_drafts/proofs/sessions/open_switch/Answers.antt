@@ -1,0 +1,34 @@
+use Rattle.std.proofs.Common.{List, []}
+use Rattle.install_plan.specs.declared.written.Written.{Written}
+use Rattle.machine_drafts.proofs.Placed.{none_changed, round_based, round_changed, round_emptied}
+use Rattle.machine_meaning.specs.Rounds.{begun_switch}
+use Rattle.machine_drafts.specs.SwitchDrafts.{SwitchDraftOf}
+use Rattle.machine_drafts.proofs.sessions.open_switch.Goals as goal
+
+pub returns-then-place-switches-clause-now : goal.returns-then-place-switches-clause-now
+returns-then-place-switches-clause-now c =
+    none_changed (λ (x : SwitchDraftOf). x.now) (begun_switch c.args.first) c.args.switches.now c.args.n
+    c.if-place-switches.true
+
+pub returns-then-place-switches-clause-standing : goal.returns-then-place-switches-clause-standing
+returns-then-place-switches-clause-standing c =
+    none_changed (λ (x : SwitchDraftOf). x.standing) (λ (old : List Written). []) c.args.switches.now c.args.n
+    c.if-place-switches.true
+
+pub returns-clause-now : goal.returns-clause-now
+returns-clause-now c =
+    let r = c.index-switches-place.result in
+    round_changed (begun_switch c.args.first) c.args.switches.now c.args.n c.open.new.self r c.if-place-switches.false
+    c.open.ensures
+
+pub returns-clause-standing : goal.returns-clause-standing
+returns-clause-standing c =
+    let r = c.index-switches-place.result in
+    round_emptied (begun_switch c.args.first) c.args.switches.now c.args.n c.open.new.self r c.if-place-switches.false
+    c.open.ensures
+
+pub returns-clause-bases : goal.returns-clause-bases
+returns-clause-bases c =
+    let r = c.index-switches-place.result in
+    round_based (begun_switch c.args.first) c.args.switches.now c.args.n c.open.new.self r c.if-place-switches.false
+    c.open.ensures

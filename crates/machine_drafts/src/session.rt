@@ -1,0 +1,24 @@
+//! Members and switches, each with its session.
+use cv_io::List;
+use install_plan::Written;
+use machine_meaning::Config;
+use member_state::MemberState;
+use outbox::Outbox;
+use switch_state::Known;
+
+/// A member: its session, what SET_CONFIG gave, and its table with the levels of its ranks.
+#[derive(Drop)]
+pub struct Member {
+    pub outbox: Outbox,
+    pub config: Config,
+    pub kept: MemberState,
+}
+
+/// A switch: its session, what is known of it in this round, and the entries that stand on it, by rising
+/// key.
+#[derive(Drop)]
+pub struct Switch {
+    pub outbox: Outbox,
+    pub known: Known,
+    pub standing: List<Written>,
+}
