@@ -1,12 +1,15 @@
 -- An event that isn't answered at once is a taking, or goes through the phases.
-use Rattle.std.proofs.Common.{◌≡◌, ◌∙◌, ℕ, List, Option, Some, None, length, refl, ap, subst, sym}
+use Rattle.std.proofs.Common.{◌≡◌, ◌∙◌, ℕ, ◌<◌, ◌^◌, List, Option, Some, None, length, refl, ap, subst, sym}
 use Rattle.composed_tables.specs.Composing.{ComposedOf}
 use Rattle.cv_io.specs.declared.leaf.Session.{Session}
 use Rattle.policy_file.specs.Policies.{PolicyOf}
+use Rattle.policy_file.specs.Sound.{IsSound}
 use Rattle.stats_map.specs.Counting.{CountsOf}
 use Rattle.stats_map.specs.Told.{HeldOf, told}
+use Rattle.machine_meaning.specs.Events.{IsEvent}
 use Rattle.machine_meaning.specs.Glances.{glance_of}
 use Rattle.machine_meaning.specs.Hearing.{heard}
+use Rattle.machine_meaning.specs.Laws.{SoundnessIsKept}
 use Rattle.machine_drafts.specs.CookieCounts.{with_counts}
 use Rattle.hyper_core.specs.Kept.{IsKept, IsSoundWhile}
 use Rattle.machine_drafts.specs.Machines.{HasAll, holding_of, state_held, state_in_held}
@@ -21,7 +24,7 @@ use Rattle.events.specs.declared.event.Reply.{Reply}
 use Rattle.machine_drafts.specs.declared.held.Held.{Held}
 use Rattle.machine_drafts.specs.declared.hearing.CookieCount.{CookieCount}
 use Rattle.hyper_core.proofs.Attempts.{has_all_kept}
-use Rattle.hyper_core.proofs.KeptOn.{kept_none}
+use Rattle.hyper_core.proofs.KeptOn.{kept_none, kept_taken, sound_stepped}
 use Rattle.hyper_core.proofs.StaysSettled.{drafted_settled, left_settled}
 use Rattle.events.specs.declared.event.Event.TheVariants.{Up, Msg, Gone, Tick, Take, Policy}
 
@@ -97,6 +100,19 @@ pub settled_done : (p : PolicyOf) (s : State) (e : Event) (reply : Reply) (new :
     → (reply, new) ≡ done p (drafted p s e) → IsSettledState p new
 settled_done p s e reply new is =
     subst (IsSettledState p) (sym (ap (λ (x : Reply × State). x.1) is)) (drafted_settled p s e)
+
+-- what is kept stays in a taking that finds something
+pub kept_left : SoundnessIsKept → (p : PolicyOf) → IsSound p → (h new : Held) → h.next_cookie < 2 ^ 64 → (e : Event)
+    (session : Session) (k : Option ComposedOf) → IsEvent e → glance_of p (state_in_held h) e ≡ None
+    → taking_in e ≡ Some session → state_in_held new ≡ left_by session.who session.round (state_in_held h)
+    → IsKept p (state_in_held h) k → IsKept p (state_in_held new) k
+kept_left kept p policy h new fits e session k given none is left i =
+    let s = state_in_held h in
+    let after : (step_of p s e).1 ≡ left_after session s =
+    ap (λ (x : Reply × State). x.1) (step_taking p s e session none is) in
+    let sound : IsSoundWhile p (left_after session s) =
+    subst (IsSoundWhile p) after (sound_stepped kept p policy s fits e given i.sound) in
+    subst (λ (z : State). IsKept p z k) (sym left) (kept_taken p s session k sound i)
 
 -- a copy has what is true of what is held
 pub held_copied : (p q : PolicyOf) (h new : Held) (k : Option ComposedOf) → q ≡ p → holding_of new ≡ holding_of h

@@ -45,7 +45,7 @@ keep-requires-clause-sound c =
     (step_other p s e c.requires.changes c.requires.drafted
     ∙ sym (c.in-Ok.ensures.done ∙ ap (λ (z : State). done p (drafted p z e)) c.in_ok-overtaken.ensures.heard)) in
     subst (IsSoundWhile p) is
-    (sound_stepped c.soundness_is_kept.ensures p c.policy.ensures.sound s c.cookie_fits.ensures e c.requires.given
+    (sound_stepped c.soundness_is_kept.ensures p c.policy-policy.ensures.sound s c.cookie_fits.ensures e c.requires.given
     c.requires.kept.sound)
 
 pub keep-requires-clause-followed : goal.keep-requires-clause-followed
