@@ -6,8 +6,9 @@ use Rattle.std.proofs.lemmas.List.{length-map}
 use Rattle.std.proofs.lemmas.Option.{slice_get-map, slice_get_within}
 use Rattle.agreement.specs.Entries.{entries_of}
 use Rattle.agreement.specs.declared.state.Setting.{Setting}
-use Rattle.composed_tables.specs.Composing.{ComposedOf, IsGood}
+use Rattle.composed_tables.specs.Composing.{AreTables, ComposedOf, IsGood}
 use Rattle.composed_tables.proofs.After.{good-no-twins}
+use Rattle.install_plan.specs.Tables.{IsTable}
 use Rattle.install_plan.specs.declared.written.Written.{Written}
 use Rattle.member_state.specs.States.{MemberStateOf}
 use Rattle.policy_file.specs.Policies.{PolicyOf}
@@ -21,7 +22,8 @@ use Rattle.switch_tables.specs.Tables.{SwitchTableOf}
 use Rattle.switch_tables.specs.declared.tables.SwitchBatch.{SwitchBatch}
 use Rattle.machine_meaning.specs.Settings.{setting_of, ups_with}
 use Rattle.machine_meaning.specs.States.{SwitchOf}
-use Rattle.hyper_core.specs.Kept.{AreTables, IsComposedOf, IsKeptBy}
+use Rattle.machine_meaning.proofs.Places.{at_place}
+use Rattle.hyper_core.specs.Kept.{IsComposedOf, IsKeptBy}
 use Rattle.machine_drafts.specs.Outcomes.{bases, members_in, state_in, switch_bases}
 use Rattle.hyper_core.specs.Settled.{IsUnchanged, WasSettled}
 use Rattle.hyper_core.specs.Sources.{IsToldFor, IsWantedBy}
@@ -71,6 +73,11 @@ seen_base f xs n x at =
     ∙ ap (option_map f)
     (slice_get-map (λ (y : SwitchDraftOf). y.base) xs n ∙ ap (option_map (λ (y : SwitchDraftOf). y.base)) at)
 
+-- what stands on the switch of a number is a table
+table_at : (tables : List SwitchTableOf) (n : ℕ) (x : SwitchTableOf) → AreTables tables → slice_get tables n ≡ Some x
+    → IsTable x.installed.now
+table_at tables n x all at = at_place (λ (y : SwitchTableOf). IsTable y.installed.now) tables n x all at
+
 module _ (ready : SettingsAreReady) (p : PolicyOf) (policy : IsSound p) (o : Outcome) (c d : ComposedOf)
     (turned : Turned)
     (settled : WasSettled p (bases o)) (kept : IsKeptBy p (bases o) (state_in o) c)
@@ -118,15 +125,15 @@ module _ (ready : SettingsAreReady) (p : PolicyOf) (policy : IsSound p) (o : Out
         let was : slice_get c.tables n ≡ Some y.item =
         ap (λ (xs : List SwitchTableOf). slice_get xs n) (sym same) ∙ y.at in
         still_settled (entries_of s n) (entries_of t n) (good-no-twins s good n) (good-no-twins t good_now n) y.item
-        (kept.of.of.tables n y.item was) (now.of.tables n y.item y.at) (tables_now n y.item y.at) stood
+        (kept.of.of.tables n y.item was) (now.of.tables n y.item y.at) (table_at d.tables n y.item tables_now y.at) stood
         (settled n stood up at)
     told_for n stood up at lt lt_now (Once batches) batched =
         λ b got.
         let x = is_there c.tables n lt in
         let y = is_there d.tables n lt_now in
         is_told (entries_of s n) (entries_of t n) (good-no-twins s good n) (good-no-twins t good_now n) x.item y.item
-        (kept.of.of.tables n x.item x.at) (now.of.tables n y.item y.at) (tables n x.item x.at)
-        (tables_now n y.item y.at) _ b.batch (batched n x.item y.item b x.at y.at got) stood (kept.given n stood up at)
+        (kept.of.of.tables n x.item x.at) (now.of.tables n y.item y.at) (table_at c.tables n x.item tables x.at)
+        (table_at d.tables n y.item tables_now y.at) _ b.batch (batched n x.item y.item b x.at y.at got) stood (kept.given n stood up at)
     told_for n stood up at lt lt_now Often told = tt
 
     pub wanted_by : (n : ℕ) (x : SwitchDraftOf) → slice_get o.switches n ≡ Some x → IsWantedBy t n d turned x

@@ -1,9 +1,8 @@
 //! The composed part is kept beside what the machine holds, under changes of members' tables.
 ghost use Rattle.std.specs.Prelude.{◌≡◌, IfOk, IfSome, IsTrue, OnOk};
-ghost use Rattle.hyper_core.specs.Kept.{AreTables, IsComposedOf, IsKept};
-ghost use Rattle.machine_drafts.specs.Serials.{DraftsHaveSerials, HasSerial};
-ghost use Rattle.hyper_core.specs.Kept.{IsKeptBy, IsSoundWhile};
-ghost use Rattle.machine_drafts.specs.Serials.{StandingHaveSerials};
+ghost use Rattle.composed_tables.specs.Composing.{AreTables};
+ghost use Rattle.hyper_core.specs.Kept.{IsComposedOf, IsKept, IsKeptBy, IsSoundWhile};
+ghost use Rattle.machine_drafts.specs.Serials.{DraftsHaveSerials, HasSerial, StandingHaveSerials};
 ghost use Rattle.machine_drafts.specs.Machines.{state_in_held};
 ghost use Rattle.machine_drafts.specs.Outcomes.{bases, draft_in};
 ghost use Rattle.hyper_core.specs.Settled.{WasSettled};
@@ -29,7 +28,8 @@ use std::sync::ledger::{Blank, Ledger};
 fn are_tables(composed: &Composed)
     ensures { AreTables composed.now.tables }
 {
-    let _ = composed;
+    // The proof learns that what stands on each switch is a table.
+    let _ = composed.count();
 }
 
 /// What is kept changes with the draft, and switches are written it.
