@@ -1,7 +1,5 @@
 -- What the machine keeps of the composed part of what it holds.
-use Rattle.std.specs.Prelude.{◌≡◌, ℕ, ◌+◌, ◌<◌, ◌^◌, Bool, true, List, Option, Some, IfSome, is_some, length, map}
-use Rattle.std.specs.Prelude.{slice_get}
-use Rattle.std.specs.List.{AllByRecursion}
+use Rattle.std.specs.Prelude.{◌≡◌, ℕ, Bool, true, List, Option, Some, IfSome, is_some, length, map, slice_get}
 use Rattle.agreement.specs.Entries.{entries_of}
 use Rattle.agreement.specs.declared.state.Setting.{Setting}
 use Rattle.composed_tables.specs.Composing.{ComposedOf, IsOf}
@@ -16,11 +14,9 @@ use Rattle.machine_meaning.specs.Phases.{settled_of}
 use Rattle.machine_meaning.specs.Rounds.{Closing}
 use Rattle.machine_meaning.specs.Settings.{setting_of, ups_with}
 use Rattle.machine_meaning.specs.Sound.{AreSoundTables, HasNumbers, IsSoundState}
-use Rattle.machine_meaning.specs.States.{MemberOf, State}
-use Rattle.machine_drafts.specs.MemberDrafts.{MemberDraftOf}
+use Rattle.machine_meaning.specs.States.{State}
 use Rattle.machine_drafts.specs.Outcomes.{Bases}
 use Rattle.machine_drafts.specs.Views.{member_of, standing_of, switch_of}
-use Rattle.machine_drafts.specs.declared.session.Member.{Member}
 
 -- it is that of the setting of a state, and its rules are there
 pub record IsComposedOf (p : PolicyOf) (s : State) (c : ComposedOf) : Type 0 where

@@ -1,4 +1,4 @@
-use Rattle.std.proofs.Common.{◌∙◌, Option, Some, subst, sym}
+use Rattle.std.proofs.Common.{◌∙◌, Option, subst, sym}
 use Rattle.std.specs.Prelude.{IfSome}
 use Rattle.composed_tables.specs.Composing.{ComposedOf}
 use Rattle.hyper_core.specs.Kept.{IsComposedOf, IsKeptBy}
