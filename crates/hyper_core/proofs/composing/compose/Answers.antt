@@ -29,3 +29,9 @@ returns-in_default-clause-kept c =
     in_ok_case c.compose_anew.result
     (subst (λ (k : Option ComposedOf). IfSome k
     (IsComposedOf c.args.setup.now (draft_in c.args.draft.now).state)) (sym c.take.ensures.after) tt)
+
+pub returns-then-not-is_kept-clause-kept : goal.returns-then-not-is_kept-clause-kept
+returns-then-not-is_kept-clause-kept c =
+    in_ok_case c.compose_anew-then-not-is_kept.result
+    (subst (λ (k : Option ComposedOf). IfSome k
+    (IsComposedOf c.args.setup.now (draft_in c.args.draft.now).state)) (sym c.take.ensures.after) tt)
