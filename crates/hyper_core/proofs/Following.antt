@@ -1,15 +1,15 @@
 -- What is kept, once it followed an event, and what was told of it give what the setting wants of each switch.
-use Rattle.std.proofs.Common.{◌≡◌, ◌∙◌, ℕ, zero, suc, ◌<◌, Bool, true, List, [], ◌∷◌, length, map, Option, Some, None, refl}
-use Rattle.std.proofs.Common.{sym, ap, ap₂, subst, arith}
+use Rattle.std.proofs.Common.{◌≡◌, ◌∙◌, ℕ, ◌<◌, Bool, true, List, length, map, take, Option, Some, None, sym, ap, subst}
+use Rattle.std.proofs.Common.{arith}
 use Rattle.std.specs.Prelude.{IfSome, option_map, slice_get}
 use Rattle.std.proofs.lemmas.List.{length-map}
 use Rattle.std.proofs.lemmas.Option.{slice_get-map, slice_get_within}
 use Rattle.agreement.specs.Entries.{entries_of}
 use Rattle.agreement.specs.declared.state.Setting.{Setting}
-use Rattle.composed_tables.specs.Composing.{ComposedOf, IsGood}
+use Rattle.composed_tables.specs.Composing.{AreTables, ComposedOf, IsGood}
 use Rattle.composed_tables.proofs.After.{good-no-twins}
+use Rattle.install_plan.specs.Tables.{IsTable}
 use Rattle.install_plan.specs.declared.written.Written.{Written}
-use Rattle.member_state.specs.States.{MemberStateOf}
 use Rattle.policy_file.specs.Policies.{PolicyOf}
 use Rattle.policy_file.specs.Sound.{IsSound}
 use Rattle.setting_laws.specs.Drafted.{HaveSerials}
@@ -18,14 +18,15 @@ use Rattle.setting_laws.proofs.Staying.{leaves_stay, settings_stay}
 use Rattle.setting_laws.proofs.Ups.{long_physical}
 use Rattle.switch_meaning.specs.Keys.{installed}
 use Rattle.switch_tables.specs.Tables.{SwitchTableOf}
-use Rattle.switch_tables.specs.declared.tables.SwitchBatch.{SwitchBatch}
+use Rattle.switch_tables.specs.Turning.{cookie_after}
 use Rattle.machine_meaning.specs.Settings.{setting_of, ups_with}
 use Rattle.machine_meaning.specs.States.{SwitchOf}
-use Rattle.hyper_core.specs.Kept.{AreTables, IsComposedOf, IsKeptBy}
+use Rattle.machine_meaning.proofs.Places.{at_place}
+use Rattle.hyper_core.specs.Kept.{IsComposedOf, IsKeptBy}
 use Rattle.machine_drafts.specs.Outcomes.{bases, members_in, state_in, switch_bases}
 use Rattle.hyper_core.specs.Settled.{IsUnchanged, WasSettled}
 use Rattle.hyper_core.specs.Sources.{IsToldFor, IsWantedBy}
-use Rattle.machine_drafts.specs.SwitchDrafts.{IsUnmoved, SwitchDraftOf}
+use Rattle.machine_drafts.specs.SwitchDrafts.{SwitchDraftOf}
 use Rattle.hyper_core.specs.Turning.{AreTold, CanFollow, stood_in}
 use Rattle.machine_drafts.specs.Views.{standing_of, switch_of}
 use Rattle.machine_drafts.specs.declared.outcome.Outcome.{Outcome}
@@ -63,6 +64,20 @@ can_follow p o c h exprs serials = record {
   of = h.of;
 }
 
+-- there is a table for each switch, as it is
+pub as_many : (p : PolicyOf) (o : Outcome) (c d : ComposedOf) → IsKeptBy p (bases o) (state_in o) c
+    → IsComposedOf p (state_in o) d → length o.switches ≡ length d.tables
+as_many p o c d kept now =
+    sym (length-map o.switches (λ (x : SwitchDraftOf). x.base))
+    ∙ (kept.all ∙ sym (now.of.count ∙ long_physical (ups_with (state_in o).switches) p.switches))
+
+-- and as it was
+as_many_then : (p : PolicyOf) (o : Outcome) (c : ComposedOf) → IsKeptBy p (bases o) (state_in o) c
+    → length o.switches ≡ length c.tables
+as_many_then p o c kept =
+    sym (length-map o.switches (λ (x : SwitchDraftOf). x.base))
+    ∙ (kept.all ∙ sym (kept.of.of.count ∙ long_physical (ups_with (stood_in o).switches) p.switches))
+
 -- what stands beside the draft of a switch
 seen_base : {A : Type 0} (f : Switch → A) (xs : List SwitchDraftOf) (n : ℕ) (x : SwitchDraftOf)
     → slice_get xs n ≡ Some x → slice_get (map f (switch_bases xs)) n ≡ Some (f x.base)
@@ -70,6 +85,11 @@ seen_base f xs n x at =
     slice_get-map f (switch_bases xs) n
     ∙ ap (option_map f)
     (slice_get-map (λ (y : SwitchDraftOf). y.base) xs n ∙ ap (option_map (λ (y : SwitchDraftOf). y.base)) at)
+
+-- what stands on the switch of a number is a table
+table_at : (tables : List SwitchTableOf) (n : ℕ) (x : SwitchTableOf) → AreTables tables → slice_get tables n ≡ Some x
+    → IsTable x.installed.now
+table_at tables n x all at = at_place (λ (y : SwitchTableOf). IsTable y.installed.now) tables n x all at
 
 module _ (ready : SettingsAreReady) (p : PolicyOf) (policy : IsSound p) (o : Outcome) (c d : ComposedOf)
     (turned : Turned)
@@ -94,20 +114,14 @@ module _ (ready : SettingsAreReady) (p : PolicyOf) (policy : IsSound p) (o : Out
     many : (n : ℕ) (x : SwitchDraftOf) → slice_get o.switches n ≡ Some x → n < length d.tables
     many n x at =
         let less = slice_get_within o.switches n x at in
-        let long = length-map o.switches (λ (x : SwitchDraftOf). x.base) in
-        let all = kept.all in
-        let count = now.of.count in
-        let physical = long_physical (ups_with (state_in o).switches) p.switches in
-        omega (arith, less, long, all, count, physical)
+        let same : length o.switches ≡ length d.tables = as_many p o c d kept now in
+        omega arith
 
     many_then : (n : ℕ) (x : SwitchDraftOf) → slice_get o.switches n ≡ Some x → n < length c.tables
     many_then n x at =
         let less = slice_get_within o.switches n x at in
-        let long = length-map o.switches (λ (x : SwitchDraftOf). x.base) in
-        let all = kept.all in
-        let count = kept.of.of.count in
-        let physical = long_physical (ups_with (stood_in o).switches) p.switches in
-        omega (arith, less, long, all, count, physical)
+        let same : length o.switches ≡ length c.tables = as_many_then p o c kept in
+        omega arith
 
     -- what was told of a switch, from what stood there
     told_for : (n : ℕ) (stood : List Written) → slice_get (ups_with (stood_in o).switches) n ≡ Some true
@@ -118,15 +132,16 @@ module _ (ready : SettingsAreReady) (p : PolicyOf) (policy : IsSound p) (o : Out
         let was : slice_get c.tables n ≡ Some y.item =
         ap (λ (xs : List SwitchTableOf). slice_get xs n) (sym same) ∙ y.at in
         still_settled (entries_of s n) (entries_of t n) (good-no-twins s good n) (good-no-twins t good_now n) y.item
-        (kept.of.of.tables n y.item was) (now.of.tables n y.item y.at) (tables_now n y.item y.at) stood
-        (settled n stood up at)
+        (kept.of.of.tables n y.item was) (now.of.tables n y.item y.at)
+        (table_at d.tables n y.item tables_now y.at) stood (settled n stood up at)
     told_for n stood up at lt lt_now (Once batches) batched =
         λ b got.
         let x = is_there c.tables n lt in
         let y = is_there d.tables n lt_now in
         is_told (entries_of s n) (entries_of t n) (good-no-twins s good n) (good-no-twins t good_now n) x.item y.item
-        (kept.of.of.tables n x.item x.at) (now.of.tables n y.item y.at) (tables n x.item x.at)
-        (tables_now n y.item y.at) _ b.batch (batched n x.item y.item b x.at y.at got) stood (kept.given n stood up at)
+        (kept.of.of.tables n x.item x.at) (now.of.tables n y.item y.at) (table_at c.tables n x.item tables x.at)
+        (table_at d.tables n y.item tables_now y.at) (cookie_after o.next_cookie (take n batches)) b.batch
+        (batched n x.item y.item b x.at y.at got) stood (kept.given n stood up at)
     told_for n stood up at lt lt_now Often told = tt
 
     pub wanted_by : (n : ℕ) (x : SwitchDraftOf) → slice_get o.switches n ≡ Some x → IsWantedBy t n d turned x
@@ -141,13 +156,3 @@ module _ (ready : SettingsAreReady) (p : PolicyOf) (policy : IsSound p) (o : Out
           ∙ ap (λ (u : Bool). Some u) (sym same.up ∙ up)))
           (seen_base standing_of o.switches n x at) (many_then n x at) (many n x at) turned told);
     }
-
--- so many switches can be asked for
-pub can_give : (p : PolicyOf) (o : Outcome) (c d : ComposedOf) → IsKeptBy p (bases o) (state_in o) c
-    → IsComposedOf p (state_in o) d → length o.switches ≡ length d.tables
-can_give p o c d kept now =
-    let long = length-map o.switches (λ (x : SwitchDraftOf). x.base) in
-    let all = kept.all in
-    let count = now.of.count in
-    let physical = long_physical (ups_with (state_in o).switches) p.switches in
-    omega (arith, long, all, count, physical)

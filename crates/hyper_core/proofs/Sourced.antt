@@ -1,7 +1,6 @@
 -- Switches are composed of what comes from a source.
-use Rattle.std.proofs.Common.{◌≡◌, ◌∙◌, ℕ, zero, suc, ◌+◌, ◌<◌, ◌≤◌, Bool, true, false, List, [], ◌∷◌, length, set, refl}
-use Rattle.std.proofs.Common.{Option, Some, None, arith, subst, sym}
-use Rattle.std.specs.Prelude.{◌==◌, IfSome, slice_get}
+use Rattle.std.proofs.Common.{◌≡◌, ℕ, zero, suc, ◌+◌, ◌<◌, ◌≤◌, true, false, List, [], ◌∷◌, set, refl, arith}
+use Rattle.std.specs.Prelude.{◌==◌, slice_get}
 use Rattle.std.proofs.lemmas.Bool.Decides.{nat_tests}
 use Rattle.hyper_core.specs.Sources.{CanGive}
 use Rattle.hyper_core.specs.declared.sources.Source.{Source}

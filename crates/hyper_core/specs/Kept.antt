@@ -1,27 +1,22 @@
 -- What the machine keeps of the composed part of what it holds.
-use Rattle.std.specs.Prelude.{◌≡◌, ℕ, ◌+◌, ◌<◌, ◌^◌, Bool, true, List, Option, Some, IfSome, is_some, length, map}
-use Rattle.std.specs.Prelude.{slice_get}
-use Rattle.std.specs.List.{AllByRecursion}
+use Rattle.std.specs.Prelude.{◌≡◌, ℕ, Bool, true, List, Option, Some, IfSome, is_some, length, map, slice_get}
 use Rattle.agreement.specs.Entries.{entries_of}
 use Rattle.agreement.specs.declared.state.Setting.{Setting}
 use Rattle.composed_tables.specs.Composing.{ComposedOf, IsOf}
 use Rattle.events.specs.declared.event.Event.{Event}
-use Rattle.install_plan.specs.Tables.{IsTable, entry_of}
+use Rattle.install_plan.specs.Tables.{entry_of}
 use Rattle.install_plan.specs.declared.written.Written.{Written}
 use Rattle.policy_file.specs.Policies.{PolicyOf}
 use Rattle.setting_laws.specs.Drafted.{HaveSerials}
 use Rattle.switch_meaning.specs.Batches.{by_key}
 use Rattle.switch_meaning.specs.Keys.{installed}
-use Rattle.switch_tables.specs.Tables.{SwitchTableOf}
 use Rattle.machine_meaning.specs.Phases.{settled_of}
 use Rattle.machine_meaning.specs.Rounds.{Closing}
 use Rattle.machine_meaning.specs.Settings.{setting_of, ups_with}
 use Rattle.machine_meaning.specs.Sound.{AreSoundTables, HasNumbers, IsSoundState}
-use Rattle.machine_meaning.specs.States.{MemberOf, State}
-use Rattle.machine_drafts.specs.MemberDrafts.{MemberDraftOf}
+use Rattle.machine_meaning.specs.States.{State}
 use Rattle.machine_drafts.specs.Outcomes.{Bases}
 use Rattle.machine_drafts.specs.Views.{member_of, standing_of, switch_of}
-use Rattle.machine_drafts.specs.declared.session.Member.{Member}
 
 -- it is that of the setting of a state, and its rules are there
 pub record IsComposedOf (p : PolicyOf) (s : State) (c : ComposedOf) : Type 0 where
@@ -73,7 +68,3 @@ pub record IsKeptBy (p : PolicyOf) (b : Bases) (s : State) (c : ComposedOf) : Ty
   pub given :
       AreGiven (setting_of p (standing_state b s)) (ups_with (map switch_of b.switches)) (map standing_of b.switches)
   pub of : IsComposedOf p (standing_state b s) c
-
--- what stands on each switch is a table of what is put there
-abbrev pub AreTables : List SwitchTableOf → Type 0
-AreTables tables = (n : ℕ) (x : SwitchTableOf) → slice_get tables n ≡ Some x → IsTable x.installed.now

@@ -1,9 +1,8 @@
 //! The composed part is kept beside what the machine holds, under changes of members' tables.
-ghost use Rattle.std.specs.Prelude.{◌≡◌, IfOk, IfSome, IsTrue, OnOk};
-ghost use Rattle.hyper_core.specs.Kept.{AreTables, IsComposedOf, IsKept};
-ghost use Rattle.machine_drafts.specs.Serials.{DraftsHaveSerials, HasSerial};
-ghost use Rattle.hyper_core.specs.Kept.{IsKeptBy, IsSoundWhile};
-ghost use Rattle.machine_drafts.specs.Serials.{StandingHaveSerials};
+ghost use Rattle.std.specs.Prelude.{◌≡◌, ◌<◌, IfOk, IfSome, IsTrue, OnOk};
+ghost use Rattle.composed_tables.specs.Composing.{AreTables};
+ghost use Rattle.hyper_core.specs.Kept.{IsComposedOf, IsKept, IsKeptBy, IsSoundWhile};
+ghost use Rattle.machine_drafts.specs.Serials.{DraftsHaveSerials, HasSerial, StandingHaveSerials};
 ghost use Rattle.machine_drafts.specs.Machines.{state_in_held};
 ghost use Rattle.machine_drafts.specs.Outcomes.{bases, draft_in};
 ghost use Rattle.hyper_core.specs.Settled.{WasSettled};
@@ -29,7 +28,8 @@ use std::sync::ledger::{Blank, Ledger};
 fn are_tables(composed: &Composed)
     ensures { AreTables composed.now.tables }
 {
-    let _ = composed;
+    // The proof learns that what stands on each switch is a table.
+    let _ = composed.count();
 }
 
 /// What is kept changes with the draft, and switches are written it.
@@ -39,6 +39,7 @@ fn compose_on<G: Ledger>(
     composed: &mut Composed,
     blank: Blank,
 ) -> Result<(), Memory>
+    requires blank { (blank.name ≡ G.name) × (blank.parts ≡ G.parts) × (0 < blank.parts) }
     requires settled { WasSettled setup.now (bases draft.old) }
     requires kept { IsKeptBy setup.now (bases draft.old) (draft_in draft.old).state composed.old }
     requires exprs { draft.old.exprs.now ≡ draft.old.exprs.base }
@@ -76,7 +77,8 @@ pub(crate) fn compose_kept(
 
 /// The composed part of what is held.
 fn build_from<G: Ledger>(setup: &Setup, held: &Held, blank: Blank) -> Result<Composed, Memory>
-    requires { IsSoundState setup.now (state_in_held held.now) }
+    requires blank { (blank.name ≡ G.name) × (blank.parts ≡ G.parts) × (0 < blank.parts) }
+    requires sound { IsSoundState setup.now (state_in_held held.now) }
     ensures { IfOk result (IsComposedOf setup.now (state_in_held held.now)) }
 {
     // The proof learns what is true of every policy, and of settings.

@@ -1,4 +1,4 @@
-use Rattle.std.proofs.Common.{◌∙◌, Option, Some, subst, sym}
+use Rattle.std.proofs.Common.{◌∙◌, Option, subst, sym}
 use Rattle.std.specs.Prelude.{IfSome}
 use Rattle.composed_tables.specs.Composing.{ComposedOf}
 use Rattle.hyper_core.specs.Kept.{IsComposedOf, IsKeptBy}
@@ -27,5 +27,11 @@ compose_kept-requires-clause-kept c =
 pub returns-in_default-clause-kept : goal.returns-in_default-clause-kept
 returns-in_default-clause-kept c =
     in_ok_case c.compose_anew.result
+    (subst (λ (k : Option ComposedOf). IfSome k
+    (IsComposedOf c.args.setup.now (draft_in c.args.draft.now).state)) (sym c.take.ensures.after) tt)
+
+pub returns-then-not-is_kept-clause-kept : goal.returns-then-not-is_kept-clause-kept
+returns-then-not-is_kept-clause-kept c =
+    in_ok_case c.compose_anew-then-not-is_kept.result
     (subst (λ (k : Option ComposedOf). IfSome k
     (IsComposedOf c.args.setup.now (draft_in c.args.draft.now).state)) (sym c.take.ensures.after) tt)

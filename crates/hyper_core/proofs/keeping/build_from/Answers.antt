@@ -1,8 +1,8 @@
-use Rattle.std.proofs.Common.{◌≡◌, ◌<◌, ◌^◌, ◌∙◌, length, subst, sym}
+use Rattle.std.proofs.Common.{◌<◌, ◌^◌, length, subst, sym}
 use Rattle.agreement.specs.declared.state.Setting.{Setting}
-use Rattle.composed_tables.specs.Composing.{ComposedOf, IsGood, IsOf}
+use Rattle.composed_tables.specs.Composing.{IsGood}
 use Rattle.composed_tables.specs.Rules.{IsReadyFor}
-use Rattle.std.proofs.lemmas.Result.{IfOk-weaker}
+use Rattle.policy_file.specs.Policies.{plan}
 use Rattle.virtual_topology.specs.declared.plan.TopologyPlan.{TopologyPlan}
 use Rattle.machine_drafts.specs.Machines.{state_in_held}
 use Rattle.hyper_core.proofs.Kept.{built_kept, tables_sound}
@@ -16,22 +16,22 @@ build-requires-clause-good g c =
     let p = c.args.setup.now in
     let s = state_in_held c.args.held.now in
     subst IsGood (sym c.in_ok-setting.ensures.setting)
-    (c.settings_are_ready.ensures p c.policy.ensures.sound s (tables_sound p s c.requires)).good
+    (c.settings_are_ready.ensures p c.policy.ensures.sound s (tables_sound p s c.requires.sound)).good
 
 pub build-requires-clause-ready : goal.build-requires-clause-ready
 build-requires-clause-ready g c =
     let p = c.args.setup.now in
     let s = state_in_held c.args.held.now in
     subst (λ (t : TopologyPlan). IsReadyFor t c.in_ok-setting.setting) (sym c.topology.ensures)
-    (subst (λ (t : Setting). IsReadyFor _ t) (sym c.in_ok-setting.ensures.setting)
-    (c.settings_are_ready.ensures p c.policy.ensures.sound s (tables_sound p s c.requires)).ready)
+    (subst (λ (t : Setting). IsReadyFor (plan p) t) (sym c.in_ok-setting.ensures.setting)
+    (c.settings_are_ready.ensures p c.policy.ensures.sound s (tables_sound p s c.requires.sound)).ready)
 
 pub build-requires-clause-few : goal.build-requires-clause-few
 build-requires-clause-few g c =
     let p = c.args.setup.now in
     let s = state_in_held c.args.held.now in
     subst (λ (t : Setting). length t.switches < 2 ^ 32) (sym c.in_ok-setting.ensures.setting)
-    (c.settings_are_ready.ensures p c.policy.ensures.sound s (tables_sound p s c.requires)).few
+    (c.settings_are_ready.ensures p c.policy.ensures.sound s (tables_sound p s c.requires.sound)).few
 
 pub returns : goal.returns
 returns g c =

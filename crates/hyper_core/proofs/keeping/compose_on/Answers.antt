@@ -1,9 +1,9 @@
-use Rattle.std.proofs.Common.{◌∙◌, arith, length}
+use Rattle.std.proofs.Common.{◌≡◌, arith, length}
 use Rattle.std.proofs.lemmas.Result.{on_ok_weaker}
 use Rattle.machine_meaning.specs.Settings.{setting_of}
 use Rattle.machine_drafts.specs.Outcomes.{state_in}
 use Rattle.hyper_core.proofs.Attempts.{in_ok_case}
-use Rattle.hyper_core.proofs.Following.{can_follow, can_give, wanted_by}
+use Rattle.hyper_core.proofs.Following.{as_many, can_follow, wanted_by}
 use Rattle.hyper_core.proofs.Serials.{drafts_have}
 use Rattle.hyper_core.proofs.keeping.compose_on.Goals as goal
 
@@ -14,9 +14,10 @@ turn-requires g c =
 
 pub compose_from-requires : goal.compose_from-requires
 compose_from-requires g c =
-    let all = can_give c.args.setup.now c.args.draft.now c.args.composed.now c.turn.new.composed c.requires.kept
+    let all : length c.args.draft.now.switches ≡ length c.turn.new.composed.tables =
+    as_many c.args.setup.now c.args.draft.now c.args.composed.now c.turn.new.composed c.requires.kept
     c.in_ok-turned.ensures.of in
-    omega (arith, all)
+    omega arith
 
 pub returns-clause-drafted : goal.returns-clause-drafted
 returns-clause-drafted g c =

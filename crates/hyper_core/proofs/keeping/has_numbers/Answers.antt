@@ -1,4 +1,4 @@
-use Rattle.std.proofs.Common.{arith, subst, sym}
+use Rattle.std.proofs.Common.{arith, subst}
 use Rattle.hyper_core.proofs.Serials.{members_have}
 use Rattle.machine_drafts.specs.Serials.{StandingHaveSerials}
 use Rattle.hyper_core.proofs.keeping.has_numbers.Goals as goal
@@ -9,5 +9,6 @@ returns-then-held-lt18446744073709551615 c t =
     record {
       cookies = omega (arith, less);
       serials =
-          members_have c.args.held.now.members (subst StandingHaveSerials c.as_slice.ensures (c.have_serials.ensures t));
+          members_have c.args.held.now.members
+          (subst StandingHaveSerials c.as_slice.ensures (c.have_serials.ensures t));
     }
