@@ -1,7 +1,7 @@
 -- In whatever order what is wanted of a switch is listed, the change to it is the same.
-use Rattle.std.proofs.Common.{◌≡◌, ◌∙◌, ℕ, Bool, not, List, [], ◌++◌, map, filter, refl, sym, ap}
+use Rattle.std.proofs.Common.{◌≡◌, ◌∙◌, ℕ, Bool, not, List, [], ◌++◌, map, filter, sym, ap}
 use Rattle.std.specs.Prelude.{IsPermutation}
-use Rattle.std.specs.List.{AllByRecursion, list_any}
+use Rattle.std.specs.List.{list_any}
 use Rattle.std.proofs.lemmas.List.Sorted.{IsPermutation-refl, list_any-IsPermutation}
 use Rattle.agreement.specs.FreeOrder.{HaveMatches}
 use Rattle.agreement.proofs.Cables.{all-filter}

@@ -26,7 +26,7 @@ turn_member-requires-clause-ups g c =
     let all = c.requires.all in
     let count = c.loop-n.invariant.of.of.count in
     let physical = long_physical (ups_with (mixed_at c.loop-n.n o).switches) c.args.setup.now.switches in
-    let slice = ap (λ (us : List Bool). length us) c.as_slice-2.ensures in
+    let slice = ap (λ (us : List Bool). length us) c.as_slice-in-loop-n.ensures in
     omega (arith, ups, seen, now, same, all, count, physical, slice)
 
 pub returns-clause-of : goal.returns-clause-of

@@ -41,7 +41,7 @@ leaf_delta-requires-clause-rising g c =
     let item = c.index-items-n.result in
     let there = item_at p.members c.members-items.result.now n item c.members-items.ensures.members
     (items_long p c.args.draft.now n c.requires.after c.requires.there) c.index-items-n.is in
-    (item_of p c.policy.ensures.sound n item there).grant.rising
+    (item_of p c.policy-policy.ensures.sound n item there).grant.rising
 
 pub leaf_delta-requires-clause-boxes : goal.leaf_delta-requires-clause-boxes
 leaf_delta-requires-clause-boxes g c =
@@ -50,7 +50,7 @@ leaf_delta-requires-clause-boxes g c =
     let item = c.index-items-n.result in
     let there = item_at p.members c.members-items.result.now n item c.members-items.ensures.members
     (items_long p c.args.draft.now n c.requires.after c.requires.there) c.index-items-n.is in
-    (grant_sound p c.policy.ensures.sound n item there).boxes
+    (grant_sound p c.policy-policy.ensures.sound n item there).boxes
 
 pub returns-in_default-clause-of : goal.returns-in_default-clause-of
 returns-in_default-clause-of g c =
@@ -80,7 +80,7 @@ apply-requires-clause-can g c =
     let delta = c.in-Some.delta in
     let changes = subst (λ (k : Option LeafDelta). IfSome k (IsLeafDelta n item.grant c.in_ok-ports.ports m)) c.in-Some.is
     c.in_ok-delta.ensures.some in
-    let turn = can_turn p o c.requires.exprs n item m there at c.mixtures_turn.ensures c.policy.ensures.sound
+    let turn = can_turn p o c.requires.exprs n item m there at c.mixtures_turn.ensures c.policy-policy.ensures.sound
     c.requires.before c.requires.after c.in_ok-ports.ports delta c.in_ok-ports.ensures changes in
     turn.can c.args.composed.now c.requires.of.of
 
@@ -98,7 +98,7 @@ returns-clause-of g c =
     let delta = c.in-Some.delta in
     let changes = subst (λ (k : Option LeafDelta). IfSome k (IsLeafDelta n item.grant c.in_ok-ports.ports m)) c.in-Some.is
     c.in_ok-delta.ensures.some in
-    let turn = can_turn p o c.requires.exprs n item m there at c.mixtures_turn.ensures c.policy.ensures.sound
+    let turn = can_turn p o c.requires.exprs n item m there at c.mixtures_turn.ensures c.policy-policy.ensures.sound
     c.requires.before c.requires.after c.in_ok-ports.ports delta c.in_ok-ports.ensures changes in
     record {
       of = c.in_ok-batches.ensures.of _ _ turn.good turn.good_after c.requires.of.of turn.changes;
