@@ -31,7 +31,7 @@ use Rattle.hyper_core.specs.declared.turning.Turned.TheVariants.{Nothing, Once, 
 -- the item at a place is there
 pub item_at : {A : Type 0} (xs ys : List A) (n : ℕ) (x : A) → ys ≡ xs → n < length xs → x ≡ get_or ys n x
     → slice_get xs n ≡ Some x
-item_at xs ys n x same lt is =
+item_at {A = A} xs ys n x same lt is =
     subst (λ (zs : List A). slice_get zs n ≡ Some x) same
     (slice_get_read ys (length ys) n x refl (subst (λ (zs : List A). n < length zs) (sym same) lt) is)
 

@@ -29,6 +29,13 @@ turn_member-requires-clause-ups g c =
     let slice = ap (λ (us : List Bool). length us) c.as_slice-in-loop-n.ensures in
     omega (arith, ups, seen, now, same, all, count, physical, slice)
 
+-- one member more
+pub loop-n-preserved : goal.loop-n-preserved
+loop-n-preserved g c = record {
+  of = c.in_ok-turned.ensures.of;
+  told = c.in_ok-turned.ensures.told c.args.composed.now.tables c.loop-n.invariant.told;
+}
+
 pub returns-clause-of : goal.returns-clause-of
 returns-clause-of g c =
     let test = c.loop-n-test.false in
