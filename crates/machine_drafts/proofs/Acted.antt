@@ -44,7 +44,8 @@ pub frame_whole : (e : Event) (session : Session) (frame : List ℕ) → e ≡ M
 frame_whole e session frame is h = subst IsWhole is h
 
 pub frame_judged : (p : PolicyOf) (o : Outcome) (e : Event) (session : Session) (frame : List ℕ)
-    (judged : Option Judged) → e ≡ Msg session frame → WasJudgedFor p o e judged → WasJudgedFrom p o session.who frame judged
+    (judged : Option Judged) → e ≡ Msg session frame → WasJudgedFor p o e judged
+    → WasJudgedFrom p o session.who frame judged
 frame_judged p o e session frame judged is h = subst (λ (z : Event). WasJudgedFor p o z judged) is h
 
 pub frame_heard : (e : Event) (session : Session) (frame : List ℕ) (h : Heard) (s : State) → e ≡ Msg session frame

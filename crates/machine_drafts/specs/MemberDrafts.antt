@@ -55,7 +55,8 @@ with_now f d = record d { now = f d.now }
 abbrev pub IsUnplanned : MemberDraftOf → Type 0
 IsUnplanned d = d.now.kept ≡ d.base.kept.state
 
--- so the rules of the member of a number, with this grant, at a virtual switch of these ports, change with what is planned
+-- so the rules of the member of a number, with this grant, at a virtual switch of these ports, change with what is
+-- planned
 pub record IsLeafDelta (n : ℕ) (grant : Grant) (ports : List ℕ) (d : MemberDraftOf) (delta : LeafDelta) : Type 0 where
   pub member : delta.member ≡ n
   pub rules :

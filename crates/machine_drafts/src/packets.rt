@@ -7,7 +7,8 @@ ghost use Rattle.pkt_bytes.specs.Headers.{header_in};
 ghost use Rattle.machine_drafts.specs.Outcomes.{bases, draft_in, state_in};
 ghost use Rattle.machine_meaning.specs.Settings.{setting_of};
 ghost use Rattle.machine_meaning.specs.Packets.{comes_by as comes_by_of, packet_comes as packet_comes_of};
-ghost use Rattle.machine_meaning.specs.Packets.{packet_goes as packet_goes_of, sent_in as sent_in_of, walk_in as walk_in_of};
+ghost use Rattle.machine_meaning.specs.Packets.{packet_goes as packet_goes_of, sent_in as sent_in_of};
+ghost use Rattle.machine_meaning.specs.Packets.{walk_in as walk_in_of};
 
 use crate::giving::sent_in;
 use crate::outcome::Outcome;

@@ -3,7 +3,8 @@ ghost use Rattle.std.specs.Prelude.{◌≡◌, ◌++◌, ◌<◌, IfOk, OnOk, So
 ghost use Rattle.switch_state.specs.Messages.{packet_out};
 ghost use Rattle.machine_meaning.specs.Barriers.{with_known as known_as};
 ghost use Rattle.machine_meaning.specs.Drafts.{Draft, letter};
-ghost use Rattle.machine_drafts.specs.InsideRequests.{AreSendable, IsSendable, known_sent, with_dispatched, with_polled};
+ghost use Rattle.machine_drafts.specs.InsideRequests.{AreSendable, IsSendable, known_sent, with_dispatched};
+ghost use Rattle.machine_drafts.specs.InsideRequests.{with_polled};
 ghost use Rattle.machine_meaning.specs.Lists.{changed_at};
 ghost use Rattle.machine_drafts.specs.Outcomes.{bases, draft_in, standing_in, switch_bases, switches_in};
 ghost use Rattle.machine_meaning.specs.Requests.{dispatch as dispatch_of, poll as poll_of, poll_at as poll_at_of};

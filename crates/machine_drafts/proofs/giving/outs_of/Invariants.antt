@@ -2,7 +2,7 @@ use Rattle.std.proofs.Common.{◌≡◌, ◌++◌, drop}
 use Rattle.std.specs.Prelude.{filter_map}
 use Rattle.of10_actions.specs.declared.effects.Out.{Out}
 use Rattle.packet_map.specs.Sending.{emitted}
-use Rattle.hyper_core.proofs.giving.outs_of.Given as goal
+use Rattle.machine_drafts.proofs.giving.outs_of.Given as goal
 
 abbrev pub invariant-loop-out : goal.invariant-loop-out
 invariant-loop-out l =

@@ -7,7 +7,8 @@ use Rattle.machine_meaning.specs.Names.{all_ports, virtual_of}
 use Rattle.machine_drafts.specs.Outcomes.{draft_in}
 use Rattle.machine_drafts.proofs.FewPorts.{member_few}
 use Rattle.machine_drafts.proofs.Sendable.{serve_sends}
-use Rattle.machine_drafts.proofs.Served.{denied_as, found_at, heard_refused, heard_served, member_in, refused_so, served_so}
+use Rattle.machine_drafts.proofs.Served.{denied_as, found_at, heard_refused, heard_served, member_in, refused_so}
+use Rattle.machine_drafts.proofs.Served.{served_so}
 use Rattle.machine_drafts.proofs.member_messages.heard_from.Goals as goal
 
 pub serve-requires-clause-few : goal.serve-requires-clause-few
