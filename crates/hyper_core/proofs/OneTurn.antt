@@ -1,5 +1,5 @@
 -- What is kept follows a member whose rules change.
-use Rattle.std.proofs.Common.{◌≡◌, ◌∙◌, ℕ, ◌+◌, ◌<◌, List, map, Option, Some, get_or, refl, sym, ap, arith, subst}
+use Rattle.std.proofs.Common.{◌≡◌, ◌∙◌, ℕ, ◌+◌, ◌<◌, List, map, Some, get_or, refl, sym, ap, arith, subst}
 use Rattle.std.specs.Prelude.{IsPermutation, length, option_map, slice_get}
 use Rattle.std.proofs.lemmas.List.{length-map}
 use Rattle.std.proofs.lemmas.Option.{slice_get-map, slice_get_read}
@@ -18,7 +18,7 @@ use Rattle.switch_tables.specs.Tables.{SwitchTableOf}
 use Rattle.switch_tables.specs.Turning.{AreBatches}
 use Rattle.switch_tables.specs.declared.tables.SwitchBatch.{SwitchBatch}
 use Rattle.machine_meaning.specs.Sound.{AreSoundTables}
-use Rattle.machine_meaning.specs.States.{MemberOf, State}
+use Rattle.machine_meaning.specs.States.{State}
 use Rattle.hyper_core.specs.Kept.{IsComposedOf}
 use Rattle.machine_drafts.specs.MemberDrafts.{IsLeafDelta, IsUnplanned, MemberDraftOf}
 use Rattle.machine_drafts.specs.Outcomes.{state_in}

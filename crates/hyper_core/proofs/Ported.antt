@@ -1,10 +1,9 @@
 -- The ports of a virtual switch are the same whatever its expression is, and what its members keep.
-use Rattle.std.proofs.Common.{◌≡◌, ◌∙◌, ℕ, Bool, List, Option, Some, None, sym, ap}
+use Rattle.std.proofs.Common.{◌≡◌, ◌∙◌, ℕ, Bool, List, Some, None, sym, ap}
 use Rattle.std.specs.Prelude.{option_map, slice_get}
 use Rattle.policy_expr.specs.Policy.{Policy}
 use Rattle.policy_file.specs.Policies.{PolicyOf, plan}
 use Rattle.policy_meaning.specs.Networks.{ports_of}
-use Rattle.policy_meaning.specs.Switches.{SwitchOf as VirtualOf}
 use Rattle.policy_setting.specs.Networks.{virtual_switch}
 use Rattle.policy_setting.specs.OfPolicies.{seen}
 use Rattle.policy_setting.specs.Settings.{expr_at, holds_at}
