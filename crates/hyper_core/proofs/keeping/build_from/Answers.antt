@@ -16,7 +16,7 @@ build-requires-clause-good g c =
     let p = c.args.setup.now in
     let s = state_in_held c.args.held.now in
     subst IsGood (sym c.in_ok-setting.ensures.setting)
-    (c.settings_are_ready.ensures p c.policy.ensures.sound s (tables_sound p s c.requires.sound)).good
+    (c.settings_are_ready.ensures p c.policy-policy.ensures.sound s (tables_sound p s c.requires.sound)).good
 
 pub build-requires-clause-ready : goal.build-requires-clause-ready
 build-requires-clause-ready g c =
@@ -24,14 +24,14 @@ build-requires-clause-ready g c =
     let s = state_in_held c.args.held.now in
     subst (λ (t : TopologyPlan). IsReadyFor t c.in_ok-setting.setting) (sym c.topology.ensures)
     (subst (λ (t : Setting). IsReadyFor (plan p) t) (sym c.in_ok-setting.ensures.setting)
-    (c.settings_are_ready.ensures p c.policy.ensures.sound s (tables_sound p s c.requires.sound)).ready)
+    (c.settings_are_ready.ensures p c.policy-policy.ensures.sound s (tables_sound p s c.requires.sound)).ready)
 
 pub build-requires-clause-few : goal.build-requires-clause-few
 build-requires-clause-few g c =
     let p = c.args.setup.now in
     let s = state_in_held c.args.held.now in
     subst (λ (t : Setting). length t.switches < 2 ^ 32) (sym c.in_ok-setting.ensures.setting)
-    (c.settings_are_ready.ensures p c.policy.ensures.sound s (tables_sound p s c.requires.sound)).few
+    (c.settings_are_ready.ensures p c.policy-policy.ensures.sound s (tables_sound p s c.requires.sound)).few
 
 pub returns : goal.returns
 returns g c =

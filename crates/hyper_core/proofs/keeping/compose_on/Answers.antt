@@ -24,7 +24,7 @@ returns-clause-drafted g c =
     let o = c.args.draft.now in
     on_ok_weaker c.compose_from.result
     (λ made. made (setting_of c.args.setup.now (state_in o))
-    (wanted_by c.settings_are_ready.ensures c.args.setup.now c.policy.ensures.sound o c.args.composed.now
+    (wanted_by c.settings_are_ready.ensures c.args.setup.now c.policy-policy.ensures.sound o c.args.composed.now
     c.turn.new.composed c.in_ok-turned.turned c.requires.settled c.requires.kept
     (drafts_have o.members c.requires.serials) c.in_ok-turned.ensures.of c.in_ok-turned.ensures.told
     c.are_tables.ensures c.are_tables-2.ensures))
