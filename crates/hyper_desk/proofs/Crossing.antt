@@ -6,6 +6,7 @@ use Rattle.cv_io.proofs.list.List.TheSendSync.{the_send as list}
 use Rattle.machine_drafts.proofs.session.Member.TheSendSync.{the_send as member}
 use Rattle.machine_drafts.proofs.session.Switch.TheSendSync.{the_send as switch}
 use Rattle.machine_drafts.proofs.setup.Setup.TheSendSync.{the_send as setup}
+use Rattle.hyper_desk.proofs.KeptCrossing.{composed}
 use Rattle.machine_drafts.specs.contracts.held.Held as Held
 use Rattle.hyper_core.specs.contracts.hyper.Hyper as Hyper
 use Rattle.machine_drafts.specs.contracts.setup.Setup as Setup
@@ -29,4 +30,4 @@ held_field : IsSend Held.the_field.row
 held_field = search (list, expr_row, expr, member, switch, counts, waiting, owed, letters, sendable) depth 60
 
 pub hyper : IsSend Hyper.the_row
-hyper = let a : IsSend Setup.the_field.row = setup in search (held_field, held, sendable) depth 20
+hyper = let a : IsSend Setup.the_field.row = setup in search (held_field, held, composed, sendable) depth 20

@@ -1,3 +1,4 @@
 mod Opened
 mod Histories
+mod KeptCrossing
 pub mod Crossing
