@@ -1,7 +1,7 @@
 //! What stands on a switch behind its gate.
 use crate::installed::shown;
 use crate::samples::one;
-use cv_io::{Leaf, List};
+use cv_io::{Duplicate, Leaf, List};
 use exact_gate::GateDelta;
 use install_plan::Batch;
 use of10_actions::Action;
@@ -106,5 +106,7 @@ fn one_packet_gives_way_and_comes_back(rt: HostRuntime) -> Result<(), Fail> {
         assert_eq!(rt; shown(alloc, &batch.deletes)?.as_slice(), deletes);
         assert_eq!(rt; shown(alloc, &batch.adds)?.as_slice(), [adds].as_slice());
     }
+    let copied = table.copy()?.standing()?;
+    assert_eq!(rt; shown(alloc, &copied)?.as_slice(), [(5, 1, 4)].as_slice());
     Ok(())
 }
