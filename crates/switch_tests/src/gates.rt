@@ -5,7 +5,7 @@ use cv_io::{Duplicate, Leaf, List};
 use exact_gate::GateDelta;
 use install_plan::Batch;
 use of10_actions::Action;
-use of10_match::{IPV4, Match, Prefix, TCP};
+use of10_match::{IPV4, Match, Prefix, read};
 use std::alloc::Global;
 use std::test::Fail;
 use switch_meaning::PhysEntry;
@@ -61,22 +61,10 @@ fn an_entry_comes_and_is_taken_back(rt: HostRuntime) -> Result<(), Fail> {
 }
 
 /// All twelve fields of a packet to 10.0.0.2.
-fn one_packet() -> Match {
-    Match {
-        in_port: Some(1),
-        dl_src: Some(1),
-        dl_dst: Some(2),
-        dl_vlan: Some(5),
-        dl_vlan_pcp: Some(3),
-        dl_type: Some(IPV4),
-        nw_tos: Some(0),
-        nw_proto: Some(TCP),
-        nw_src: Some(Prefix::from(0x0a00_0001)),
-        nw_dst: Some(Prefix::from(0x0a00_0002)),
-        tp_src: Some(8),
-        tp_dst: Some(80),
-    }
-}
+const ONE_PACKET: [u8; 40] = [
+    0, 0, 0, 0, 0, 1, 0, 0, 0, 0, 0, 1, 0, 0, 0, 0, 0, 2, 0, 5, 3, 0, 0x08, 0x00, 0, 6, 0, 0, 10,
+    0, 0, 1, 10, 0, 0, 2, 0, 8, 0, 80,
+];
 
 /// IPv4 packets to 10.0.0.2.
 fn to_host() -> Match {
@@ -93,7 +81,7 @@ fn one_packet_gives_way_and_comes_back(rt: HostRuntime) -> Result<(), Fail> {
     let alloc = rt.alloc();
     let mut table = SwitchTable::new(alloc);
     let none = List::new(alloc);
-    let packet = one(alloc, entry(alloc, one_packet(), 5, 3)?)?;
+    let packet = one(alloc, entry(alloc, read(&ONE_PACKET).normal, 5, 3)?)?;
     let host = one(alloc, entry(alloc, to_host(), 13, 3)?)?;
     let first = table.change(&none, &packet, 2)?;
     let second = table.change(&none, &host, 3)?;

@@ -15,23 +15,18 @@ use std::test::Fail;
 use switch_meaning::FlowEntry;
 use virtual_topology::Topology;
 
-/// A virtual switch with two links, of the physical ports from this one on.
-fn half(from: u16) -> [(u16, (&'static str, u16)); 4]
-    requires { from < 4 }
-{
-    [
-        (1, ("s1", from)),
-        (2, ("s1", from + 1)),
-        (8, ("link", 0)),
-        (9, ("link", 0)),
-    ]
-}
-
 /// Two virtual switches on one physical one, with two links.
 fn linked(alloc: Global) -> Result<Topology, Fail> {
     let mut plan = of_switches(alloc, &["s1"])?;
-    plan.virtuals.push(virtual_switch(alloc, "v1", &half(1))?)?;
-    plan.virtuals.push(virtual_switch(alloc, "v2", &half(3))?)?;
+    for (name, first, second) in [("v1", 1, 2), ("v2", 3, 4)] {
+        let ports = [
+            (1, ("s1", first)),
+            (2, ("s1", second)),
+            (8, ("link", 0)),
+            (9, ("link", 0)),
+        ];
+        plan.virtuals.push(virtual_switch(alloc, name, &ports)?)?;
+    }
     plan.links.push(pair(alloc, ("v1", 9), ("v2", 9))?)?;
     plan.links.push(pair(alloc, ("v1", 8), ("v2", 8))?)?;
     Ok(Topology::make(alloc, &plan)?)
