@@ -357,6 +357,12 @@ kept_meaning m n plan state =
     (subst (λ (s : State). Covers s.counts (keys_of m.holding.counts.sums)) (sym state) (covered m))
     ∙ ap (λ (s : State). data_of m.plan s (keys_of m.holding.counts.sums)) state)
 
+-- so does a copy
+pub copied_means : (m : MachineOf) (r : Result MachineOf Memory) → IfOk r (λ n. n.plan ≡ m.plan)
+    → IfOk r (λ n. state_of n ≡ state_of m) → IfOk r (λ n. data_in n ≡ data_in m)
+copied_means m (Ok n) plan state = kept_meaning m n plan state
+copied_means m (Err e) plan state = tt
+
 -- the meaning of a machine after a step is the next one
 next_meaning : (m n : MachineOf) (e : Event) (reply : Reply) → n.plan ≡ m.plan
     → (reply, state_of n) ≡ step_of m.plan (state_of m) e

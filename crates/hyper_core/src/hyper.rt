@@ -100,6 +100,21 @@ impl Hyper {
         self.composed.is_some()
     }
 
+    /// A machine of the same policy in the same state. Its composed part isn't copied: the first event that needs one
+    /// has it made anew.
+    pub fn copy(&self) -> Result<Hyper, Memory>
+        ensures plan { IfOk result (λ copied. copied.plan ≡ self.now.plan) }
+        ensures state { IfOk result (λ copied. state_of copied ≡ state_of self.now) }
+    {
+        let setup = self.setup.copy()?;
+        let held = copied_held(&setup, &self.held)?;
+        Ok(Hyper {
+            setup,
+            held,
+            composed: None,
+        })
+    }
+
     /// The policy. What is true of every policy is said here.
     pub fn policy(&self) -> &Policy
         ensures policy { result.now ≡ self.now.plan }
@@ -154,17 +169,5 @@ impl Hyper {
         ensures rising { SeeRising result }
     {
         followed(&self.setup, &self.held, tables)
-    }
-}
-
-impl Duplicate for Hyper {
-    fn copy(&self) -> Result<Hyper, Memory> {
-        let setup = self.setup.copy()?;
-        let held = copied_held(&setup, &self.held)?;
-        Ok(Hyper {
-            setup,
-            held,
-            composed: None,
-        })
     }
 }

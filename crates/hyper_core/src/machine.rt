@@ -65,7 +65,7 @@ impl Machine for Hyper {
     }
 
     fn copy(&self) -> Result<Hyper, Memory> {
-        Duplicate::copy(self)
+        Hyper::copy(self)
     }
 
     fn copy_event(event: &Event) -> Result<Event, Memory> {

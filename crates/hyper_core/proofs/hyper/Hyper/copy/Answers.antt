@@ -1,5 +1,5 @@
 use Rattle.hyper_core.proofs.Stepped.{held_copied}
-use Rattle.hyper_core.proofs.hyper.HyperDuplicate.copy.Goals as goal
+use Rattle.hyper_core.proofs.hyper.Hyper.copy.Goals as goal
 
 pub invariant_of-result : goal.invariant_of-result
 invariant_of-result c =
