@@ -8,6 +8,7 @@
 mod building;
 mod candidates;
 pub mod compiled;
+mod found;
 pub mod joining;
 pub mod laws;
 pub mod making;
