@@ -1,6 +1,6 @@
 -- The steps of a change are those for what came, of an expression's rules from scratch.
 use Rattle.std.proofs.Common.{◌≡◌, ◌≢◌, ℕ, ◌+◌, ◌≤◌, true, false, cond, List, [], ◌∷◌, ◌++◌, Option, Some, None, map, refl, sym, ap, subst, ◌∙◌, arith}
-use Rattle.std.specs.Prelude.{IsPermutation, flat_map, sum_by}
+use Rattle.std.specs.Prelude.{IsPermutation, flat_map, slice_get, sum_by}
 use Rattle.std.proofs.lemmas.List.Sorted.{IsPermutation-sym, IsPermutation-trans, sum_by-IsPermutation}
 use Rattle.std.proofs.lemmas.List.Sums.{sum_by-cons}
 use Rattle.list_change.specs.Coming.{came}
@@ -12,6 +12,7 @@ use Rattle.op_compose.specs.declared.op.Side.{Side}
 use Rattle.op_compose.specs.declared.op.Side.TheVariants.{Left, Right}
 use Rattle.policy_expr.specs.Policy.{Policy, member, parallel, sequential, override}
 use Rattle.policy_expr.specs.Sizes.{size_of}
+use Rattle.policy_meaning.specs.Networks.{table_rules, table_size}
 use Rattle.policy_meaning.specs.Rules.{chains_with, rules_of, shifts_with, sums_with}
 use Rattle.policy_meaning.specs.declared.leaf.LeafTable.{LeafTable}
 use Rattle.policy_meaning.specs.declared.rule.Rule.{Rule}
@@ -202,17 +203,24 @@ module _ (tables : List LeafTable) (ports : List ℕ) (op : Op) (a b : Policy) (
   scratch-whole = ap (λ z. steps_from_scratch tables ports z) is
 
   pub first-stopped : (s0 s1 : ℕ) → s1 ≤ s0 + steps_from_scratch tables ports a → s1 ≤ s0 + steps_from_scratch tables ports e
-  first-stopped s0 s1 p = first-alone s0 s1 (steps_from_scratch tables ports a) (steps_from_scratch tables ports b) _ _ p (scratch-whole ∙ over-steps _ _ _ op a b h)
+  first-stopped s0 s1 p = first-alone s0 s1 (steps_from_scratch tables ports a) (steps_from_scratch tables ports b) (steps_at (λ i. table_size (slice_get tables i)) (λ i. []) (λ i. table_rules ports (slice_get tables i)) op a b) (steps_from_scratch tables ports e) p
+      (scratch-whole ∙ over-steps (λ i. table_size (slice_get tables i)) (λ i. []) (λ i. table_rules ports (slice_get tables i)) op a b h)
 
   pub second-stopped : (s0 s1 s2 : ℕ) → s1 ≤ s0 + steps_from_scratch tables ports a → s2 ≤ s1 + steps_from_scratch tables ports b → s2 ≤ s0 + steps_from_scratch tables ports e
-  second-stopped s0 s1 s2 p q = stopped-part s0 s1 s2 (steps_from_scratch tables ports a) (steps_from_scratch tables ports b) _ _ p q (scratch-whole ∙ over-steps _ _ _ op a b h)
+  second-stopped s0 s1 s2 p q = stopped-part s0 s1 s2 (steps_from_scratch tables ports a) (steps_from_scratch tables ports b) (steps_at (λ i. table_size (slice_get tables i)) (λ i. []) (λ i. table_rules ports (slice_get tables i)) op a b) (steps_from_scratch tables ports e) p q
+      (scratch-whole ∙ over-steps (λ i. table_size (slice_get tables i)) (λ i. []) (λ i. table_rules ports (slice_get tables i)) op a b h)
 
   pub built-spent : (l r : TreeOf) → IsBuilt tables ports a l → IsBuilt tables ports b r → (s0 s1 s2 s3 : ℕ) → s1 ≤ s0 + steps_from_scratch tables ports a → s2 ≤ s1 + steps_from_scratch tables ports b →
       s3 ≤ s2 + (left_cost op (rules_in (made_in r)) (rules_in (made_in l)) + right_cost op (rules_in (made_in l)) (rules_in (made_in r))) → s3 ≤ s0 + steps_from_scratch tables ports e
   built-spent l r f g s0 s1 s2 s3 p q t =
-      let lefts = subst (λ z. IsPermutation (rules_at l) (rules_of _ _ z)) f.policy (from-scratch _ _ l f.is_tree f.tables_are) in
-      let rights = subst (λ z. IsPermutation (rules_at r) (rules_of _ _ z)) g.policy (from-scratch _ _ r g.is_tree g.tables_are) in
-      built-part s0 s1 s2 s3 (steps_from_scratch tables ports a) (steps_from_scratch tables ports b) _ _ _ _ _ p q t
-      (left-cost op (made_in r) (made_in l) ∙ left-same op (rules_at r) _ (rules_at l) _ rights (IsPermutation-trans _ _ _ lefts (by-equation _ _ (sym (all-come _ _ a)))))
-      (right-cost op (made_in l) (made_in r) ∙ right-same op (rules_at l) _ (rules_at r) _ lefts (IsPermutation-trans _ _ _ rights (by-equation _ _ (sym (all-come _ _ b)))))
-      (scratch-whole ∙ over-steps _ _ _ op a b h)
+      let sizes : ℕ → ℕ = λ i. table_size (slice_get tables i) in
+      let rules : ℕ → List Rule = λ i. table_rules ports (slice_get tables i) in
+      let lefts = subst (λ z. IsPermutation (rules_at l) (rules_of sizes rules z)) f.policy (from-scratch sizes rules l f.is_tree f.tables_are) in
+      let rights = subst (λ z. IsPermutation (rules_at r) (rules_of sizes rules z)) g.policy (from-scratch sizes rules r g.is_tree g.tables_are) in
+      let come = IsPermutation-trans _ _ _ lefts (by-equation _ _ (sym (all-come sizes rules a))) in
+      let come' = IsPermutation-trans _ _ _ rights (by-equation _ _ (sym (all-come sizes rules b))) in
+      built-part s0 s1 s2 s3 (steps_from_scratch tables ports a) (steps_from_scratch tables ports b) (left_cost op (rules_in (made_in r)) (rules_in (made_in l))) (right_cost op (rules_in (made_in l)) (rules_in (made_in r)))
+      (left_steps op (rules_of sizes rules b) (come_to sizes (λ i. []) rules a)) (right_steps op (rules_of sizes rules a) (come_to sizes (λ i. []) rules b)) (steps_from_scratch tables ports e) p q t
+      (left-cost op (made_in r) (made_in l) ∙ left-same op (rules_at r) (rules_of sizes rules b) (rules_at l) (come_to sizes (λ i. []) rules a) rights come)
+      (right-cost op (made_in l) (made_in r) ∙ right-same op (rules_at l) (rules_of sizes rules a) (rules_at r) (come_to sizes (λ i. []) rules b) lefts come')
+      (scratch-whole ∙ over-steps sizes (λ i. []) rules op a b h)

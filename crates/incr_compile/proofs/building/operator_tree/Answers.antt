@@ -10,8 +10,8 @@ of-requires g c =
     subst (λ z. CanJoin c.args.op c.args.size z c.made-2.result.now) (sym c.made.ensures)
     (subst (λ z. CanJoin c.args.op c.args.size (made_in (tree_of c.args.left)) z) (sym c.made-2.ensures) (over-can c.args.op c.args.size (tree_of c.args.left) (tree_of c.args.right) c.requires))
 
-pub returns : goal.returns
-returns g c =
+pub returns-clause-over : goal.returns-clause-over
+returns-clause-over g c =
     over-is c.args.op c.args.size (tree_of c.args.left) (tree_of c.args.right) (node_of c.in_ok-of.field-0) _ c.requires c.in_ok-of.ensures.op c.in_ok-of.ensures.size
     (subst (λ z. IsNode (node_of c.in_ok-of.field-0) (rules_in (made_in (tree_of c.args.left))) (rules_in z)) c.made-2.ensures
     (subst (λ z. IsNode (node_of c.in_ok-of.field-0) (rules_in z) (rules_in c.made-2.result.now)) c.made.ensures c.in_ok-of.ensures.node))
