@@ -1,7 +1,7 @@
 -- What is found in an index that shows rules.
 use Rattle.std.proofs.Common.{◌≡◌, ℕ, zero, suc, ◌<◌, Bool, true, false, not, cond, List, [], ◌∷◌, ◌++◌, Option, Some, None, map}
-use Rattle.std.proofs.Common.{Result, Ok, get_or, length, refl, sym, ap, subst, ◌∙◌, arith}
-use Rattle.std.specs.Prelude.{IfOk, IsPermutation, filter, filter_map, option_map}
+use Rattle.std.proofs.Common.{Result, Ok, Err, get_or, length, refl, sym, ap, subst, ◌∙◌, arith}
+use Rattle.std.specs.Prelude.{Contains, IfOk, IsPermutation, MatchResult, filter, filter_map, option_map}
 use Rattle.std.specs.List.{AllZip, cons_option}
 use Rattle.std.proofs.lemmas.List.Sorted.{IsPermutation-append_left, IsPermutation-filter_both, IsPermutation-map}
 use Rattle.std.proofs.lemmas.List.Sorted.{IsPermutation-sym, IsPermutation-trans}
@@ -98,3 +98,10 @@ all-ok P Q h [] [] z = tt
 all-ok P Q h [] (y ∷ ys) z = absurd z
 all-ok P Q h (x ∷ xs) [] z = absurd z
 all-ok P Q h (x ∷ xs) (y ∷ ys) z = (h x y z.0, all-ok P Q h xs ys z.1)
+
+-- where all were found, each was
+pub found-each : {A B E V : Type 0} (items : V → List B) (P Q : A → B → Type 0) → ((a : A) (b : B) → P a b → Q a b) → (xs : List A) (rs : List (Result B E)) (v : Result V E) → AllZip (λ a (r : Result B E). IfOk r (P a)) xs rs →
+    MatchResult v (λ c. (ys : List B) × (rs ≡ map Ok ys) × (items c ≡ ys)) (λ e. Contains rs (Err e)) → IfOk v (λ c. AllZip Q xs (items c))
+found-each items P Q h xs rs (Ok c) z m =
+    subst (λ ys. AllZip Q xs ys) (sym m.2) (all-ok P Q h xs m.0 (subst (λ r. AllZip (λ a (r : Result _ _). IfOk r (P a)) xs r) m.1 z))
+found-each items P Q h xs rs (Err e) z m = tt
