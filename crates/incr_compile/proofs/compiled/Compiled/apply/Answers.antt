@@ -78,6 +78,9 @@ returns-in-Ok-clause-apart g c =
     (λ b lost fresh r. c.from_vec-in-Ok.ensures ∙ c.in-Ok.ensures.come b lost fresh r))
     c.from_vec.result (c.from_vec.ensures ∙ c.rules_in_room.ensures ∙ ap (λ z. z ++ map rule_of c.settle-gone.result.items) c.in-Ok.ensures.empty)
 
+pub returns-in_err-asked-clause-steps : goal.returns-in_err-asked-clause-steps
+returns-in_err-asked-clause-steps g c sizes before after m o = omega arith
+
 pub returns-in_err-change-clause-steps : goal.returns-in_err-change-clause-steps
 returns-in_err-change-clause-steps g c sizes before after m o =
     subst (λ z. c.ready.new.steps ≤ c.args.steps.now + steps_of sizes before after (policy_in (tree_of z))) c.self.view_is
