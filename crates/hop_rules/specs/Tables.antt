@@ -79,10 +79,6 @@ pub record MayCome (t : TableOf) (v : ℕ) (r : Rule) : Type 0 where
   pub below : r.level < (fabric t).sizes v
   pub normal : IsNormal r.m
 
--- the rules that come to each virtual switch, where these come to one
-abbrev pub coming : ℕ → List Rule → ℕ → List Rule
-coming v come u = if u == v then come else []
-
 -- a table without rules
 abbrev pub empty_table : TopologyPlan → List ℕ → ℕ → List Bool → TableOf
 empty_table plan sizes hops whole =
