@@ -7,7 +7,6 @@ use Rattle.std.proofs.lemmas.List.Sorted.{IsPermutation-refl, IsPermutation-sym}
 use Rattle.list_change.specs.Changes.{Changed}
 use Rattle.list_change.proofs.Permute.{by-equation}
 use Rattle.policy_meaning.specs.Hops.{Fabric, node}
-use Rattle.policy_meaning.specs.declared.network.Place.{Place}
 use Rattle.policy_meaning.specs.declared.rule.Rule.{Rule}
 use Rattle.policy_meaning.proofs.Rising.{all-permuted}
 use Rattle.rule_ancestry.specs.Holding.{Held, item_of}
@@ -18,7 +17,7 @@ use Rattle.hop_rules.specs.Kept.{IsKept, IsThrough, with_rules}
 use Rattle.hop_rules.specs.Levels.{AreMade, IsGiven, IsMade, IsMadeAt, IsRow, given_at, none_given, stand_at}
 use Rattle.hop_rules.specs.Links.{ends}
 use Rattle.hop_rules.specs.Nodes.{IsMadeOf, IsOwn, NodeOf, held_at}
-use Rattle.hop_rules.specs.Tables.{IsHanded, MayCome, TableOf, fabric, own_ports, rules_at}
+use Rattle.hop_rules.specs.Tables.{IsHanded, MayCome, TableOf, fabric, rules_at}
 use Rattle.hop_rules.specs.Telling.{rules_held}
 use Rattle.hop_rules.specs.Turns.{Hands, IsOwnTurn, IsTold, come_at, gone_at, no_turn}
 use Rattle.hop_rules.specs.Under.{Rises, under}

@@ -1,5 +1,5 @@
 -- The nodes of ports for one number of hops after the other, and how they change.
-use Rattle.std.specs.Prelude.{◌≡◌, ℕ, true, false, ◌+◌, ◌<◌, ◌≤◌, ◌==◌, List, [], ◌∷◌, IsPermutation, if◌then◌else◌, length}
+use Rattle.std.specs.Prelude.{◌≡◌, ℕ, true, false, ◌+◌, ◌<◌, ◌==◌, List, [], ◌∷◌, IsPermutation, if◌then◌else◌, length}
 use Rattle.std.specs.Prelude.{map, slice_index_or, suc}
 use Rattle.std.specs.List.{AllByRecursion}
 use Rattle.policy_meaning.specs.Hops.{Fabric, hop_size, node, peers_size}

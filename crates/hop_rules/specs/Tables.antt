@@ -1,6 +1,6 @@
 -- A table of the rules of the outside ports of virtual switches, as contracts see it.
 use Rattle.std.specs.Prelude.{◌≡◌, ℕ, Bool, false, ◌<◌, ◌==◌, ◌&&◌, not, Contains, List, [], find, filter, map}
-use Rattle.std.specs.Prelude.{if◌then◌else◌, slice_index_or}
+use Rattle.std.specs.Prelude.{slice_index_or}
 use Rattle.std.specs.Option.{option_map_or}
 use Rattle.list_change.specs.Changes.{Apart, Changed}
 use Rattle.of10_match.specs.Normal.{IsNormal}

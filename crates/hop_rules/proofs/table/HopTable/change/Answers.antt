@@ -1,6 +1,5 @@
 use Rattle.std.proofs.Common.{◌≡◌, ◌∙◌, false, List, ap, subst, sym, arith}
 use Rattle.hop_rules.specs.Kept.{IsKept, rules_of, with_rules}
-use Rattle.hop_rules.specs.Links.{ends}
 use Rattle.hop_rules.specs.Tables.{AreDeltas, AreOfPorts, IsHanded, TableOf}
 use Rattle.hop_rules.specs.declared.delta.PortDelta.{PortDelta}
 use Rattle.hop_rules.proofs.Through.{ports-count, same-table, through-deltas, through-ports, tolds-count}
