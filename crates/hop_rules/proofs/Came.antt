@@ -1,8 +1,8 @@
 -- Loops over the exits of a virtual switch.
-use Rattle.std.proofs.Common.{◌≡◌, ℕ, ◌+◌, ◌<◌, ◌≤◌, ◌==◌, ◌||◌, true, List, [], ◌∷◌, ◌++◌, Result, Ok, Err, length, get_or, take, map, sym, ap, ◌∙◌, append_assoc, arith}
-use Rattle.std.specs.Prelude.{IsPermutation, OnOk, count_by, filter_map}
+use Rattle.std.proofs.Common.{◌≡◌, ℕ, ◌+◌, ◌<◌, ◌≤◌, ◌==◌, ◌||◌, true, List, [], ◌∷◌, ◌++◌, length, get_or, take, drop, map, sym, ap, ◌∙◌, append_assoc, arith}
+use Rattle.std.specs.Prelude.{IsPermutation, count_by, filter_map}
 use Rattle.std.proofs.lemmas.Grind.{flat_map-append}
-use Rattle.std.proofs.lemmas.List.{append-nil, take_more}
+use Rattle.std.proofs.lemmas.List.{append-nil, take-append-drop, take_more}
 use Rattle.std.proofs.lemmas.List.Sums.{sum_by-append}
 use Rattle.std.proofs.lemmas.List.Sorted.{IsPermutation-append_left, IsPermutation-trans}
 use Rattle.std.specs.List.{AllByRecursion}
@@ -52,6 +52,17 @@ module _ (below : List NodeOf) (turns : List Turn) (exits : List Exit) (i : ℕ)
         let c = ap N came-so in
         omega arith
 
+    -- also where it ends there
+    pub exits-ended : (old far new : ℕ) → far ≤ old + right_cost place all kept (came_there below turns (take i exits)) →
+        new ≤ far + right_cost place all kept (map (arrival e.place) (under (rules_in (held_at below e.place)) come)) →
+        new ≤ old + right_cost place all kept (came_there below turns exits)
+    exits-ended old far new p q =
+        let N = right_cost place all kept in
+        let some = exits-steps old far new p q in
+        let parts = ap (λ (es : List Exit). N (came_there below turns es)) (sym (take-append-drop (i + 1) exits)) ∙ ap N (flat_map-append (came_at below turns) (take (i + 1) exits) (drop (i + 1) exits))
+        ∙ sum_by-append (λ (y : Arrival). count_by (λ h. could place all h y) kept) (came_there below turns (take (i + 1) exits)) (came_there below turns (drop (i + 1) exits)) in
+        omega arith
+
 -- each exit leads there
 lead-on : (e : Exit) (all es : List Exit) → AllByRecursion (λ (x : Exit). leads_there x.place all ≡ true) es → AllByRecursion (λ (x : Exit). leads_there x.place (e ∷ all) ≡ true) es
 lead-on e all [] a = tt
@@ -60,7 +71,3 @@ lead-on e all (x ∷ es) a = (or-true (x.place == e.place) _ a.0, lead-on e all 
 pub all-lead : (es : List Exit) → AllByRecursion (λ (x : Exit). leads_there x.place es ≡ true) es
 all-lead [] = tt
 all-lead (e ∷ es) = (ap (λ t. t || leads_there e.place es) (itself e.place), lead-on e es es (all-lead es))
-
-pub ok-always : {T E : Type 0} (P : Type 0) (r : Result T E) → P → OnOk r P
-ok-always P (Ok x) p = p
-ok-always P (Err e) p = tt

@@ -1,13 +1,16 @@
 -- From level to level.
 use Rattle.std.proofs.Common.{◌≡◌, ℕ, zero, suc, ◌+◌, ◌<◌, ◌≤◌, ◌^◌, List, [], ◌∷◌, refl, sym, ap, ◌∙◌, subst, length, map, arith}
+use Rattle.std.specs.Prelude.{sum_by}
 use Rattle.std.specs.List.{AllByRecursion}
 use Rattle.std.proofs.lemmas.List.{length-map}
+use Rattle.std.proofs.lemmas.List.Sorted.{IsPermutation-refl}
 use Rattle.policy_meaning.specs.Hops.{Fabric, hop_size, peers_size}
+use Rattle.policy_meaning.specs.declared.network.Place.{Place}
 use Rattle.policy_meaning.specs.declared.rule.Rule.{Rule}
 use Rattle.hop_rules.specs.Climbing.{HasClimbed, IsBelow, came_to}
-use Rattle.hop_rules.specs.Counts.{row_steps}
+use Rattle.hop_rules.specs.Counts.{peers_came, row_steps, steps_from}
 use Rattle.hop_rules.specs.Handed.{GivenOf}
-use Rattle.hop_rules.specs.Levels.{AreMade, AreTold, AreTurnedAt, IsBetween, IsMade, IsReadyAt, IsToldAt, IsTurned, told_at}
+use Rattle.hop_rules.specs.Levels.{AreMade, AreTold, AreTurnedAt, IsBetween, IsEvent, IsMade, IsReadyAt, IsToldAt, IsTurned, node_cost, told_at}
 use Rattle.hop_rules.specs.Nodes.{NodeOf, held_at}
 use Rattle.hop_rules.specs.Turns.{IsTold, come_at, gone_at}
 use Rattle.hop_rules.specs.declared.exits.LinkEnd.{LinkEnd}
@@ -18,6 +21,7 @@ use Rattle.hop_rules.specs.declared.level.Told.{Told}
 use Rattle.hop_rules.specs.declared.node.Turn.{Turn}
 use Rattle.hop_rules.proofs.Changes.{came-there}
 use Rattle.hop_rules.proofs.Costs.{came_below, level-steps}
+use Rattle.hop_rules.proofs.Counting.{peers-are, row-order}
 use Rattle.hop_rules.proofs.Numbering.{reads}
 use Rattle.hop_rules.proofs.Stages.{all-ready, all-turned, row-of, same-peers, same-size}
 
@@ -64,8 +68,8 @@ module _ (f : Fabric) (rules : ℕ → List Rule) (es : List LinkEnd) (n : ℕ) 
   level-turned l m = all-turned now es new b.now before below turns b.told l.stands (there-as old new b.event.count l.stands m.there)
 
   -- and is then made of what is there
-  pub level-made : (l last : Level) (s0 s1 : ℕ) (tolds : List Told) → IsMade f n old before l → IsTurned new below e turns l last s0 s1 tolds → IsMade now n new below last
-  level-made l last s0 s1 tolds m t =
+  pub level-made : (l last : Level) (tolds : List Told) → IsMade f n old before l → IsTurned new below e turns l last tolds → IsMade now n new below last
+  level-made l last tolds m t =
       let count : length last.nodes ≡ length l.nodes = sym (length-map last.nodes (λ (x : NodeOf). x.read)) ∙ ap length t.nodes.read ∙ length-map l.nodes (λ (x : NodeOf). x.read) in
       let made : IsMade now n new below (record { stands = l.stands; nodes = last.nodes }) = record {
         count = count ∙ m.count;
@@ -75,41 +79,57 @@ module _ (f : Fabric) (rules : ℕ → List Rule) (es : List LinkEnd) (n : ℕ) 
       } in
       subst (λ (ss : List Stand). IsMade now n new below (record { stands = ss; nodes = last.nodes })) (sym t.stands) made
 
-  -- what it took
-  level-cost : (l last : Level) (s0 s1 : ℕ) (tolds : List Told) → IsMade f n old before l → IsTurned new below e turns l last s0 s1 tolds →
-      s1 ≤ s0 + row_steps now es (came_to new e) n (came_below now es new b.now n below b.row e turns) (map (λ (s : Stand). s.at) l.stands)
-  level-cost l last s0 s1 tolds m t =
-      let h = t.nodes.steps old b.event in
+  -- what it takes, by what came
+  pub level-cost : (l : Level) (s0 s1 : ℕ) → IsMade f n old before l → ((xs : List GivenOf) → IsEvent xs new e → s1 ≤ s0 + sum_by (node_cost new below e turns) l.stands) →
+      s1 ≤ s0 + row_steps now es (came_to new e) n (peers_came f now es n) (map (λ (s : Stand). s.at) l.stands)
+  level-cost l s0 s1 m t =
+      let h = t old b.event in
       let s = level-steps now es new b.now n below b.row e turns l.stands (there-as old new b.event.count l.stands m.there) in
+      let there = came_below now es new b.now n below b.row e turns in
+      let o = row-order now es n (came_to new e) (came_to new e) there (peers_came f now es n) (λ v. IsPermutation-refl _)
+      (peers-are f now es n there (came-there f now es n before below turns b.row_was b.row b.told)) (map (λ (s : Stand). s.at) l.stands) in
       omega arith
 
   -- the last level
   pub top-was : levels ≡ [] → IsMade f n old before top
   top-was none = subst (λ (ls : List Level). AreMade f es n old before ls top) none b.made
 
-  pub at-top : levels ≡ [] → (last : Level) (s0 s1 : ℕ) (tolds : List Told) → IsTurned new below e turns top last s0 s1 tolds → HasClimbed f rules es n new below levels top last e s0 s1 tolds
-  at-top none last s0 s1 tolds t =
-      subst (λ (ls : List Level). HasClimbed f rules es n new below ls top last e s0 s1 tolds) (sym none) (record {
-        made = level-made top last s0 s1 tolds (top-was none) t;
-        stands = t.stands;
-        told = t.nodes.told;
-        counted = record {
-          came = [];
-          last = came_below now es new b.now n below b.row e turns;
-          hop_by_hop = omega arith;
-          are = came-there f now es n before below turns b.row_was b.row b.told;
-          bound = level-cost top last s0 s1 tolds (top-was none) t;
-        };
-      })
+  pub at-top : levels ≡ [] → (last : Level) (tolds : List Told) → IsTurned new below e turns top last tolds → HasClimbed f rules es n new below levels top last tolds
+  at-top none last tolds t =
+      subst (λ (ls : List Level). HasClimbed f rules es n new below ls top last tolds) (sym none)
+      (record { made = level-made top last tolds (top-was none) t; stands = t.stands; told = t.nodes.told })
+
+  pub top-cost : levels ≡ [] → (s0 s1 : ℕ) → ((xs : List GivenOf) → IsEvent xs new e → s1 ≤ s0 + sum_by (node_cost new below e turns) top.stands) →
+      s1 ≤ s0 + steps_from f now es (came_to new e) (map (λ (s : Stand). s.at) top.stands) n (length levels)
+  top-cost none s0 s1 t =
+      subst (λ (ls : List Level). s1 ≤ s0 + steps_from f now es (came_to new e) (map (λ (s : Stand). s.at) top.stands) n (length ls)) (sym none)
+      (level-cost top s0 s1 (top-was none) t)
+
+-- a level between
+module _ (f : Fabric) (rules : ℕ → List Rule) (es : List LinkEnd) (n : ℕ) (old new : List GivenOf) (before below : List NodeOf) (l : Level) (ls : List Level) (top : Level) (e : Event) (turns : List Turn)
+    (b : IsBelow f rules es n old new before below (l ∷ ls) top e turns) where
+  -- the steps where it ended with this level, and where it went on
+  module _ (s0 s1 : ℕ) (t : (xs : List GivenOf) → IsEvent xs new e → s1 ≤ s0 + sum_by (node_cost new below e turns) l.stands) where
+    between-cost : s1 ≤ s0 + row_steps (record f { rules = rules }) es (came_to new e) n (peers_came f (record f { rules = rules }) es n) (map (λ (x : LinkEnd). x.peer) es)
+    between-cost =
+        subst (λ (ps : List Place). s1 ≤ s0 + row_steps (record f { rules = rules }) es (came_to new e) n (peers_came f (record f { rules = rules }) es n) ps) b.made.0.1.peers
+        (level-cost f rules es n old new before below (l ∷ ls) top e turns b l s0 s1 b.made.0.0 t)
+
+    pub ended-cost : (outside : List Place) → s1 ≤ s0 + steps_from f (record f { rules = rules }) es (came_to new e) outside n (suc (length ls))
+    ended-cost outside = let h = between-cost in omega arith
+
+    pub climbed-cost : (outside : List Place) (s2 : ℕ) → s2 ≤ s1 + steps_from f (record f { rules = rules }) es (came_to new e) outside (suc n) (length ls) →
+        s2 ≤ s0 + steps_from f (record f { rules = rules }) es (came_to new e) outside n (suc (length ls))
+    climbed-cost outside s2 more = let h = between-cost in omega arith
 
 -- the next level is then the one below
 module _ (f : Fabric) (rules : ℕ → List Rule) (es : List LinkEnd) (n : ℕ) (old new : List GivenOf) (before below : List NodeOf) (l : Level) (ls : List Level) (top : Level) (e : Event) (turns : List Turn)
-    (b : IsBelow f rules es n old new before below (l ∷ ls) top e turns) (then : Level) (s0 s1 : ℕ) (tolds : List Told) (t : IsTurned new below e turns l then s0 s1 tolds) where
+    (b : IsBelow f rules es n old new before below (l ∷ ls) top e turns) (then : Level) (tolds : List Told) (t : IsTurned new below e turns l then tolds) where
   between-as : IsBetween es then
   between-as = record { peers = ap (map (λ (s : Stand). s.at)) t.stands ∙ b.made.0.1.peers; read = reads l.nodes then.nodes t.nodes.read b.made.0.1.read }
 
   made-as : IsMade (record f { rules = rules }) n new below then
-  made-as = level-made f rules es n old new before below (l ∷ ls) top e turns b l then s0 s1 tolds b.made.0.0 t
+  made-as = level-made f rules es n old new before below (l ∷ ls) top e turns b l then tolds b.made.0.0 t
 
   pub next-below : (next : List Turn) → next ≡ map (λ (t : Told). t.turn) tolds → IsBelow f rules es (suc n) old new l.nodes then.nodes ls top e next
   next-below next same =
@@ -126,25 +146,5 @@ module _ (f : Fabric) (rules : ℕ → List Rule) (es : List LinkEnd) (n : ℕ) 
       }
 
   -- all levels changed, where those above did
-  pub climbed-on : (rest : List Level) (last : Level) (more : List Told) (s2 : ℕ) → HasClimbed f rules es (suc n) new then.nodes rest top last e s1 s2 more →
-      HasClimbed f rules es n new below (then ∷ rest) top last e s0 s2 more
-  climbed-on rest last more s2 h =
-      let k = h.counted in
-      let now = record f { rules = rules } in
-      record {
-        made = ((made-as, between-as), h.made);
-        stands = h.stands;
-        told = h.told;
-        counted = record {
-          came = came_below now es new b.now n below b.row e turns ∷ k.came;
-          last = k.last;
-          hop_by_hop = let x = k.hop_by_hop in omega arith;
-          are = (came-there f now es n before below turns b.row_was b.row b.told, k.are);
-          bound =
-              let one = level-cost f rules es n old new before below (l ∷ ls) top e turns b l then s0 s1 tolds b.made.0.0 t in
-              let ports : map (λ (s : Stand). s.at) l.stands ≡ map (λ (x : LinkEnd). x.peer) es = b.made.0.1.peers in
-              let moved = ap (row_steps now es (came_to new e) n (came_below now es new b.now n below b.row e turns)) ports in
-              let more_steps = k.bound in
-              omega arith;
-        };
-      }
+  pub climbed-on : (rest : List Level) (last : Level) (more : List Told) → HasClimbed f rules es (suc n) new then.nodes rest top last more → HasClimbed f rules es n new below (then ∷ rest) top last more
+  climbed-on rest last more h = record { made = ((made-as, between-as), h.made); stands = h.stands; told = h.told }

@@ -7,19 +7,17 @@ use Rattle.std.proofs.lemmas.List.Sorted.{IsPermutation-refl, IsPermutation-sym}
 use Rattle.list_change.specs.Changes.{Changed}
 use Rattle.list_change.proofs.Permute.{by-equation}
 use Rattle.policy_meaning.specs.Hops.{Fabric, node}
-use Rattle.policy_meaning.specs.declared.network.Place.{Place}
 use Rattle.policy_meaning.specs.declared.rule.Rule.{Rule}
 use Rattle.policy_meaning.proofs.Rising.{all-permuted}
 use Rattle.rule_ancestry.specs.Holding.{Held, item_of}
 use Rattle.made_rules.specs.declared.made.Made.{Made}
 use Rattle.hop_rules.specs.Climbing.{HasClimbed, IsBelow, IsHandedOver, came_to}
-use Rattle.hop_rules.specs.Counts.{AreCounted}
 use Rattle.hop_rules.specs.Handed.{AreListed, AreUnlisted, GivenOf}
 use Rattle.hop_rules.specs.Kept.{IsKept, IsThrough, with_rules}
 use Rattle.hop_rules.specs.Levels.{AreMade, IsGiven, IsMade, IsMadeAt, IsRow, given_at, none_given, stand_at}
 use Rattle.hop_rules.specs.Links.{ends}
 use Rattle.hop_rules.specs.Nodes.{IsMadeOf, IsOwn, NodeOf, held_at}
-use Rattle.hop_rules.specs.Tables.{IsHanded, MayCome, TableOf, coming, fabric, own_ports, rules_at}
+use Rattle.hop_rules.specs.Tables.{IsHanded, MayCome, TableOf, fabric, rules_at}
 use Rattle.hop_rules.specs.Telling.{rules_held}
 use Rattle.hop_rules.specs.Turns.{Hands, IsOwnTurn, IsTold, come_at, gone_at, no_turn}
 use Rattle.hop_rules.specs.Under.{Rises, under}
@@ -148,14 +146,14 @@ module _ (t : TableOf) (old : Parts) (k : IsKept t old) (v : ℕ) (gone come : L
   rules-old : (u : ℕ) → rules_at t u ≡ map item_of (given_at old.given u).rules
   rules-old u = ap (λ (rs : List (List Rule)). get_or rs u []) k.rules ∙ map-at (λ (g : GivenOf). map item_of g.rules) none_given old.given u
 
-  changed : Changed (rules_at t v) (rules_at t' v) gone come
+  pub changed : Changed (rules_at t v) (rules_at t' v) gone come
   changed =
       let o = h.hands.own in
       let c = turned-items (given_at old.given v).rules (given_at new v).rules e.turn.gone e.turn.come o.turned in
       let a = changed-as _ _ (rules_at t v) (rules_at t' v) _ _ (by-equation _ _ (sym (rules-old v))) (by-equation _ _ (sym (rules-new v))) c in
       subst (λ (z : List Rule). Changed (rules_at t v) (rules_at t' v) gone z) h.hands.come_are (subst (λ (z : List Rule). Changed (rules_at t v) (rules_at t' v) z (map item_of o.turned.coming)) h.hands.gone_are a)
 
-  same-rules : (u : ℕ) → (u == v) ≡ false → rules_at t' u ≡ rules_at t u
+  pub same-rules : (u : ℕ) → (u == v) ≡ false → rules_at t' u ≡ rules_at t u
   same-rules u d = rules-new u ∙ ap (λ (g : GivenOf). map item_of g.rules) (h.others u d) ∙ sym (rules-old u)
 
   pub is-handed : IsHanded t t' v gone come
@@ -174,7 +172,7 @@ module _ (t : TableOf) (old : Parts) (k : IsKept t old) (v : ℕ) (gone come : L
       subst (λ (w : ℕ). AllByRecursion (IsOwn ((fabric t).sizes w)) (rules_at t' w)) (sym (is-same u v d)) all
   own-by u false d = subst (AllByRecursion (IsOwn ((fabric t).sizes u))) (sym (same-rules u d)) (k.given.own u)
 
-  given-new : IsGiven (fabric t') (ends t.plan) new
+  pub given-new : IsGiven (fabric t') (ends t.plan) new
   given-new = record {
     exits_are = λ u lt. h.event.exits u ∙ k.given.exits_are u (let c = h.event.count in omega arith);
     links = k.given.links;
@@ -195,7 +193,7 @@ module _ (t : TableOf) (old : Parts) (k : IsKept t old) (v : ℕ) (gone come : L
     fits = λ m u le. k.fits m u (let x = k.hops in omega arith);
   }
 
-  -- the rules that came, by virtual switch
+  -- the rules that came: to this virtual switch these, to others none
   came-by : (u : ℕ) (b : Bool) → (u == v) ≡ b → map item_of (under (given_at new u).rules (if b then e.turn else e.still).come) ≡ (if b then come else [])
   came-by u true d =
       let o = h.hands.own in
@@ -203,7 +201,7 @@ module _ (t : TableOf) (old : Parts) (k : IsKept t old) (v : ℕ) (gone come : L
       ∙ ap (map item_of) (came-under (given_at old.given v).rules (given_at new v).rules e.turn.gone e.turn.come o.turned o.risen) ∙ h.hands.come_are
   came-by u false d = ap (λ (w : Turn). map item_of (under (given_at new u).rules w.come)) h.still
 
-  came-is : (u : ℕ) → came_to new e u ≡ coming v come u
+  pub came-is : (u : ℕ) → came_to new e u ≡ (if u == v then come else [])
   came-is u = ap (λ (w : ℕ). map item_of (under (given_at new u).rules (if u == w then e.turn else e.still).come)) h.at ∙ came-by u (u == v) refl
 
   module _ (exits : (u : ℕ) → (given_at final u).exits ≡ (given_at new u).exits) (count : length final ≡ length new) (listed : AreListed (given_at final v) (given_at final v).rules) (others : (u : ℕ) → (u == v) ≡ false → given_at final u ≡ given_at new u) where
@@ -211,10 +209,10 @@ module _ (t : TableOf) (old : Parts) (k : IsKept t old) (v : ℕ) (gone come : L
     listed-by u true d = subst (λ (w : ℕ). AreListed (given_at final w) (given_at final w).rules) (sym (is-same u v d)) listed
     listed-by u false d = subst (λ (g : GivenOf). AreListed g g.rules) (sym (others u d ∙ h.others u d)) (k.listed u)
 
-    pub is-through : (levels : List Level) (top : Level) (s0 s1 : ℕ) (tolds : List Told) → length levels ≡ length old.levels →
-        HasClimbed (fabric t) (rules_at t') (ends t.plan) 0 new old.last levels old.top top e s0 s1 tolds →
-        IsThrough t old (record { given = final; last = old.last; levels = levels; top = top }) v gone come tolds s0 s1
-    is-through levels top s0 s1 tolds many c =
+    pub is-through : (levels : List Level) (top : Level) (tolds : List Told) → length levels ≡ length old.levels →
+        HasClimbed (fabric t) (rules_at t') (ends t.plan) 0 new old.last levels old.top top tolds →
+        IsThrough t old (record { given = final; last = old.last; levels = levels; top = top }) v gone come tolds
+    is-through levels top tolds many c =
         let all : length final ≡ length old.given = count ∙ h.event.count in
         record {
           kept = record {
@@ -240,10 +238,4 @@ module _ (t : TableOf) (old : Parts) (k : IsKept t old) (v : ℕ) (gone come : L
           handed = is-handed;
           stands = c.stands;
           told = c.told;
-          counted =
-              let come-path : came_to new e ≡ coming v come = λ i u. came-is u i in
-              let hops-path : suc (0 + length levels) ≡ t.hops = let x = k.hops in omega arith in
-              subst (λ (n : ℕ). AreCounted (fabric t) (fabric t') (ends t.plan) (coming v come) (own_ports t) 0 n s0 s1) hops-path
-              (subst (λ (ps : List Place). AreCounted (fabric t) (fabric t') (ends t.plan) (coming v come) ps 0 (suc (0 + length levels)) s0 s1) k.ports
-              (subst (λ (w : ℕ → List Rule). AreCounted (fabric t) (fabric t') (ends t.plan) w (map (λ (s : Stand). s.at) old.top.stands) 0 (suc (0 + length levels)) s0 s1) come-path c.counted));
         }

@@ -2,7 +2,7 @@
 use Rattle.std.proofs.Common.{◌≡◌, ℕ, ◌+◌, ◌<◌, ◌≤◌, ◌≢◌, List, [], ◌∷◌, ◌++◌, sym, ap, ◌∙◌, subst, length, get_or, set, take, below_more, arith}
 use Rattle.std.specs.Prelude.{sum_by}
 use Rattle.std.proofs.lemmas.List.{get_or-set_other, get_or_default}
-use Rattle.std.proofs.lemmas.List.Sums.{sum_by_more}
+use Rattle.std.proofs.lemmas.List.Sums.{sum_by-take-le, sum_by_more}
 use Rattle.policy_meaning.specs.declared.rule.Rule.{Rule}
 use Rattle.rule_ancestry.specs.Holding.{Held}
 use Rattle.made_rules.specs.declared.made.Made.{Made}
@@ -78,6 +78,14 @@ pub steps-more : (cost : Stand → ℕ) (stands : List Stand) (i first far last 
 steps-more cost stands i first far last s lt at h n =
     let a = sum_by_more cost stands i s lt in
     let b = ap cost at in
+    omega arith
+
+-- also where it ends there
+pub steps-ended : (cost : Stand → ℕ) (stands : List Stand) (i first far last : ℕ) (s : Stand) → i < length stands → s ≡ get_or stands i s → far ≤ first + sum_by cost (take i stands) → last ≤ far + cost s →
+    last ≤ first + sum_by cost stands
+steps-ended cost stands i first far last s lt at h n =
+    let some = steps-more cost stands i first far last s lt at h n in
+    let part = sum_by-take-le cost stands (i + 1) in
     omega arith
 
 pub stand-is : (stands : List Stand) (i : ℕ) (s : Stand) → i < length stands → s ≡ get_or stands i s → s ≡ stand_at stands i

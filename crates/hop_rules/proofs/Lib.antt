@@ -28,10 +28,12 @@ pub mod Stage
 pub mod Numbering
 pub mod Stages
 pub mod Costs
+pub mod Counting
 pub mod Changes
 pub mod Climbs
 pub mod Deltas
 pub mod Keeping
+pub mod Handing
 pub mod Levelling
 pub mod Empties
 pub mod Risings

@@ -40,7 +40,7 @@ module _ (t : TableOf) (p : Parts) (k : IsKept t p) where
       (subst (λ (q : Place). IsPermutation rules (port_rules t q)) o.is_at
       (subst (λ (z : List Rule). IsPermutation z (port_rules t (stand_at p.top.stands o.number).at)) (sym o.rules_are) (ports-scratch o.number o.there)))
 
-module _ (t : TableOf) (old new : Parts) (k : IsKept t old) (v : ℕ) (gone come : List Rule) (tolds : List Told) (s0 s1 : ℕ) (h : IsThrough t old new v gone come tolds s0 s1) where
+module _ (t : TableOf) (old new : Parts) (k : IsKept t old) (v : ℕ) (gone come : List Rule) (tolds : List Told) (h : IsThrough t old new v gone come tolds) where
   pub tolds-count : length tolds ≡ length new.top.stands
   tolds-count = h.told.count ∙ ports-count t old k ∙ sym (ap length h.stands)
 

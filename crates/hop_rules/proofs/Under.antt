@@ -1,11 +1,11 @@
 -- What is held under some ids, and loops over ids.
-use Rattle.std.proofs.Common.{◌≡◌, ℕ, ◌+◌, ◌<◌, ◌≤◌, ◌==◌, Bool, true, false, cond, List, [], ◌∷◌, ◌++◌, Option, Some, None, length, get_or, take, map, refl, sym, ap, subst, ◌∙◌, append_assoc, arith}
+use Rattle.std.proofs.Common.{◌≡◌, ℕ, ◌+◌, ◌<◌, ◌≤◌, ◌==◌, Bool, true, false, cond, List, [], ◌∷◌, ◌++◌, Option, Some, None, length, get_or, take, drop, map, refl, sym, ap, subst, ◌∙◌, append_assoc, arith}
 use Rattle.std.specs.Prelude.{IsPermutation}
 use Rattle.std.specs.List.{AllByRecursion}
 use Rattle.std.specs.List.Sorted.{IsStrictlySortedBy}
 use Rattle.std.specs.Ordering.{nat_cmp}
 use Rattle.std.proofs.lemmas.Grind.{flat_map-append}
-use Rattle.std.proofs.lemmas.List.{append-nil, take_all, take_more}
+use Rattle.std.proofs.lemmas.List.{append-nil, take-append-drop, take_all, take_more}
 use Rattle.std.proofs.lemmas.List.Sorted.{IsPermutation-append_left, IsPermutation-trans}
 use Rattle.list_change.proofs.Permute.{by-equation, permuted-flat_map}
 use Rattle.policy_meaning.proofs.Rising.{all-permuted}
@@ -95,4 +95,12 @@ module _ {R : Type 0} (N : List (Held R) → ℕ) (law : (xs ys : List (Held R))
   steps-more old far new p q =
       let e = ap N (under-more held ids i d lt) in
       let l = law (under held (take i ids)) (held_under held (get_or ids i d)) in
+      omega arith
+
+  -- also where it ends there
+  pub steps-ended : (old far new : ℕ) → far ≤ old + N (under held (take i ids)) → new ≤ far + N (held_under held (get_or ids i d)) → new ≤ old + N (under held ids)
+  steps-ended old far new p q =
+      let some = steps-more old far new p q in
+      let parts = ap (λ (js : List ℕ). N (under held js)) (sym (take-append-drop (i + 1) ids)) ∙ ap N (flat_map-append (held_under held) (take (i + 1) ids) (drop (i + 1) ids))
+      ∙ law (under held (take (i + 1) ids)) (under held (drop (i + 1) ids)) in
       omega arith

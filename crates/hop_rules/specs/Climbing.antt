@@ -3,7 +3,6 @@ use Rattle.std.specs.Prelude.{◌≡◌, ◌==◌, ℕ, false, ◌+◌, ◌<◌,
 use Rattle.policy_meaning.specs.Hops.{Fabric, hop_size}
 use Rattle.policy_meaning.specs.declared.rule.Rule.{Rule}
 use Rattle.rule_ancestry.specs.Holding.{item_of}
-use Rattle.hop_rules.specs.Counts.{AreCounted}
 use Rattle.hop_rules.specs.Handed.{GivenOf}
 use Rattle.hop_rules.specs.Levels.{AreMade, AreTold, IsEvent, IsGiven, IsRow, IsToldAt, given_at, turn_at}
 use Rattle.hop_rules.specs.Nodes.{NodeOf}
@@ -12,7 +11,6 @@ use Rattle.hop_rules.specs.Under.{under}
 use Rattle.hop_rules.specs.declared.exits.LinkEnd.{LinkEnd}
 use Rattle.hop_rules.specs.declared.level.Event.{Event}
 use Rattle.hop_rules.specs.declared.level.Level.{Level}
-use Rattle.hop_rules.specs.declared.level.Stand.{Stand}
 use Rattle.hop_rules.specs.declared.level.Told.{Told}
 use Rattle.hop_rules.specs.declared.node.Turn.{Turn}
 
@@ -46,13 +44,10 @@ pub record CanClimb (new : List GivenOf) (below : List NodeOf) (levels : List Le
 
 -- all levels changed so
 pub record HasClimbed (f : Fabric) (rules : ℕ → List Rule) (es : List LinkEnd) (n : ℕ) (new : List GivenOf)
-    (below : List NodeOf) (levels : List Level) (first last : Level) (e : Event) (before after : ℕ) (tolds : List Told)
-    : Type 0 where
+    (below : List NodeOf) (levels : List Level) (first last : Level) (tolds : List Told) : Type 0 where
   pub made : AreMade (record f { rules = rules }) es n new below levels last
   pub stands : last.stands ≡ first.stands
   pub told : AreTold first.nodes last.nodes tolds
-  pub counted : AreCounted f (record f { rules = rules }) es (came_to new e) (map (λ (s : Stand). s.at) first.stands) n
-      (suc (n + length levels)) before after
 
 -- what a handing over tells of all virtual switches
 pub record IsHandedOver (old new : List GivenOf) (v : ℕ) (gone come : List Rule) (e : Event) : Type 0 where

@@ -1,12 +1,13 @@
 -- The steps of a change of the rules of a virtual switch: at the node of each port, for each number of hops, one for
 -- each rule that came to the virtual switch, and one for each pair that could meet of a rule of the virtual switch and
 -- one of a node to which its links lead, of which one came.
-use Rattle.std.specs.Prelude.{◌≡◌, ℕ, Bool, ◌+◌, ◌<◌, ◌≤◌, List, [], ◌∷◌, count_by, length, map, suc}
-use Rattle.std.specs.Prelude.{sum_by}
+use Rattle.std.specs.Prelude.{ℕ, Bool, zero, suc, ◌+◌, ◌<◌, List, count_by, length, map, sum_by}
+use Rattle.list_change.specs.Coming.{came}
 use Rattle.rule_ancestry.specs.Holding.{Held}
 use Rattle.policy_meaning.specs.Hops.{Fabric, node}
 use Rattle.policy_meaning.specs.declared.network.Place.{Place}
 use Rattle.policy_meaning.specs.declared.rule.Rule.{Rule}
+use Rattle.made_rules.specs.Coming.{is_rule}
 use Rattle.hop_rules.specs.Links.{exits, peer_at}
 use Rattle.hop_rules.specs.Nodes.{arrival, could}
 use Rattle.hop_rules.specs.Tables.{ChangesBy}
@@ -41,29 +42,36 @@ node_steps f n exits at come came =
 abbrev pub row_steps : Fabric → List LinkEnd → (ℕ → List Rule) → ℕ → (ℕ → List Rule) → List Place → ℕ
 row_steps f es come n came places = sum_by (λ (p : Place). node_steps f n (exits es p.v) p (come p.v) came) places
 
--- those of all hops, from n on: the last is that of the outside ports
-abbrev pub all_steps : Fabric → List LinkEnd → (ℕ → List Rule) → List Place → ℕ → List (ℕ → List Rule)
-    → (ℕ → List Rule) → ℕ
-all_steps f es come outside n [] last = row_steps f es come n last outside
-all_steps f es come outside n (came ∷ rest) last =
-    row_steps f es come n came (map (λ (e : LinkEnd). e.peer) es) + all_steps f es come outside (suc n) rest last
+-- ---- what came, from one fabric to another
+-- to a virtual switch
+abbrev pub rules_came : Fabric → Fabric → ℕ → List Rule
+rules_came f g v = came is_rule (f.rules v) (g.rules v)
 
--- these rules came to the nodes where links lead, for n hops
+-- to the node where the link of a place leads, for n hops
+abbrev pub peers_came : Fabric → Fabric → List LinkEnd → ℕ → ℕ → List Rule
+peers_came f g es n k =
+    came is_rule (node f n (peer_at es k).v (peer_at es k).port) (node g n (peer_at es k).v (peer_at es k).port)
+
+-- exactly these came there, as a change says
 abbrev pub CameThere : Fabric → Fabric → List LinkEnd → ℕ → (ℕ → List Rule) → Type 0
 CameThere f g es n came = (k : ℕ) → k < length es
     → ((gone : List Rule) × ChangesBy (node f n (peer_at es k).v (peer_at es k).port)
     (node g n (peer_at es k).v (peer_at es k).port) gone (came k))
 
--- and for each number of hops from n on
-abbrev pub AllCameThere : Fabric → Fabric → List LinkEnd → ℕ → List (ℕ → List Rule) → (ℕ → List Rule) → Type 0
-AllCameThere f g es n [] last = CameThere f g es n last
-AllCameThere f g es n (came ∷ rest) last = CameThere f g es n came × AllCameThere f g es (suc n) rest last
+-- and to the virtual switches
+abbrev pub CameTo : Fabric → Fabric → (ℕ → List Rule) → Type 0
+CameTo f g come = (v : ℕ) → ((gone : List Rule) × ChangesBy (f.rules v) (g.rules v) gone (come v))
 
--- The steps are at most those, where these rules came to the virtual switches.
-pub record AreCounted (f g : Fabric) (es : List LinkEnd) (come : ℕ → List Rule) (outside : List Place) (n hops : ℕ)
-    (before after : ℕ) : Type 0 where
-  pub came : List (ℕ → List Rule)
-  pub last : ℕ → List Rule
-  pub hop_by_hop : suc (n + length came) ≡ hops
-  pub are : AllCameThere f g es n came last
-  pub bound : after ≤ before + all_steps g es come outside n came last
+-- ---- the steps of all hops
+-- Those at the nodes from n hops on, where these came to the virtual switches: so often at the nodes where links lead,
+-- for each time a hop more, and then at those of the outside ports.
+abbrev pub steps_from : Fabric → Fabric → List LinkEnd → (ℕ → List Rule) → List Place → ℕ → ℕ → ℕ
+steps_from f g es come outside n zero = row_steps g es come n (peers_came f g es n) outside
+steps_from f g es come outside n (suc more) =
+    row_steps g es come n (peers_came f g es n) (map (λ (e : LinkEnd). e.peer) es)
+    + steps_from f g es come outside (suc n) more
+
+-- The steps of a change from one fabric to another, through at most so many hops.
+abbrev pub change_steps : Fabric → Fabric → List LinkEnd → List Place → ℕ → ℕ
+change_steps f g es outside zero = 0
+change_steps f g es outside (suc more) = steps_from f g es (rules_came f g) outside 0 more

@@ -4,12 +4,11 @@ use Rattle.policy_meaning.specs.Hops.{hop_size}
 use Rattle.policy_meaning.specs.declared.rule.Rule.{Rule}
 use Rattle.rule_ancestry.specs.Holding.{item_of}
 use Rattle.made_rules.specs.Rules.{rules_in}
-use Rattle.hop_rules.specs.Counts.{AreCounted}
 use Rattle.hop_rules.specs.Handed.{AreListed, GivenOf}
 use Rattle.hop_rules.specs.Levels.{AreMade, AreTold, IsGiven, IsRow, given_at}
 use Rattle.hop_rules.specs.Links.{ends}
 use Rattle.hop_rules.specs.Nodes.{held_at}
-use Rattle.hop_rules.specs.Tables.{IsHanded, TableOf, coming, fabric, own_ports}
+use Rattle.hop_rules.specs.Tables.{IsHanded, TableOf, fabric, own_ports}
 use Rattle.hop_rules.specs.Under.{Rises}
 use Rattle.hop_rules.specs.declared.level.Stand.{Stand}
 use Rattle.hop_rules.specs.declared.level.Told.{Told}
@@ -39,11 +38,8 @@ abbrev pub with_rules : TableOf → List GivenOf → TableOf
 with_rules t gs = record t { rules = rules_of gs }
 
 -- a change of the rules of a virtual switch went through the parts of a table
-pub record IsThrough (t : TableOf) (old new : Parts) (v : ℕ) (gone come : List Rule) (tolds : List Told)
-    (before after : ℕ) : Type 0 where
+pub record IsThrough (t : TableOf) (old new : Parts) (v : ℕ) (gone come : List Rule) (tolds : List Told) : Type 0 where
   pub kept : IsKept (with_rules t new.given) new
   pub handed : IsHanded t (with_rules t new.given) v gone come
   pub stands : new.top.stands ≡ old.top.stands
   pub told : AreTold old.top.nodes new.top.nodes tolds
-  pub counted : AreCounted (fabric t) (fabric (with_rules t new.given)) (ends t.plan) (coming v come) (own_ports t) 0
-      t.hops before after

@@ -1,6 +1,6 @@
 -- The nodes of ports for one number of hops after the other, and how they change.
-use Rattle.std.specs.Prelude.{◌≡◌, ℕ, true, false, ◌+◌, ◌<◌, ◌≤◌, ◌==◌, List, [], ◌∷◌, IsPermutation, if◌then◌else◌, length}
-use Rattle.std.specs.Prelude.{map, slice_index_or, suc, sum_by}
+use Rattle.std.specs.Prelude.{◌≡◌, ℕ, true, false, ◌+◌, ◌<◌, ◌==◌, List, [], ◌∷◌, IsPermutation, if◌then◌else◌, length}
+use Rattle.std.specs.Prelude.{map, slice_index_or, suc}
 use Rattle.std.specs.List.{AllByRecursion}
 use Rattle.policy_meaning.specs.Hops.{Fabric, hop_size, node, peers_size}
 use Rattle.rule_ancestry.specs.Holding.{Held, item_of}
@@ -91,19 +91,18 @@ node_cost gs below e turns s =
 -- The nodes of some places changed, as those of the virtual switches and those below did: what each held were the rules
 -- that it was to make, and now they are those that it is to make.
 pub record AreTurnedNodes (gs : List GivenOf) (below : List NodeOf) (e : Event) (turns : List Turn) (stands : List Stand)
-    (first last : List NodeOf) (before after : ℕ) (tolds : List Told) : Type 0 where
+    (first last : List NodeOf) (tolds : List Told) : Type 0 where
   pub made : (old : List GivenOf) → (nodes : List NodeOf) → IsEvent old gs e
       → AllByRecursion (AreTurnedAt gs nodes below turns) stands → (k : ℕ) → k < length stands
       → IsMadeAt old nodes (stand_at stands k) (held_at first k) → IsMadeAt gs below (stand_at stands k) (held_at last k)
   pub told : AreTold first last tolds
   pub read : map (λ (m : NodeOf). m.read) last ≡ map (λ (m : NodeOf). m.read) first
-  pub steps : (old : List GivenOf) → IsEvent old gs e → after ≤ before + sum_by (node_cost gs below e turns) stands
 
 -- those of a level did, and its places stayed
 pub record IsTurned (gs : List GivenOf) (below : List NodeOf) (e : Event) (turns : List Turn) (first last : Level)
-    (before after : ℕ) (tolds : List Told) : Type 0 where
+    (tolds : List Told) : Type 0 where
   pub stands : last.stands ≡ first.stands
-  pub nodes : AreTurnedNodes gs below e turns first.stands first.nodes last.nodes before after tolds
+  pub nodes : AreTurnedNodes gs below e turns first.stands first.nodes last.nodes tolds
 
 -- the nodes of a level are those of its places, each made of the rules of its virtual switch and of those below, which
 -- are of n hops

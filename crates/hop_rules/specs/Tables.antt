@@ -1,6 +1,6 @@
 -- A table of the rules of the outside ports of virtual switches, as contracts see it.
 use Rattle.std.specs.Prelude.{◌≡◌, ℕ, Bool, false, ◌<◌, ◌==◌, ◌&&◌, not, Contains, List, [], find, filter, map}
-use Rattle.std.specs.Prelude.{if◌then◌else◌, slice_index_or}
+use Rattle.std.specs.Prelude.{slice_index_or}
 use Rattle.std.specs.Option.{option_map_or}
 use Rattle.list_change.specs.Changes.{Apart, Changed}
 use Rattle.of10_match.specs.Normal.{IsNormal}
@@ -78,10 +78,6 @@ pub record IsHanded (before after : TableOf) (v : ℕ) (gone come : List Rule) :
 pub record MayCome (t : TableOf) (v : ℕ) (r : Rule) : Type 0 where
   pub below : r.level < (fabric t).sizes v
   pub normal : IsNormal r.m
-
--- the rules that come to each virtual switch, where these come to one
-abbrev pub coming : ℕ → List Rule → ℕ → List Rule
-coming v come u = if u == v then come else []
 
 -- a table without rules
 abbrev pub empty_table : TopologyPlan → List ℕ → ℕ → List Bool → TableOf

@@ -157,7 +157,7 @@ fn add_each_pair<'a, G: Ledger>(
     ensures pushed { OnOk result (fresh.new.items ≡ fresh.old.items
         ++ filter_map (pair_with size here.entry.id here.entry.rule.now departure.now)
         (under (rules_in there.now.held) ids.now)) }
-    ensures steps { OnOk result (steps.new ≤ steps.old + length ids.now) }
+    ensures steps { steps.new ≤ steps.old + length ids.now }
 {
     for id in ids {
         add_pair_at(alloc, size, here, departure, there, *id, fresh, steps)?;
@@ -184,9 +184,9 @@ fn add_pairs<'a, G: Ledger>(
     requires own { (own : ℕ) × IsOwn own here.rule.now × (own * size < 2 ^ 64) }
     ensures pushed { OnOk result (IsPermutation fresh.new.items (fresh.old.items
         ++ filter_map (pair_with size here.entry.id here.entry.rule.now departure.now) (rules_in there.now.held))) }
-    ensures steps { OnOk result (steps.new ≤ steps.old
+    ensures steps { steps.new ≤ steps.old
         + count_by (λ (b : Held Rule). overlaps (asked_of here.entry.rule.now.m departure.now) b.item.m)
-        (rules_in there.now.held)) }
+        (rules_in there.now.held) }
 {
     let ids = there.meeting(&asked(&here.rule.m, departure))?;
     add_each_pair(alloc, size, here, departure, there, &ids, fresh, steps)
@@ -206,9 +206,9 @@ fn add_over<'a, G: Ledger>(
     ensures pushed { OnOk result (IsPermutation fresh.new.items (fresh.old.items
         ++ filter_map (pair_with around.entry.size here.entry.id here.entry.rule.now departure.now)
         (rules_in (held_at around.entry.below.now departure.now.exit.place)))) }
-    ensures steps { OnOk result (steps.new ≤ steps.old
+    ensures steps { steps.new ≤ steps.old
         + count_by (λ (b : Held Rule). overlaps (asked_of here.entry.rule.now.m departure.now) b.item.m)
-        (rules_in (held_at around.entry.below.now departure.now.exit.place))) }
+        (rules_in (held_at around.entry.below.now departure.now.exit.place)) }
 {
     match around.below.get(departure.exit.place as usize) {
         Some(there) => add_pairs(alloc, around.size, here, departure, there, fresh, steps),
@@ -230,9 +230,9 @@ fn add_stood<'a, G: Ledger>(
         ++ by_one (hop_way around.entry.at around.entry.size around.entry.given.now.exits)
         (arrivals around.entry.below.now around.entry.given.now.exits) (record { id = here.entry.id; item = a }))) }
     ensures steps { (a : Rule) → standing_of around.entry.at a ≡ Some here.entry.rule.now
-        → OnOk result (steps.new ≤ steps.old + (1
+        → steps.new ≤ steps.old + (1
         + count_by (could around.entry.at around.entry.given.now.exits (record { id = here.entry.id; item = a }))
-        (arrivals around.entry.below.now around.entry.given.now.exits))) }
+        (arrivals around.entry.below.now around.entry.given.now.exits)) }
 {
     match leaving(around.given.exits(), around.at.port, &here.rule.tail) {
         None => add_alone(alloc, around.size, here, fresh, steps),
@@ -253,10 +253,10 @@ fn add_by_left<'a, G: Ledger>(
         ++ by_one (hop_way around.entry.at around.entry.size around.entry.given.now.exits)
         (arrivals around.entry.below.now around.entry.given.now.exits)
         (record { id = here.entry.id; item = here.entry.rule.now }))) }
-    ensures steps { OnOk result (steps.new ≤ steps.old
+    ensures steps { steps.new ≤ steps.old
         + (1 + count_by (could around.entry.at around.entry.given.now.exits
         (record { id = here.entry.id; item = here.entry.rule.now }))
-        (arrivals around.entry.below.now around.entry.given.now.exits))) }
+        (arrivals around.entry.below.now around.entry.given.now.exits)) }
 {
     let stood = standing(alloc, around.at, here.rule)?;
     match stood {
@@ -284,9 +284,9 @@ fn add_by_left_at<'a, G: Ledger>(
         ++ made_left around.entry.at around.entry.size around.entry.given.now.exits
         (arrivals around.entry.below.now around.entry.given.now.exits)
         (held_under around.entry.given.now.rules id))) }
-    ensures steps { OnOk result (steps.new ≤ steps.old
+    ensures steps { steps.new ≤ steps.old
         + left_cost around.entry.at around.entry.given.now.exits
-        (arrivals around.entry.below.now around.entry.given.now.exits) (held_under around.entry.given.now.rules id)) }
+        (arrivals around.entry.below.now around.entry.given.now.exits) (held_under around.entry.given.now.rules id) }
 {
     match around.given.rule(id) {
         Some(rule) => {
@@ -310,10 +310,10 @@ pub(crate) fn add_all_by_left<'a, G: Ledger>(
         ++ made_left around.entry.at around.entry.size around.entry.given.now.exits
         (arrivals around.entry.below.now around.entry.given.now.exits)
         (under around.entry.given.now.rules come.now))) }
-    ensures steps { OnOk result (steps.new ≤ steps.old
+    ensures steps { steps.new ≤ steps.old
         + left_cost around.entry.at around.entry.given.now.exits
         (arrivals around.entry.below.now around.entry.given.now.exits)
-        (under around.entry.given.now.rules come.now)) }
+        (under around.entry.given.now.rules come.now) }
 {
     for id in come {
         add_by_left_at(alloc, around, *id, fresh, steps)?;

@@ -8,6 +8,7 @@ ghost use Rattle.rule_ancestry.specs.Holding.{Held, item_of};
 ghost use Rattle.made_rules.specs.Rules.{rules_in};
 ghost use Rattle.made_rules.specs.declared.made.Made.{Made};
 ghost use Rattle.virtual_topology.specs.declared.plan.TopologyPlan.{TopologyPlan};
+ghost use Rattle.hop_rules.specs.Counts.{CameThere, CameTo, peers_came, row_steps, rules_came};
 ghost use Rattle.hop_rules.specs.Links.{ends, exit_link, exits, links};
 ghost use Rattle.hop_rules.specs.Handed.{GivenOf};
 ghost use Rattle.hop_rules.specs.Nodes.{IsAt, IsMadeOf, IsOf, IsOwn, IsSetUp, NodeOf, Once};
@@ -44,4 +45,11 @@ pub fn nodes_set_up_those_above()
 pub fn exits_are_links()
     ensures links { (plan : TopologyPlan) → (v : ℕ) → map exit_link (exits (ends plan) v) ≡ links plan v }
     ensures places { (es : List LinkEnd) → (v : ℕ) → Once (map (λ (e : Exit). e.place) (exits es v)) }
+{}
+
+/// The steps at the nodes of some ports are by what came, in whatever order a change tells of it.
+pub fn steps_are_of_what_came()
+    ensures { (f g : Fabric) → (es : List LinkEnd) → (n : ℕ) → (come came : ℕ → List Rule) → (places : List Place)
+        → CameTo f g come → CameThere f g es n came
+        → row_steps g es come n came places ≡ row_steps g es (rules_came f g) n (peers_came f g es n) places }
 {}

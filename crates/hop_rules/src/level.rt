@@ -1,5 +1,5 @@
 //! The nodes of one number of hops, and how they change.
-ghost use Rattle.std.specs.Prelude.{◌≡◌, ◌==◌, ◌+◌, ◌<◌, ◌≤◌, ℕ, IfOk, List, OnOk, length};
+ghost use Rattle.std.specs.Prelude.{◌≡◌, ◌==◌, ◌+◌, ◌<◌, ◌≤◌, ℕ, IfOk, List, OnOk, length, sum_by};
 ghost use Rattle.std.specs.List.{AllByRecursion};
 ghost use Rattle.hop_rules.specs.Handed.{GivenOf};
 ghost use Rattle.hop_rules.specs.Levels.{AreTurnedAt, AreTurnedNodes, IsEvent, IsMadeAt, IsReadyAt, IsTurned, node_cost};
@@ -72,7 +72,7 @@ fn change_at<G: Ledger>(
         → OnOk result (IsMadeAt given.now below.now stand.now node.new.held) }
     ensures told { IfOk result (λ told. IsTold node.old.held node.new.held told.turn told.left) }
     ensures steps { (old : List GivenOf) → IsEvent old given.now event.now
-        → OnOk result (steps.new ≤ steps.old + node_cost given.now below.now event.now turns.now stand.now) }
+        → steps.new ≤ steps.old + node_cost given.now below.now event.now turns.now stand.now }
     ensures read { node.new.read ≡ node.old.read }
 {
     let around = Around {
@@ -103,7 +103,9 @@ fn change_nodes<G: Ledger>(
 ) -> Result<List<Told>, Memory>
     requires count { length nodes.old ≡ length stands.now }
     requires ready { AllByRecursion (IsReadyAt given.now below.now) stands.now }
-    ensures { IfOk result (AreTurnedNodes given.now below.now event.now turns.now stands.now nodes.old nodes.new steps.old steps.new) }
+    ensures turned { IfOk result (AreTurnedNodes given.now below.now event.now turns.now stands.now nodes.old nodes.new) }
+    ensures steps { (old : List GivenOf) → IsEvent old given.now event.now
+        → steps.new ≤ steps.old + sum_by (node_cost given.now below.now event.now turns.now) stands.now }
 {
     let mut tolds = List::with_capacity(alloc, stands.len())?;
     for (place, stand) in stands.iter().enumerate() {
@@ -127,7 +129,9 @@ pub(crate) fn change_level<G: Ledger>(
 ) -> Result<List<Told>, Memory>
     requires count { length level.old.nodes ≡ length level.old.stands }
     requires ready { AllByRecursion (IsReadyAt given.now below.now) level.old.stands }
-    ensures { IfOk result (IsTurned given.now below.now event.now turns.now level.old level.new steps.old steps.new) }
+    ensures turned { IfOk result (IsTurned given.now below.now event.now turns.now level.old level.new) }
+    ensures steps { (old : List GivenOf) → IsEvent old given.now event.now
+        → steps.new ≤ steps.old + sum_by (node_cost given.now below.now event.now turns.now) level.old.stands }
 {
     let stands = level.stands.as_slice();
     let nodes = level.nodes.as_mut_slice();

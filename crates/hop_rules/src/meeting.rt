@@ -47,9 +47,9 @@ fn add_met<'a, G: Ledger>(
         ++ option_to_list ((hop_way around.entry.at around.entry.size around.entry.given.now.exits).pair
         (record { id = here.entry.id; item = here.entry.rule.now })
         (arrival place (record { id = there.entry.id; item = there.entry.rule.now })))) }
-    ensures steps { OnOk result (steps.new ≤ steps.old
+    ensures steps { steps.new ≤ steps.old
         + count_by (leads_over around.entry.at around.entry.given.now.exits place)
-        (record { id = here.entry.id; item = here.entry.rule.now } ∷ [])) }
+        (record { id = here.entry.id; item = here.entry.rule.now } ∷ []) }
 {
     if !leads_to(around.given, around.at.port, here.rule, place) {
         return Ok(());
@@ -84,9 +84,9 @@ fn add_met_at<'a, G: Ledger>(
         ++ filter_map (λ h. (hop_way around.entry.at around.entry.size around.entry.given.now.exits).pair h
         (arrival place (record { id = there.entry.id; item = there.entry.rule.now })))
         (held_under around.entry.given.now.rules id)) }
-    ensures steps { OnOk result (steps.new ≤ steps.old
+    ensures steps { steps.new ≤ steps.old
         + count_by (leads_over around.entry.at around.entry.given.now.exits place)
-        (held_under around.entry.given.now.rules id)) }
+        (held_under around.entry.given.now.rules id) }
 {
     match around.given.rule(id) {
         Some(rule) => {
@@ -114,9 +114,9 @@ fn add_each_met<'a, G: Ledger>(
         ++ filter_map (λ h. (hop_way around.entry.at around.entry.size around.entry.given.now.exits).pair h
         (arrival place (record { id = there.entry.id; item = there.entry.rule.now })))
         (under around.entry.given.now.rules ids.now)) }
-    ensures steps { OnOk result (steps.new ≤ steps.old
+    ensures steps { steps.new ≤ steps.old
         + count_by (leads_over around.entry.at around.entry.given.now.exits place)
-        (under around.entry.given.now.rules ids.now)) }
+        (under around.entry.given.now.rules ids.now) }
 {
     for id in ids {
         add_met_at(alloc, around, *id, place, there, fresh, steps)?;
@@ -143,8 +143,8 @@ fn add_by_right<'a, G: Ledger>(
         (arrival place (record { id = there.entry.id; item = there.entry.rule.now }))) kept)) }
     ensures steps { (kept : List (Held Rule)) → AreListed around.entry.given.now kept
         → AreFound around.entry.given.now.rules kept
-        → OnOk result (steps.new ≤ steps.old + count_by (λ h. could around.entry.at around.entry.given.now.exits h
-        (arrival place (record { id = there.entry.id; item = there.entry.rule.now }))) kept) }
+        → steps.new ≤ steps.old + count_by (λ h. could around.entry.at around.entry.given.now.exits h
+        (arrival place (record { id = there.entry.id; item = there.entry.rule.now }))) kept }
 {
     let ids = around.given.meeting(&there.rule.m)?;
     add_each_met(alloc, around, &ids, place, there, fresh, steps)
@@ -170,8 +170,8 @@ fn add_by_right_at<'a, G: Ledger>(
         (map (arrival place) (held_under (rules_in node.now.held) id)))) }
     ensures steps { (kept : List (Held Rule)) → AreListed around.entry.given.now kept
         → AreFound around.entry.given.now.rules kept
-        → OnOk result (steps.new ≤ steps.old + right_cost around.entry.at around.entry.given.now.exits kept
-        (map (arrival place) (held_under (rules_in node.now.held) id))) }
+        → steps.new ≤ steps.old + right_cost around.entry.at around.entry.given.now.exits kept
+        (map (arrival place) (held_under (rules_in node.now.held) id)) }
 {
     match node.rule(id) {
         Some(rule) => {
@@ -202,8 +202,8 @@ fn add_each_by_right<'a, G: Ledger>(
         (map (arrival place) (under (rules_in node.now.held) come.now)))) }
     ensures steps { (kept : List (Held Rule)) → AreListed around.entry.given.now kept
         → AreFound around.entry.given.now.rules kept
-        → OnOk result (steps.new ≤ steps.old + right_cost around.entry.at around.entry.given.now.exits kept
-        (map (arrival place) (under (rules_in node.now.held) come.now))) }
+        → steps.new ≤ steps.old + right_cost around.entry.at around.entry.given.now.exits kept
+        (map (arrival place) (under (rules_in node.now.held) come.now)) }
 {
     for id in come {
         add_by_right_at(alloc, around, place, node, *id, fresh, steps)?;
@@ -229,8 +229,8 @@ pub(crate) fn add_all_by_right<'a, G: Ledger>(
         (map (arrival place) (under (rules_in (held_at around.entry.below.now place)) come.now)))) }
     ensures steps { (kept : List (Held Rule)) → AreListed around.entry.given.now kept
         → AreFound around.entry.given.now.rules kept
-        → OnOk result (steps.new ≤ steps.old + right_cost around.entry.at around.entry.given.now.exits kept
-        (map (arrival place) (under (rules_in (held_at around.entry.below.now place)) come.now))) }
+        → steps.new ≤ steps.old + right_cost around.entry.at around.entry.given.now.exits kept
+        (map (arrival place) (under (rules_in (held_at around.entry.below.now place)) come.now)) }
 {
     match around.below.get(place as usize) {
         Some(node) => add_each_by_right(alloc, around, place, node, come, fresh, steps),

@@ -1,17 +1,21 @@
 //! The rules of virtual switches and the nodes made of them, for each number of hops.
-ghost use Rattle.std.specs.Prelude.{◌≡◌, ◌≤◌, ◌<◌, ◌==◌, ℕ, false, IfOk, List, OnErr, OnOk, length, map};
+ghost use Rattle.std.specs.Prelude.{◌≡◌, ◌+◌, ◌≤◌, ◌<◌, ◌==◌, ℕ, false, IfOk, List, OnErr, OnOk, length, map};
 ghost use Rattle.std.specs.List.{AllByRecursion};
+ghost use Rattle.list_change.specs.Changes.{Apart};
 ghost use Rattle.policy_meaning.specs.Hops.{Fabric};
 ghost use Rattle.policy_meaning.specs.declared.rule.Rule.{Rule};
-ghost use Rattle.hop_rules.specs.Climbing.{CanClimb, HasClimbed, IsBelow, IsHandedOver};
+ghost use Rattle.hop_rules.specs.Climbing.{CanClimb, HasClimbed, IsBelow, IsHandedOver, came_to};
+ghost use Rattle.hop_rules.specs.Counts.{change_steps, steps_from};
 ghost use Rattle.hop_rules.specs.Handed.{AreListed, AreUnlisted, GivenOf};
 ghost use Rattle.hop_rules.specs.Kept.{IsKept, IsThrough};
 ghost use Rattle.hop_rules.specs.Levels.{given_at};
+ghost use Rattle.hop_rules.specs.Links.{ends};
 ghost use Rattle.hop_rules.specs.Nodes.{NodeOf};
-ghost use Rattle.hop_rules.specs.Tables.{MayCome, TableOf};
+ghost use Rattle.hop_rules.specs.Tables.{IsHanded, MayCome, TableOf, fabric, own_ports};
 ghost use Rattle.hop_rules.specs.Turns.{no_turn};
 ghost use Rattle.hop_rules.specs.Under.{Rises};
 ghost use Rattle.hop_rules.specs.declared.exits.LinkEnd.{LinkEnd};
+ghost use Rattle.hop_rules.specs.declared.level.Stand.{Stand};
 ghost use Rattle.hop_rules.specs.declared.level.Told.{Told};
 ghost use Rattle.hop_rules.specs.declared.node.Turn.{Turn};
 
@@ -73,7 +77,12 @@ fn climb<G: Ledger>(
     ensures climbed { (f : Fabric) → (rules : ℕ → List Rule) → (es : List LinkEnd) → (n : ℕ) → (old : List GivenOf)
         → (before : List NodeOf)
         → IsBelow f rules es n old given.now before below.now levels.old top.old event.now turns.now
-        → IfOk result (HasClimbed f rules es n given.now below.now levels.new top.old top.new event.now steps.old steps.new) }
+        → IfOk result (HasClimbed f rules es n given.now below.now levels.new top.old top.new) }
+    ensures steps { (f : Fabric) → (rules : ℕ → List Rule) → (es : List LinkEnd) → (n : ℕ) → (old : List GivenOf)
+        → (before : List NodeOf)
+        → IsBelow f rules es n old given.now before below.now levels.old top.old event.now turns.now
+        → steps.new ≤ steps.old + steps_from f (record f { rules = rules }) es (came_to given.now event.now)
+        (map (λ (s : Stand). s.at) top.old.stands) n (length levels.old) }
 {
     match levels.split_first_mut() {
         None => change_level(alloc, given, below, top, event, turns, steps),
@@ -128,8 +137,11 @@ impl Parts {
     ) -> Result<List<Told>, Memory>
         requires there { v < length self.old.given }
         requires kept { (t : TableOf) × IsKept t self.old × AllByRecursion (MayCome t v) delta.now.come }
-        ensures { (t : TableOf) → IsKept t self.old → AllByRecursion (MayCome t v) delta.now.come
-            → IfOk result (λ tolds. IsThrough t self.old self.new v delta.now.gone delta.now.come tolds steps.old steps.new) }
+        ensures through { (t : TableOf) → IsKept t self.old → AllByRecursion (MayCome t v) delta.now.come
+            → IfOk result (IsThrough t self.old self.new v delta.now.gone delta.now.come) }
+        ensures steps { (t : TableOf) → IsKept t self.old → AllByRecursion (MayCome t v) delta.now.come
+            → (after : TableOf) → IsHanded t after v delta.now.gone delta.now.come → Apart delta.now.gone delta.now.come
+            → steps.new ≤ steps.old + change_steps (fabric t) (fabric after) (ends t.plan) (own_ports t) t.hops }
     {
         let event = hand_over(alloc, self.given.as_mut_slice(), v, delta)?;
         let turns = still(alloc, self.last.as_slice())?;

@@ -1,14 +1,15 @@
 //! The rules of the ports of virtual switches.
-ghost use Rattle.std.specs.Prelude.{◌≡◌, ◌<◌, ◌^◌, ◌++◌, ◌∷◌, [], Contains, IfOk, IsPermutation, List, OnErr, OnOk, ℕ};
+ghost use Rattle.std.specs.Prelude.{◌≡◌, ◌+◌, ◌<◌, ◌≤◌, ◌^◌, ◌++◌, ◌∷◌, [], Contains, IfOk, IsPermutation, List, OnErr, OnOk, ℕ};
 ghost use Rattle.std.specs.Prelude.{false, length, map, true};
 ghost use Rattle.std.specs.List.{AllByRecursion};
+ghost use Rattle.list_change.specs.Changes.{Apart};
 ghost use Rattle.policy_meaning.specs.Hops.{hop_size};
 ghost use Rattle.policy_meaning.specs.declared.network.Place.{Place};
 ghost use Rattle.policy_meaning.specs.declared.rule.Rule.{Rule};
-ghost use Rattle.hop_rules.specs.Counts.{AreCounted};
+ghost use Rattle.hop_rules.specs.Counts.{change_steps};
 ghost use Rattle.hop_rules.specs.Links.{ends as ends_of};
 ghost use Rattle.hop_rules.specs.Kept.{IsKept, rules_of, with_rules};
-ghost use Rattle.hop_rules.specs.Tables.{AreDeltas, AreOfPorts, IsHanded, MayCome, coming, empty_table, fabric, is_whole};
+ghost use Rattle.hop_rules.specs.Tables.{AreDeltas, AreOfPorts, IsHanded, MayCome, TableOf, empty_table, fabric, is_whole};
 ghost use Rattle.hop_rules.specs.Tables.{own_ports, port_rules, rules_at as rules_held};
 
 use crate::building::{last_nodes, level_of, levels_below, none_given, outside_stands, whole_at};
@@ -141,8 +142,9 @@ impl HopTable {
         ensures handed { OnOk result (IsHanded self.old self.new v delta.now.gone delta.now.come) }
         ensures ports { IfOk result (AreDeltas self.old self.new) }
         ensures others { IfOk result (AreOfPorts self.old) }
-        ensures steps { OnOk result (AreCounted (fabric self.old) (fabric self.new) (ends_of self.old.plan)
-            (coming v delta.now.come) (own_ports self.old) 0 self.old.hops steps.old steps.new) }
+        ensures steps { (after : TableOf) → IsHanded self.old after v delta.now.gone delta.now.come
+            → Apart delta.now.gone delta.now.come → steps.new ≤ steps.old
+            + change_steps (fabric self.old) (fabric after) (ends_of self.old.plan) (own_ports self.old) self.old.hops }
         ensures memory { OnErr result (self.new.lost ≡ true) }
     {
         self.is_lost = true;
@@ -172,8 +174,11 @@ impl HopTable {
             → OnOk result (IsHanded self.old self.new v delta.now.gone delta.now.come) }
         ensures ports { is_whole self.old v ≡ false → IfOk result (AreDeltas self.old self.new) }
         ensures others { is_whole self.old v ≡ false → IfOk result (AreOfPorts self.old) }
-        ensures steps { is_whole self.old v ≡ false → OnOk result (AreCounted (fabric self.old) (fabric self.new)
-            (ends_of self.old.plan) (coming v delta.now.come) (own_ports self.old) 0 self.old.hops steps.old steps.new) }
+        // Whatever the result, by any table that the change makes of this one.
+        ensures steps { is_whole self.old v ≡ false → (after : TableOf)
+            → IsHanded self.old after v delta.now.gone delta.now.come
+            → Apart delta.now.gone delta.now.come → steps.new ≤ steps.old
+            + change_steps (fabric self.old) (fabric after) (ends_of self.old.plan) (own_ports self.old) self.old.hops }
         ensures still { is_whole self.old v ≡ true → steps.new ≡ steps.old }
         ensures memory { is_whole self.old v ≡ false → OnErr result (self.new.lost ≡ true) }
     {

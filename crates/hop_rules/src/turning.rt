@@ -87,8 +87,8 @@ fn add_by_exits<'a, G: Ledger>(
         (came_there around.entry.below.now turns.now exits.now))) }
     ensures steps { (kept : List (Held Rule)) → AreListed around.entry.given.now kept
         → AreFound around.entry.given.now.rules kept
-        → OnOk result (steps.new ≤ steps.old + right_cost around.entry.at around.entry.given.now.exits kept
-        (came_there around.entry.below.now turns.now exits.now)) }
+        → steps.new ≤ steps.old + right_cost around.entry.at around.entry.given.now.exits kept
+        (came_there around.entry.below.now turns.now exits.now) }
 {
     for exit in exits {
         let come = come_there(turns, exit.place);
@@ -116,10 +116,10 @@ fn made_fresh<'a, G: Ledger>(
         (came_there around.entry.below.now turns.now around.entry.given.now.exits))) }
     ensures steps { (kept : List (Held Rule)) → AreListed around.entry.given.now kept
         → AreFound around.entry.given.now.rules kept
-        → OnOk result (steps.new ≤ steps.old + (left_cost around.entry.at around.entry.given.now.exits
+        → steps.new ≤ steps.old + (left_cost around.entry.at around.entry.given.now.exits
         (arrivals around.entry.below.now around.entry.given.now.exits) (under around.entry.given.now.rules come.now)
         + right_cost around.entry.at around.entry.given.now.exits kept
-        (came_there around.entry.below.now turns.now around.entry.given.now.exits))) }
+        (came_there around.entry.below.now turns.now around.entry.given.now.exits)) }
 {
     let mut fresh = Vec::new(alloc);
     add_all_by_left(alloc, around, come, &mut fresh, steps)?;
@@ -153,11 +153,11 @@ pub fn change_node<'a, G: Ledger>(
         around.entry.given.now.rules around.entry.below.now node.new.held) }
     ensures told { IfOk result (λ turned. IsTold node.old.held node.new.held turned.0 turned.1.items) }
     ensures steps { (xs : List (Held Rule)) → IsOwnTurn xs around.entry.given.now own_turn.now
-        → OnOk result (steps.new ≤ steps.old + (left_cost around.entry.at around.entry.given.now.exits
+        → steps.new ≤ steps.old + (left_cost around.entry.at around.entry.given.now.exits
         (arrivals around.entry.below.now around.entry.given.now.exits)
         (under around.entry.given.now.rules own_turn.now.come)
         + right_cost around.entry.at around.entry.given.now.exits (stayed around.entry.given.now own_turn.now.come)
-        (came_there around.entry.below.now turns.now around.entry.given.now.exits))) }
+        (came_there around.entry.below.now turns.now around.entry.given.now.exits)) }
     ensures read { node.new.read ≡ node.old.read }
     ensures memory { OnErr result (node.new ≡ node.old) }
 {

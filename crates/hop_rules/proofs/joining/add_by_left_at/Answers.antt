@@ -31,7 +31,8 @@ returns-in-Some-clause-steps g c =
     let a = c.args.around in
     let cost = left_cost a.at a.given.now.exits (arrivals a.below.now a.given.now.exits) in
     let e = ap cost (held-some a.given.now.rules c.args.id c.in-Some.rule.now (sym c.in-Some.ensures.rule)) in
-    on_ok_weaker c.add_by_left.result (λ s. omega arith) c.add_by_left.ensures.steps
+    let s = c.add_by_left.ensures.steps in
+    omega arith
 
 pub returns-in-None-clause-pushed : goal.returns-in-None-clause-pushed
 returns-in-None-clause-pushed g c =

@@ -26,3 +26,6 @@ returns-clause-pushed g c =
 
 pub returns-clause-steps : goal.returns-clause-steps
 returns-clause-steps g c = let s = c.loop-id.invariant.steps in let t = c.loop-id-test.false in omega arith
+
+pub returns-in_err-add_pair_at-clause-steps : goal.returns-in_err-add_pair_at-clause-steps
+returns-in_err-add_pair_at-clause-steps g c = let s = c.add_pair_at.ensures.steps in let t = c.loop-id.invariant.steps in let l = c.loop-id-test.true in omega arith

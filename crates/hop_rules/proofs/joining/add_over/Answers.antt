@@ -42,9 +42,8 @@ returns-in-Some-clause-pushed g c =
 pub returns-in-Some-clause-steps : goal.returns-in-Some-clause-steps
 returns-in-Some-clause-steps g c =
     let q = λ (b : Held Rule). overlaps (asked c.args.here.rule.now.m c.args.departure.now) b.item.m in
-    on_ok_weaker c.add_pairs.result
-    (λ p. subst (λ held. c.add_pairs.new.steps ≤ c.args.steps.now + count_by q (rules_in held))
-    (sym (got-held c.args.around.below.now c.args.departure.now.exit.place c.in-Some.there.now (got-some c.args.around.below.now c.args.departure.now.exit.place c.in-Some.there.now c.in-Some.ensures.lookup.3.0 c.in-Some.ensures.lookup.1))) p)
+    subst (λ held. c.add_pairs.new.steps ≤ c.args.steps.now + count_by q (rules_in held))
+    (sym (got-held c.args.around.below.now c.args.departure.now.exit.place c.in-Some.there.now (got-some c.args.around.below.now c.args.departure.now.exit.place c.in-Some.there.now c.in-Some.ensures.lookup.3.0 c.in-Some.ensures.lookup.1)))
     c.add_pairs.ensures.steps
 
 pub returns-in-None-clause-pushed : goal.returns-in-None-clause-pushed

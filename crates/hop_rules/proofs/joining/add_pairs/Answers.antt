@@ -29,4 +29,4 @@ returns-clause-steps g c =
     let ids = subst (λ m. IsPermutation c.in_ok-ids.ids.items (map id_of (filter (λ (h : Held Rule). overlaps m h.item.m) held))) c.asked.ensures c.in_ok-ids.ensures.ids in
     let found = subst (λ z. IsPermutation z (map id_of (filter (λ (h : Held Rule). overlaps (asked a.m dep) h.item.m) held))) (sym c.deref.ensures.value) ids in
     let n = candidates-count (λ (h : Held Rule). overlaps (asked a.m dep) h.item.m) held c.deref.result.now found in
-    on_ok_weaker c.add_each_pair.result (λ s. subst (λ k. c.add_each_pair.new.steps ≤ c.args.steps.now + k) n s) c.add_each_pair.ensures.steps
+    subst (λ k. c.add_each_pair.new.steps ≤ c.args.steps.now + k) n c.add_each_pair.ensures.steps

@@ -5,7 +5,6 @@ use Rattle.list_change.proofs.Permute.{by-equation}
 use Rattle.policy_meaning.specs.declared.rule.Rule.{Rule}
 use Rattle.rule_ancestry.specs.Holding.{Held}
 use Rattle.hop_rules.specs.Standing.{leaving}
-use Rattle.hop_rules.proofs.Came.{ok-always}
 use Rattle.hop_rules.proofs.Joined.{could-count, lone-level, over-pairs}
 use Rattle.hop_rules.proofs.Making.{makes-alone, makes-pairs}
 use Rattle.hop_rules.proofs.joining.add_stood.Goals as goal
@@ -23,7 +22,7 @@ returns-in-None-clause-pushed g c rule e =
     c.add_alone.ensures.pushed
 
 pub returns-in-None-clause-steps : goal.returns-in-None-clause-steps
-returns-in-None-clause-steps g c rule e = ok-always _ c.add_alone.result (let s = c.add_alone.ensures.step in omega arith)
+returns-in-None-clause-steps g c rule e = let s = c.add_alone.ensures.step in omega arith
 
 pub add_over-requires-clause-leaving : goal.add_over-requires-clause-leaving
 add_over-requires-clause-leaving g c =
@@ -46,4 +45,5 @@ returns-in-Some-clause-steps g c rule e =
     let h : Held Rule = record { id = c.args.here.id; item = rule } in
     let l : leaving a.given.now.exits a.at.port c.args.here.rule.now.tail ≡ Some c.in-Some.departure = sym (c.in-Some.ensures ∙ ap (λ es. leaving es a.at.port c.args.here.rule.now.tail) c.exits.ensures) in
     let n = could-count c.args.here.rule.now c.in-Some.departure a.at a.given.now.exits a.below.now h e l in
-    on_ok_weaker c.add_over.result (λ s. omega arith) c.add_over.ensures.steps
+    let s = c.add_over.ensures.steps in
+    omega arith

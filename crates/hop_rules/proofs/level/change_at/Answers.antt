@@ -22,4 +22,10 @@ pub returns-clause-steps : goal.returns-clause-steps
 returns-clause-steps g c old ev =
     let here : c.index-given-stand.result ≡ given_at c.args.given.now c.args.stand.now.at.v = c.index-given-stand.is ∙ get_or_default c.args.given.now c.args.stand.now.at.v c.index-given-stand.result none_given c.requires.there in
     steps-there c.args.given.now old c.args.below.now c.args.event.now c.args.turns.now c.args.stand.now c.index-given-stand.result c.turn_of-own_turn.result.now here c.turn_of-own_turn.ensures ev
-    c.args.steps.now c.change_node.new.steps c.in_ok-turn.ensures.steps
+    c.args.steps.now c.change_node.new.steps c.change_node.ensures.steps
+
+pub returns-in_err-turn-clause-steps : goal.returns-in_err-turn-clause-steps
+returns-in_err-turn-clause-steps g c old ev =
+    let here : c.index-given-stand.result ≡ given_at c.args.given.now c.args.stand.now.at.v = c.index-given-stand.is ∙ get_or_default c.args.given.now c.args.stand.now.at.v c.index-given-stand.result none_given c.requires.there in
+    steps-there c.args.given.now old c.args.below.now c.args.event.now c.args.turns.now c.args.stand.now c.index-given-stand.result c.turn_of-own_turn.result.now here c.turn_of-own_turn.ensures ev
+    c.args.steps.now c.change_node.new.steps c.change_node.ensures.steps

@@ -8,7 +8,7 @@ use Rattle.hop_rules.specs.Nodes.{held_at}
 use Rattle.hop_rules.specs.Turns.{IsTold}
 use Rattle.hop_rules.specs.declared.level.Stand.{Stand}
 use Rattle.hop_rules.specs.declared.level.Told.{Told}
-use Rattle.hop_rules.proofs.Levelling.{made-more, next-held, rest-more, steps-more, told-more}
+use Rattle.hop_rules.proofs.Levelling.{made-more, next-held, rest-more, steps-ended, steps-more, told-more}
 use Rattle.hop_rules.proofs.Numbering.{all-at, read-same}
 use Rattle.hop_rules.proofs.level.change_nodes.Goals as goal
 
@@ -53,11 +53,11 @@ loop-place-preserved g c =
           (told-more first nodes i here node c.loop-place.tolds told inv.count inv.told (subst (λ (z : List (Held Made)). IsTold z node.held told.turn told.left) was c.in_ok-told.ensures.told));
       steps = λ old ev.
           steps-more (node_cost gs below c.args.event.now c.args.turns.now) stands i c.args.steps.now c.loop-place.steps c.change_at.new.steps (stand_at stands i) lt
-          (get_or_default stands i no_stand (stand_at stands i) lt) (inv.steps old ev) (c.in_ok-told.ensures.steps old ev);
+          (get_or_default stands i no_stand (stand_at stands i) lt) (inv.steps old ev) (c.change_at.ensures.steps old ev);
     }
 
-pub returns : goal.returns
-returns g c =
+pub returns-clause-turned : goal.returns-clause-turned
+returns-clause-turned g c =
     let gs = c.args.given.now in
     let below = c.args.below.now in
     let stands = c.args.stands.now in
@@ -72,5 +72,27 @@ returns g c =
         each = λ k lt. inv.told k (let r = c.requires.count in omega arith);
       };
       read = inv.read;
-      steps = λ old ev. subst (λ (ss : List Stand). c.loop-place.steps ≤ c.args.steps.now + sum_by (node_cost gs below c.args.event.now c.args.turns.now) ss) (take_all i stands le) (inv.steps old ev);
     }
+
+pub returns-clause-steps : goal.returns-clause-steps
+returns-clause-steps g c old ev =
+    let stands = c.args.stands.now in
+    let le : length stands ≤ c.loop-place.place = c.loop-place-test.false in
+    subst (λ (ss : List Stand). c.loop-place.steps ≤ c.args.steps.now + sum_by (node_cost c.args.given.now c.args.below.now c.args.event.now c.args.turns.now) ss)
+    (take_all c.loop-place.place stands le) (c.loop-place.invariant.steps old ev)
+
+pub returns-in_err-told-clause-steps : goal.returns-in_err-told-clause-steps
+returns-in_err-told-clause-steps g c old ev =
+    let stands = c.args.stands.now in
+    let i = c.loop-place.place in
+    let lt : i < length stands = c.loop-place-test.true in
+    steps-ended (node_cost c.args.given.now c.args.below.now c.args.event.now c.args.turns.now) stands i c.args.steps.now c.loop-place.steps c.change_at.new.steps (stand_at stands i) lt
+    (get_or_default stands i no_stand (stand_at stands i) lt) (c.loop-place.invariant.steps old ev) (c.change_at.ensures.steps old ev)
+
+pub returns-in_err-push-clause-steps : goal.returns-in_err-push-clause-steps
+returns-in_err-push-clause-steps g c old ev =
+    let stands = c.args.stands.now in
+    let i = c.loop-place.place in
+    let lt : i < length stands = c.loop-place-test.true in
+    steps-ended (node_cost c.args.given.now c.args.below.now c.args.event.now c.args.turns.now) stands i c.args.steps.now c.loop-place.steps c.change_at.new.steps (stand_at stands i) lt
+    (get_or_default stands i no_stand (stand_at stands i) lt) (c.loop-place.invariant.steps old ev) (c.change_at.ensures.steps old ev)

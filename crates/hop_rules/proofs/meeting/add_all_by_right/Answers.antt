@@ -33,9 +33,8 @@ returns-in-Some-clause-pushed g c kept l f =
 pub returns-in-Some-clause-steps : goal.returns-in-Some-clause-steps
 returns-in-Some-clause-steps g c kept l f =
     let a = c.args.around in
-    on_ok_weaker c.add_each_by_right.result
-    (λ p. subst (λ (held : List (Held Made)). c.add_each_by_right.new.steps ≤ c.args.steps.now + right_cost a.at a.given.now.exits kept (map (arrival c.args.place) (under (rules_in held) c.args.come.now)))
-    (sym (got-held a.below.now c.args.place c.in-Some.node.now (got-some a.below.now c.args.place c.in-Some.node.now c.in-Some.ensures.lookup.3.0 c.in-Some.ensures.lookup.1))) p)
+    subst (λ (held : List (Held Made)). c.add_each_by_right.new.steps ≤ c.args.steps.now + right_cost a.at a.given.now.exits kept (map (arrival c.args.place) (under (rules_in held) c.args.come.now)))
+    (sym (got-held a.below.now c.args.place c.in-Some.node.now (got-some a.below.now c.args.place c.in-Some.node.now c.in-Some.ensures.lookup.3.0 c.in-Some.ensures.lookup.1)))
     (c.add_each_by_right.ensures.steps kept l f)
 
 pub returns-in-None-clause-pushed : goal.returns-in-None-clause-pushed

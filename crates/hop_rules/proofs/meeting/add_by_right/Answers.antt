@@ -26,4 +26,5 @@ returns-clause-steps g c kept listed found =
     let b : Held Rule = record { id = c.args.there.id; item = c.args.there.rule.now } in
     let ids = subst (λ z. IsPermutation z (ids_of (is_meeting b.item.m) given.items)) (sym c.deref.ensures.value) c.in_ok-ids.ensures in
     let n = met-count a.at a.size given.exits c.args.place b c.requires.there given.rules kept c.deref.result.now given.items found ids listed in
-    on_ok_weaker c.add_each_met.result (λ s. omega arith) c.add_each_met.ensures.steps
+    let s = c.add_each_met.ensures.steps in
+    omega arith

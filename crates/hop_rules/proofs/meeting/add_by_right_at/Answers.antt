@@ -29,7 +29,8 @@ pub returns-in-Some-clause-steps : goal.returns-in-Some-clause-steps
 returns-in-Some-clause-steps g c kept listed found =
     let a = c.args.around in
     let e = ap (λ (hs : List (Held Rule)). right_cost a.at a.given.now.exits kept (map (arrival c.args.place) hs)) (held-some (rules_in c.args.node.now.held) c.args.id c.in-Some.rule.now (sym c.in-Some.ensures.rule)) in
-    on_ok_weaker c.add_by_right.result (λ s. omega arith) (c.add_by_right.ensures.steps kept listed found)
+    let s = c.add_by_right.ensures.steps kept listed found in
+    omega arith
 
 pub returns-in-None-clause-pushed : goal.returns-in-None-clause-pushed
 returns-in-None-clause-pushed g c kept listed found =

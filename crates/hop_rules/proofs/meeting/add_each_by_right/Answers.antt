@@ -9,7 +9,7 @@ use Rattle.rule_ancestry.specs.Holding.{Held}
 use Rattle.made_rules.specs.Rules.{rules_in}
 use Rattle.hop_rules.specs.Nodes.{Arrival, arrival, could, hop_way, made_right}
 use Rattle.hop_rules.specs.Turns.{right_cost}
-use Rattle.hop_rules.proofs.Under.{perm-more, steps-more, under-all}
+use Rattle.hop_rules.proofs.Under.{perm-more, steps-ended, steps-more, under-all}
 use Rattle.hop_rules.proofs.meeting.add_each_by_right.Goals as goal
 
 pub loop-id-init : goal.loop-id-init
@@ -30,8 +30,17 @@ loop-id-preserved g c =
           (λ xs ys. ap (right_cost a.at a.given.now.exits kept) (map-append (arrival c.args.place) xs ys)
           ∙ sum_by-append (λ (y : Arrival). count_by (λ h. could a.at a.given.now.exits h y) kept) (map (arrival c.args.place) xs) (map (arrival c.args.place) ys))
           (rules_in c.args.node.now.held) c.args.come.now c.loop-id.id-index 0 c.loop-id-test.true c.args.steps.now c.loop-id.steps c.add_by_right_at.new.steps
-          (c.loop-id.invariant.steps kept l f) (c.in_ok-add_by_right_at.ensures.steps kept l f);
+          (c.loop-id.invariant.steps kept l f) (c.add_by_right_at.ensures.steps kept l f);
     }
+
+pub returns-in_err-add_by_right_at-clause-steps : goal.returns-in_err-add_by_right_at-clause-steps
+returns-in_err-add_by_right_at-clause-steps g c kept l f =
+    let a = c.args.around in
+    steps-ended (λ (hs : List (Held Rule)). right_cost a.at a.given.now.exits kept (map (arrival c.args.place) hs))
+    (λ xs ys. ap (right_cost a.at a.given.now.exits kept) (map-append (arrival c.args.place) xs ys)
+    ∙ sum_by-append (λ (y : Arrival). count_by (λ h. could a.at a.given.now.exits h y) kept) (map (arrival c.args.place) xs) (map (arrival c.args.place) ys))
+    (rules_in c.args.node.now.held) c.args.come.now c.loop-id.id-index 0 c.loop-id-test.true c.args.steps.now c.loop-id.steps c.add_by_right_at.new.steps
+    (c.loop-id.invariant.steps kept l f) (c.add_by_right_at.ensures.steps kept l f)
 
 pub returns-clause-pushed : goal.returns-clause-pushed
 returns-clause-pushed g c kept l f =

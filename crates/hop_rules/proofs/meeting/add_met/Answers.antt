@@ -6,7 +6,6 @@ use Rattle.policy_meaning.specs.declared.rule.Rule.{Rule}
 use Rattle.policy_meaning.proofs.Chains.{high}
 use Rattle.rule_ancestry.specs.Holding.{Held}
 use Rattle.hop_rules.specs.Nodes.{leads_over, leads_to}
-use Rattle.hop_rules.proofs.Came.{ok-always}
 use Rattle.hop_rules.proofs.Reached.{counts-one, led-joins, led-over, led-stood, stood, unled, unstood}
 use Rattle.hop_rules.proofs.meeting.add_met.Goals as goal
 
@@ -54,4 +53,5 @@ returns-in-Some-clause-steps g c =
     let a = c.args.around in
     let h : Held Rule = record { id = c.args.here.id; item = c.args.here.rule.now } in
     let n = counts-one (leads_over a.at a.given.now.exits c.args.place) h (led-over a.at a.size a.given.now.exits h c.args.place c.in-Some.rule (sym c.in_ok-stood.ensures ∙ c.in-Some.is) (sym c.leads_to.ensures ∙ c.if-not-leads_to.false)) in
-    ok-always _ c.add_pair.result (let s = c.add_pair.ensures.step in omega arith)
+    let s = c.add_pair.ensures.step in
+    omega arith

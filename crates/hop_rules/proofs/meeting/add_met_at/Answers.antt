@@ -29,7 +29,8 @@ pub returns-in-Some-clause-steps : goal.returns-in-Some-clause-steps
 returns-in-Some-clause-steps g c =
     let a = c.args.around in
     let e = ap (count_by (leads_over a.at a.given.now.exits c.args.place)) (held-some a.given.now.rules c.args.id c.in-Some.rule.now (sym c.in-Some.ensures.rule)) in
-    on_ok_weaker c.add_met.result (λ s. omega arith) c.add_met.ensures.steps
+    let s = c.add_met.ensures.steps in
+    omega arith
 
 pub returns-in-None-clause-pushed : goal.returns-in-None-clause-pushed
 returns-in-None-clause-pushed g c =

@@ -1,9 +1,11 @@
-use Rattle.std.proofs.Common.{◌∷◌, ◌∙◌, List, rules, suc, sym, subst}
+use Rattle.std.proofs.Common.{◌∷◌, ◌∙◌, ◌+◌, ◌≤◌, List, rules, suc, sym, subst, length, map}
 use Rattle.std.proofs.lemmas.Result.{IfOk-weaker}
-use Rattle.hop_rules.specs.Climbing.{CanClimb, HasClimbed, IsBelow}
+use Rattle.hop_rules.specs.Climbing.{CanClimb, HasClimbed, IsBelow, came_to}
+use Rattle.hop_rules.specs.Counts.{steps_from}
 use Rattle.hop_rules.specs.Nodes.{NodeOf}
 use Rattle.hop_rules.specs.declared.level.Level.{Level}
-use Rattle.hop_rules.proofs.Climbs.{at-top, climbed-on, level-ready, next-below, none-left, top-was}
+use Rattle.hop_rules.specs.declared.level.Stand.{Stand}
+use Rattle.hop_rules.proofs.Climbs.{at-top, climbed-cost, climbed-on, ended-cost, level-ready, next-below, none-left, top-cost, top-was}
 use Rattle.hop_rules.proofs.parts.+climb.Goals as goal
 
 pub change_level-requires-clause-count : goal.change_level-requires-clause-count
@@ -20,9 +22,14 @@ change_level-requires-clause-ready g t c =
 pub returns-in-None-clause-climbed : goal.returns-in-None-clause-climbed
 returns-in-None-clause-climbed g t c f rules es n old before b =
     IfOk-weaker c.change_level.result _
-    (λ tolds. HasClimbed f rules es n c.args.given.now c.args.below.now c.args.levels.now c.args.top.now c.change_level.new.level c.args.event.now c.args.steps.now c.change_level.new.steps tolds)
-    (λ tolds h. at-top f rules es n old c.args.given.now before c.args.below.now c.args.levels.now c.args.top.now c.args.event.now c.args.turns.now b (none-left _ c.in-None.ensures.cases) c.change_level.new.level c.args.steps.now c.change_level.new.steps tolds h)
-    c.change_level.ensures
+    (λ tolds. HasClimbed f rules es n c.args.given.now c.args.below.now c.args.levels.now c.args.top.now c.change_level.new.level tolds)
+    (λ tolds h. at-top f rules es n old c.args.given.now before c.args.below.now c.args.levels.now c.args.top.now c.args.event.now c.args.turns.now b (none-left _ c.in-None.ensures.cases) c.change_level.new.level tolds h)
+    c.change_level.ensures.turned
+
+pub returns-in-None-clause-steps : goal.returns-in-None-clause-steps
+returns-in-None-clause-steps g t c f rules es n old before b =
+    top-cost f rules es n old c.args.given.now before c.args.below.now c.args.levels.now c.args.top.now c.args.event.now c.args.turns.now b (none-left _ c.in-None.ensures.cases) c.args.steps.now c.change_level.new.steps
+    c.change_level.ensures.steps
 
 pub change_level-requires-in-Some-clause-count : goal.change_level-requires-in-Some-clause-count
 change_level-requires-in-Some-clause-count g t c =
@@ -56,7 +63,7 @@ climb-requires g t c κs within =
       before = level.nodes;
       is =
           subst (λ (ns : List NodeOf). IsBelow r.f r.rules r.es (suc r.n) r.old gs level.nodes ns rest c.args.top.now e c.deref.result.now) (sym c.as_slice-nodes.ensures)
-          (next-below r.f r.rules r.es r.n r.old gs r.before below level rest c.args.top.now e turns b then c.args.steps.now c.change_level-in-Some.new.steps c.in_ok-tolds-in-Some.tolds c.in_ok-tolds-in-Some.ensures c.deref.result.now
+          (next-below r.f r.rules r.es r.n r.old gs r.before below level rest c.args.top.now e turns b then c.in_ok-tolds-in-Some.tolds c.in_ok-tolds-in-Some.ensures.turned c.deref.result.now
           (c.deref.ensures.value ∙ c.in_ok-turns-in-Some.ensures));
     } in
     (search rules, (within, can))
@@ -69,16 +76,53 @@ returns-in_ok-turns-in-Some-clause-climbed g t c f rules es n old before b =
     let turns = c.args.turns.now in
     let level = c.in-Some.level.now in
     let then : Level = c.change_level-in-Some.new.level in
-    let s0 = c.args.steps.now in
-    let s1 = c.change_level-in-Some.new.steps in
-    let s2 = c.climb.new.steps in
     let b' = subst (λ (ls : List Level). IsBelow f rules es n old gs before below ls c.args.top.now e turns) c.in-Some.ensures.cases.0 b in
-    let h = c.in_ok-tolds-in-Some.ensures in
+    let h = c.in_ok-tolds-in-Some.ensures.turned in
     let next = subst (λ (ns : List NodeOf). IsBelow f rules es (suc n) old gs level.nodes ns c.in-Some.rest.now c.args.top.now e c.deref.result.now) (sym c.as_slice-nodes.ensures)
-    (next-below f rules es n old gs before below level c.in-Some.rest.now c.args.top.now e turns b' then s0 s1 c.in_ok-tolds-in-Some.tolds h c.deref.result.now (c.deref.ensures.value ∙ c.in_ok-turns-in-Some.ensures)) in
+    (next-below f rules es n old gs before below level c.in-Some.rest.now c.args.top.now e turns b' then c.in_ok-tolds-in-Some.tolds h c.deref.result.now (c.deref.ensures.value ∙ c.in_ok-turns-in-Some.ensures)) in
     IfOk-weaker c.climb.result
-    (λ tolds. HasClimbed f rules es (suc n) gs c.as_slice-nodes.result.now c.climb.new.levels c.args.top.now c.climb.new.top e s1 s2 tolds)
-    (λ tolds. HasClimbed f rules es n gs below (then ∷ c.climb.new.levels) c.args.top.now c.climb.new.top e s0 s2 tolds)
-    (λ tolds k. climbed-on f rules es n old gs before below level c.in-Some.rest.now c.args.top.now e turns b' then s0 s1 c.in_ok-tolds-in-Some.tolds h c.climb.new.levels c.climb.new.top tolds s2
-    (subst (λ (ns : List NodeOf). HasClimbed f rules es (suc n) gs ns c.climb.new.levels c.args.top.now c.climb.new.top e s1 s2 tolds) c.as_slice-nodes.ensures k))
+    (λ tolds. HasClimbed f rules es (suc n) gs c.as_slice-nodes.result.now c.climb.new.levels c.args.top.now c.climb.new.top tolds)
+    (λ tolds. HasClimbed f rules es n gs below (then ∷ c.climb.new.levels) c.args.top.now c.climb.new.top tolds)
+    (λ tolds k. climbed-on f rules es n old gs before below level c.in-Some.rest.now c.args.top.now e turns b' then c.in_ok-tolds-in-Some.tolds h c.climb.new.levels c.climb.new.top tolds
+    (subst (λ (ns : List NodeOf). HasClimbed f rules es (suc n) gs ns c.climb.new.levels c.args.top.now c.climb.new.top tolds) c.as_slice-nodes.ensures k))
     (c.climb.ensures.climbed f rules es (suc n) old level.nodes next)
+
+pub returns-in_ok-turns-in-Some-clause-steps : goal.returns-in_ok-turns-in-Some-clause-steps
+returns-in_ok-turns-in-Some-clause-steps g t c f rules es n old before b =
+    let gs = c.args.given.now in
+    let below = c.args.below.now in
+    let e = c.args.event.now in
+    let turns = c.args.turns.now in
+    let level = c.in-Some.level.now in
+    let rest = c.in-Some.rest.now in
+    let then : Level = c.change_level-in-Some.new.level in
+    let now = record f { rules = rules } in
+    let ports = map (λ (s : Stand). s.at) c.args.top.now.stands in
+    let b' = subst (λ (ls : List Level). IsBelow f rules es n old gs before below ls c.args.top.now e turns) c.in-Some.ensures.cases.0 b in
+    let next = subst (λ (ns : List NodeOf). IsBelow f rules es (suc n) old gs level.nodes ns rest c.args.top.now e c.deref.result.now) (sym c.as_slice-nodes.ensures)
+    (next-below f rules es n old gs before below level rest c.args.top.now e turns b' then c.in_ok-tolds-in-Some.tolds c.in_ok-tolds-in-Some.ensures.turned c.deref.result.now (c.deref.ensures.value ∙ c.in_ok-turns-in-Some.ensures)) in
+    subst (λ (ls : List Level). c.climb.new.steps ≤ c.args.steps.now + steps_from f now es (came_to gs e) ports n (length ls)) (sym c.in-Some.ensures.cases.0)
+    (climbed-cost f rules es n old gs before below level rest c.args.top.now e turns b' c.args.steps.now c.change_level-in-Some.new.steps c.change_level-in-Some.ensures.steps ports c.climb.new.steps
+    (c.climb.ensures.steps f rules es (suc n) old level.nodes next))
+
+pub returns-in_err-tolds-in-Some-clause-steps : goal.returns-in_err-tolds-in-Some-clause-steps
+returns-in_err-tolds-in-Some-clause-steps g t c f rules es n old before b =
+    let gs = c.args.given.now in
+    let e = c.args.event.now in
+    let level = c.in-Some.level.now in
+    let rest = c.in-Some.rest.now in
+    let ports = map (λ (s : Stand). s.at) c.args.top.now.stands in
+    let b' = subst (λ (ls : List Level). IsBelow f rules es n old gs before c.args.below.now ls c.args.top.now e c.args.turns.now) c.in-Some.ensures.cases.0 b in
+    subst (λ (ls : List Level). c.change_level-in-Some.new.steps ≤ c.args.steps.now + steps_from f (record f { rules = rules }) es (came_to gs e) ports n (length ls)) (sym c.in-Some.ensures.cases.0)
+    (ended-cost f rules es n old gs before c.args.below.now level rest c.args.top.now e c.args.turns.now b' c.args.steps.now c.change_level-in-Some.new.steps c.change_level-in-Some.ensures.steps ports)
+
+pub returns-in_err-turns-in-Some-clause-steps : goal.returns-in_err-turns-in-Some-clause-steps
+returns-in_err-turns-in-Some-clause-steps g t c f rules es n old before b =
+    let gs = c.args.given.now in
+    let e = c.args.event.now in
+    let level = c.in-Some.level.now in
+    let rest = c.in-Some.rest.now in
+    let ports = map (λ (s : Stand). s.at) c.args.top.now.stands in
+    let b' = subst (λ (ls : List Level). IsBelow f rules es n old gs before c.args.below.now ls c.args.top.now e c.args.turns.now) c.in-Some.ensures.cases.0 b in
+    subst (λ (ls : List Level). c.change_level-in-Some.new.steps ≤ c.args.steps.now + steps_from f (record f { rules = rules }) es (came_to gs e) ports n (length ls)) (sym c.in-Some.ensures.cases.0)
+    (ended-cost f rules es n old gs before c.args.below.now level rest c.args.top.now e c.args.turns.now b' c.args.steps.now c.change_level-in-Some.new.steps c.change_level-in-Some.ensures.steps ports)

@@ -6,7 +6,7 @@ use Rattle.list_change.proofs.Permute.{by-equation}
 use Rattle.hop_rules.specs.Nodes.{leads_there, made_right}
 use Rattle.hop_rules.specs.Turns.{came_there, right_cost}
 use Rattle.hop_rules.specs.declared.exits.Exit.{Exit}
-use Rattle.hop_rules.proofs.Came.{exits-made, exits-steps}
+use Rattle.hop_rules.proofs.Came.{exits-ended, exits-made, exits-steps}
 use Rattle.hop_rules.proofs.turning.add_by_exits.Goals as goal
 
 pub loop-exit-init : goal.loop-exit-init
@@ -30,8 +30,18 @@ loop-exit-preserved g c =
           c.add_all_by_right.new.fresh.items (c.loop-exit.invariant.made kept l f) (c.in_ok-add_all_by_right.ensures.pushed kept l f);
       steps = λ kept l f.
           exits-steps a.below.now c.args.turns.now es i none e c.loop-exit-test.true refl a.at a.given.now.exits kept c.come_there-come.result.now c.come_there-come.ensures c.args.steps.now c.loop-exit.steps c.add_all_by_right.new.steps
-          (c.loop-exit.invariant.steps kept l f) (c.in_ok-add_all_by_right.ensures.steps kept l f);
+          (c.loop-exit.invariant.steps kept l f) (c.add_all_by_right.ensures.steps kept l f);
     }
+
+pub returns-in_err-add_all_by_right-clause-steps : goal.returns-in_err-add_all_by_right-clause-steps
+returns-in_err-add_all_by_right-clause-steps g c kept l f =
+    let a = c.args.around in
+    let es = c.args.exits.now in
+    let i = c.loop-exit.exit-index in
+    let none : Exit = record { port = 0; peer = record { v = 0; port = 0 }; place = 0 } in
+    let e = get_or es i none in
+    exits-ended a.below.now c.args.turns.now es i none e c.loop-exit-test.true refl a.at a.given.now.exits kept c.come_there-come.result.now c.come_there-come.ensures c.args.steps.now c.loop-exit.steps c.add_all_by_right.new.steps
+    (c.loop-exit.invariant.steps kept l f) (c.add_all_by_right.ensures.steps kept l f)
 
 pub returns-clause-pushed : goal.returns-clause-pushed
 returns-clause-pushed g c kept l f =

@@ -7,7 +7,6 @@ use Rattle.made_rules.specs.declared.made.Origin.{Origin}
 use Rattle.hop_rules.specs.Nodes.{IsMadeOf, arrivals, made_left, made_right, own}
 use Rattle.hop_rules.specs.Turns.{came_there, left_cost, lost_there, right_cost, stayed}
 use Rattle.hop_rules.specs.Under.{under}
-use Rattle.hop_rules.proofs.Came.{ok-always}
 use Rattle.hop_rules.proofs.Turns.{node-turns, stayed-found, stayed-listed}
 use Rattle.hop_rules.proofs.turning.change_node.Goals as goal
 
@@ -36,6 +35,15 @@ returns-clause-steps g c xs o =
     let es = given.exits in
     let turn = c.args.own_turn.now in
     let kept = stayed given turn.come in
-    ok-always _ c.change.result
-    (subst (λ ids. c.made_fresh.new.steps ≤ c.args.steps.now + (left_cost a.at es (arrivals a.below.now es) (under given.rules ids) + right_cost a.at es kept (came_there a.below.now c.args.turns.now es)))
-    c.as_slice-2.ensures (c.in_ok-fresh.ensures.steps kept (stayed-listed xs given turn o) (stayed-found given turn.come o.risen)))
+    subst (λ ids. c.made_fresh.new.steps ≤ c.args.steps.now + (left_cost a.at es (arrivals a.below.now es) (under given.rules ids) + right_cost a.at es kept (came_there a.below.now c.args.turns.now es)))
+    c.as_slice-2.ensures (c.made_fresh.ensures.steps kept (stayed-listed xs given turn o) (stayed-found given turn.come o.risen))
+
+pub returns-in_err-fresh-clause-steps : goal.returns-in_err-fresh-clause-steps
+returns-in_err-fresh-clause-steps g c xs o =
+    let a = c.args.around in
+    let given = a.given.now in
+    let es = given.exits in
+    let turn = c.args.own_turn.now in
+    let kept = stayed given turn.come in
+    subst (λ ids. c.made_fresh.new.steps ≤ c.args.steps.now + (left_cost a.at es (arrivals a.below.now es) (under given.rules ids) + right_cost a.at es kept (came_there a.below.now c.args.turns.now es)))
+    c.as_slice-2.ensures (c.made_fresh.ensures.steps kept (stayed-listed xs given turn o) (stayed-found given turn.come o.risen))

@@ -29,7 +29,19 @@ pub returns-clause-steps : goal.returns-clause-steps
 returns-clause-steps g c kept l f =
     let a = c.args.around in
     let es = a.given.now.exits in
-    let s = c.in_ok-add_all_by_left.ensures.steps in
-    let t = c.in_ok-add_by_exits.ensures.steps kept l f in
+    let s = c.add_all_by_left.ensures.steps in
+    let t = c.add_by_exits.ensures.steps kept l f in
     let e = ap (λ (xs : List Exit). right_cost a.at es kept (came_there a.below.now c.args.turns.now xs)) c.exits.ensures in
     omega arith
+
+pub returns-in_err-add_by_exits-clause-steps : goal.returns-in_err-add_by_exits-clause-steps
+returns-in_err-add_by_exits-clause-steps g c kept l f =
+    let a = c.args.around in
+    let es = a.given.now.exits in
+    let s = c.add_all_by_left.ensures.steps in
+    let t = c.add_by_exits.ensures.steps kept l f in
+    let e = ap (λ (xs : List Exit). right_cost a.at es kept (came_there a.below.now c.args.turns.now xs)) c.exits.ensures in
+    omega arith
+
+pub returns-in_err-add_all_by_left-clause-steps : goal.returns-in_err-add_all_by_left-clause-steps
+returns-in_err-add_all_by_left-clause-steps g c kept l f = let s = c.add_all_by_left.ensures.steps in omega arith

@@ -11,6 +11,7 @@ use Rattle.hop_rules.specs.Turns.{no_turn}
 use Rattle.hop_rules.specs.Under.{Rises}
 use Rattle.hop_rules.specs.declared.level.Level.{Level}
 use Rattle.hop_rules.specs.declared.node.Turn.{Turn}
+use Rattle.hop_rules.proofs.Handing.{climb-after}
 use Rattle.hop_rules.proofs.Keeping.{is-below, is-through, unlisted}
 use Rattle.hop_rules.proofs.Numbering.{refilled}
 use Rattle.hop_rules.proofs.parts.Parts.change.Goals as goal
@@ -81,8 +82,8 @@ list_come-requires-clause-unlisted g c =
     let same : c.as_mut_slice-3.result.now ≡ new = c.as_mut_slice-3.ensures.value ∙ refilled old.given new h.event.count in
     subst (λ (gs : List GivenOf). AreUnlisted (given_at gs e.v) e.turn.come) (sym same) (unlisted old.given new c.args.v d.gone d.come e h)
 
-pub returns : goal.returns
-returns g c t k mays =
+pub returns-clause-through : goal.returns-clause-through
+returns-clause-through g c t k mays =
     let old = c.args.self.now in
     let v = c.args.v in
     let d = c.args.delta.now in
@@ -110,15 +111,52 @@ returns g c t k mays =
     (subst (λ (ls : List Level). IsBelow f rs es 0 old.given new old.last old.last ls old.top e turns) (sym c.as_mut_slice-2.ensures.value) is)) in
     let levels = c.climb.new.levels in
     let top = c.climb.new.top in
-    let s0 = c.args.steps.now in
-    let s1 = c.climb.new.steps in
     let tolds = c.in_ok-tolds.tolds in
     let climbed =
-    subst (λ (gs : List GivenOf). HasClimbed f rs es 0 gs old.last levels old.top top e s0 s1 tolds) given
-    (subst (λ (ns : List NodeOf). HasClimbed f rs es 0 c.as_slice-2.result.now ns levels old.top top e s0 s1 tolds) c.as_slice-3.ensures (c.in_ok-tolds.ensures.climbed f rs es 0 old.given old.last below)) in
+    subst (λ (gs : List GivenOf). HasClimbed f rs es 0 gs old.last levels old.top top tolds) given
+    (subst (λ (ns : List NodeOf). HasClimbed f rs es 0 c.as_slice-2.result.now ns levels old.top top tolds) c.as_slice-3.ensures (c.in_ok-tolds.ensures.climbed f rs es 0 old.given old.last below)) in
     let many = c.in_ok-tolds.ensures.count ∙ ap length c.as_mut_slice-2.ensures.value in
     let lent = refill (length old.given) old.given new in
     let whole : refill (length lent) lent final ≡ final = refilled lent final (l.count ∙ ap length c.as_mut_slice-3.ensures.value) in
-    subst (λ (gs : List GivenOf). IsThrough t old (record { given = gs; last = old.last; levels = refill (length old.levels) old.levels levels; top = top }) v d.gone d.come tolds s0 s1) (sym whole)
-    (subst (λ (ls : List Level). IsThrough t old (record { given = final; last = old.last; levels = ls; top = top }) v d.gone d.come tolds s0 s1) (sym (refilled old.levels levels many))
-    (is-through t old k v d.gone d.come mays new e h final rules exits count listed others levels top s0 s1 tolds many climbed))
+    subst (λ (gs : List GivenOf). IsThrough t old (record { given = gs; last = old.last; levels = refill (length old.levels) old.levels levels; top = top }) v d.gone d.come tolds) (sym whole)
+    (subst (λ (ls : List Level). IsThrough t old (record { given = final; last = old.last; levels = ls; top = top }) v d.gone d.come tolds) (sym (refilled old.levels levels many))
+    (is-through t old k v d.gone d.come mays new e h final rules exits count listed others levels top tolds many climbed))
+
+pub returns-clause-steps : goal.returns-clause-steps
+returns-clause-steps g c t k mays after handed apart =
+    let old = c.args.self.now in
+    let v = c.args.v in
+    let d = c.args.delta.now in
+    let new = c.hand_over.new.given in
+    let e = c.in_ok-event.event in
+    let h = subst (λ (gs : List GivenOf). IsHandedOver gs new v d.gone d.come e) c.as_mut_slice.ensures.value c.in_ok-event.ensures in
+    let turns = c.deref.result.now in
+    let still = subst (AllByRecursion (λ (u : Turn). u ≡ no_turn)) (sym c.deref.ensures.value) c.in_ok-turns.ensures in
+    climb-after t old k v d.gone d.come mays new e h after handed apart c.as_slice-2.result.now c.as_slice-3.result.now c.as_mut_slice-2.result.now turns (c.as_slice-2.ensures ∙ refilled old.given new h.event.count) c.as_slice-3.ensures
+    c.as_mut_slice-2.ensures.value still c.args.steps.now c.climb.new.steps (λ b. c.climb.ensures.steps (fabric t) (rules_at after) (ends t.plan) 0 old.given old.last b)
+
+pub returns-in_err-tolds-clause-steps : goal.returns-in_err-tolds-clause-steps
+returns-in_err-tolds-clause-steps g c t k mays after handed apart =
+    let old = c.args.self.now in
+    let v = c.args.v in
+    let d = c.args.delta.now in
+    let new = c.hand_over.new.given in
+    let e = c.in_ok-event.event in
+    let h = subst (λ (gs : List GivenOf). IsHandedOver gs new v d.gone d.come e) c.as_mut_slice.ensures.value c.in_ok-event.ensures in
+    let turns = c.deref.result.now in
+    let still = subst (AllByRecursion (λ (u : Turn). u ≡ no_turn)) (sym c.deref.ensures.value) c.in_ok-turns.ensures in
+    climb-after t old k v d.gone d.come mays new e h after handed apart c.as_slice-2.result.now c.as_slice-3.result.now c.as_mut_slice-2.result.now turns (c.as_slice-2.ensures ∙ refilled old.given new h.event.count) c.as_slice-3.ensures
+    c.as_mut_slice-2.ensures.value still c.args.steps.now c.climb.new.steps (λ b. c.climb.ensures.steps (fabric t) (rules_at after) (ends t.plan) 0 old.given old.last b)
+
+pub returns-in_err-list_come-clause-steps : goal.returns-in_err-list_come-clause-steps
+returns-in_err-list_come-clause-steps g c t k mays after handed apart =
+    let old = c.args.self.now in
+    let v = c.args.v in
+    let d = c.args.delta.now in
+    let new = c.hand_over.new.given in
+    let e = c.in_ok-event.event in
+    let h = subst (λ (gs : List GivenOf). IsHandedOver gs new v d.gone d.come e) c.as_mut_slice.ensures.value c.in_ok-event.ensures in
+    let turns = c.deref.result.now in
+    let still = subst (AllByRecursion (λ (u : Turn). u ≡ no_turn)) (sym c.deref.ensures.value) c.in_ok-turns.ensures in
+    climb-after t old k v d.gone d.come mays new e h after handed apart c.as_slice-2.result.now c.as_slice-3.result.now c.as_mut_slice-2.result.now turns (c.as_slice-2.ensures ∙ refilled old.given new h.event.count) c.as_slice-3.ensures
+    c.as_mut_slice-2.ensures.value still c.args.steps.now c.climb.new.steps (λ b. c.climb.ensures.steps (fabric t) (rules_at after) (ends t.plan) 0 old.given old.last b)
