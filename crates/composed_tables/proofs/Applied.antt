@@ -97,7 +97,7 @@ gone-there v delta r trees told tied changed parted there =
 -- ---- of the setting after
 
 module _ (v : ℕ) (delta : LeafDelta) (s s' : Setting) (c : Changes v delta s s') where
-  same-switches : s'.network.switches ≡ s.network.switches
+  pub same-switches : s'.network.switches ≡ s.network.switches
   same-switches = ap (λ (z : Setting). z.network.switches) c.rest
 
   back-at : (u : ℕ) (x : SwitchOf) → slice_get s'.network.switches u ≡ Some x → slice_get s.network.switches u ≡ Some x
@@ -110,6 +110,7 @@ module _ (v : ℕ) (delta : LeafDelta) (s s' : Setting) (c : Changes v delta s s
   pub laid-after : (t : TableOf) (rules : List (List Rule)) → IsLaidOut s t → IsLaidOut s' (record t { rules = rules })
   laid-after t rules l = record {
     hops = l.hops ∙ sym (ap (λ (z : Setting). z.hops) c.rest);
+    count = l.count ∙ ap length (sym same-switches);
     sizes = λ u. l.sizes u ∙ (size-same (slice_get s.network.switches u)
         ∙ ap (λ (z : List SwitchOf). switch_size s'.network.tables (slice_get z u)) (sym same-switches));
     links_are = λ u. l.links_are u ∙ ap (λ (z : List SwitchOf). switch_links (slice_get z u)) (sym same-switches);

@@ -1,6 +1,6 @@
 -- The composed rules of a setting, made from scratch.
-use Rattle.std.proofs.Common.{◌≡◌, ℕ, ◌<◌, ◌^◌, Bool, false, List, Option, Some, length, map, refl, sym, ap, subst, ◌∙◌, arith}
-use Rattle.std.specs.Prelude.{Contains, not, slice_get, slice_index_or}
+use Rattle.std.proofs.Common.{◌≡◌, ℕ, ◌+◌, ◌<◌, ◌≤◌, ◌^◌, Bool, false, List, Option, Some, length, map, refl, sym, ap, subst, ◌∙◌, arith}
+use Rattle.std.specs.Prelude.{Contains, not, slice_get, slice_index_or, sum_by}
 use Rattle.std.specs.List.{AllByRecursion}
 use Rattle.std.specs.Option.{option_map_or}
 use Rattle.std.proofs.lemmas.List.{length-map}
@@ -19,7 +19,8 @@ use Rattle.policy_meaning.proofs.Lists.{all-map}
 use Rattle.switch_meaning.proofs.Members.{from-place, in-filter, place as place-in}
 use Rattle.virtual_topology.specs.declared.plan.TopologyPlan.{TopologyPlan}
 use Rattle.virtual_topology.specs.Wires.{Joint, outside_joints}
-use Rattle.composed_tables.specs.Rules.{AreHandedOver, AreRulesOf, AreSound, AreTied, AreTreesOf, IsEmptyTable, IsLaidOut, IsOutside, IsReadyFor, LeadsToParted, RulesOf}
+use Rattle.composed_tables.specs.Rules.{AreHandedOver, AreRulesOf, AreSound, AreTied, AreTreesOf, IsEmptyTable, IsLaidOut, IsOutside, IsReadyFor, KeepsRest, LeadsToParted, RulesOf}
+use Rattle.composed_tables.specs.Steps.{building_steps, compile_steps, first_steps}
 use Rattle.composed_tables.proofs.Building.{over-hops}
 use Rattle.composed_tables.proofs.Pushing.{index-mapped}
 
@@ -43,15 +44,15 @@ module _ (s : Setting) (plan : TopologyPlan) (ready : IsReadyFor plan s) (sizes 
       ∙ ap (λ (o : Option SwitchOf). option_map_or (λ (y : SwitchOf). y.whole) o false) at)
 
   module _ (trees : List Tree) (empty hops : TableOf) (is : IsEmptyTable sizes whole empty) (plan-is : empty.plan ≡ plan) (hops-are : empty.hops ≡ s.hops)
-      (over : AreHandedOver trees empty hops) (count : length trees ≡ length s.network.switches) where
+      (rest : KeepsRest empty hops) (count : length trees ≡ length s.network.switches) where
     plan-same : hops.plan ≡ plan
-    plan-same = ap (λ (z : TableOf). z.plan) over.rest ∙ plan-is
+    plan-same = ap (λ (z : TableOf). z.plan) rest ∙ plan-is
 
     sizes-same : hops.sizes ≡ sizes
-    sizes-same = ap (λ (z : TableOf). z.sizes) over.rest ∙ is.sizes_are
+    sizes-same = ap (λ (z : TableOf). z.sizes) rest ∙ is.sizes_are
 
     wholes-same : hops.whole ≡ whole
-    wholes-same = ap (λ (z : TableOf). z.whole) over.rest ∙ is.wholes
+    wholes-same = ap (λ (z : TableOf). z.whole) rest ∙ is.wholes
 
     whole-of : (v : ℕ) (x : SwitchOf) → slice_get s.network.switches v ≡ Some x → is_whole hops v ≡ x.whole
     whole-of v x at = ap (λ (z : List Bool). slice_index_or z v false) wholes-same ∙ whole-at v x at
@@ -66,7 +67,8 @@ module _ (s : Setting) (plan : TopologyPlan) (ready : IsReadyFor plan s) (sizes 
 
     laid-out : IsLaidOut s hops
     laid-out = record {
-      hops = ap (λ (z : TableOf). z.hops) over.rest ∙ hops-are;
+      hops = ap (λ (z : TableOf). z.hops) rest ∙ hops-are;
+      count = ap (λ (z : TopologyPlan). length z.virtuals) plan-same ∙ sym ready.count;
       sizes = λ v. ap (λ (z : List ℕ). slice_index_or z v 1) sizes-same ∙ size-at v;
       links_are = λ v. ap (λ (z : TopologyPlan). links z v) plan-same ∙ ready.links_are v;
       leads = λ v. subst (λ (z : TopologyPlan). AllByRecursion (LeadsToParted s.network) (links z v)) (sym plan-same) (ready.leads v);
@@ -81,16 +83,30 @@ module _ (s : Setting) (plan : TopologyPlan) (ready : IsReadyFor plan s) (sizes 
       pub made-of : AreRulesOf s made
       made-of = record { count = count; trees_are = trees-are; laid_out = laid-out }
 
-      pub made-tied : AreTied made
-      made-tied = record {
-        kept = ap (λ (z : TableOf). z.lost) over.rest ∙ is.kept;
+      pub made-tied : AreHandedOver trees empty hops → AreTied made
+      made-tied over = record {
+        kept = ap (λ (z : TableOf). z.lost) rest ∙ is.kept;
         sizes = sizes-same;
         wholes = wholes-same;
         count = ap length sizes-are ∙ (length-map s.network.switches (λ (x : SwitchOf). capped (levels_of s.network.tables x.expr)) ∙ sym count);
         count_whole = ap length whole-are ∙ (length-map s.network.switches (λ (x : SwitchOf). x.whole) ∙ sym count);
         sound = sound;
-        each = λ v t at w. over.each v t at (sym (ap (λ (z : TableOf). is_whole z v) over.rest) ∙ w);
+        each = λ v t at w. over.each v t at (sym (ap (λ (z : TableOf). is_whole z v) rest) ∙ w);
       }
+
+  -- the steps of compiling and of handing over
+  pub made-steps : (trees : List Tree) (empty : TableOf) → IsEmptyTable sizes whole empty → empty.plan ≡ plan → empty.hops ≡ s.hops → length trees ≡ length s.network.switches
+      → AreTreesOf s.network trees → AreSound trees → (items : List Tree) → items ≡ trees → (s0 s1 s2 : ℕ) → s1 ≤ s0 + sum_by (compile_steps s.network.tables) s.network.switches
+      → ((s : Setting) → AreSound items → AreRulesOf s (record { trees = items; sizes = sizes; whole = whole; hops = empty }) → s2 ≤ s1 + first_steps empty.plan s (length items))
+      → s2 ≤ s0 + building_steps plan s
+  made-steps trees empty is plan-is hops-are count are sound items same s0 s1 s2 compiled handed =
+      let of = made-of trees empty empty is plan-is hops-are refl count are sound in
+      let there : s2 ≤ s1 + first_steps empty.plan s (length items) =
+      handed s (subst AreSound (sym same) sound) (subst (λ (z : List Tree). AreRulesOf s (record { trees = z; sizes = sizes; whole = whole; hops = empty })) (sym same) of) in
+      let now : s2 ≤ s1 + first_steps plan s (length s.network.switches) =
+      subst (λ (z : TopologyPlan). s2 ≤ s1 + first_steps z s (length s.network.switches)) plan-is
+      (subst (λ (n : ℕ). s2 ≤ s1 + first_steps empty.plan s n) (ap length same ∙ count) there) in
+      omega (arith, compiled, now)
 
   -- the sizes over hops leave room for priorities
   pub few-over-hops : IsFittingSetting s → (v : ℕ) → hop_size (fabric (empty_table plan sizes s.hops whole)) s.hops v < 2 ^ 64

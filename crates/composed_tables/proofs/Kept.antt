@@ -16,8 +16,9 @@ use Rattle.policy_meaning.specs.Networks.{fabric_of, ports_of, switch_rules, tab
 use Rattle.policy_meaning.specs.Rules.{rules_of}
 use Rattle.policy_meaning.specs.Switches.{SwitchOf}
 use Rattle.policy_meaning.specs.declared.network.Link.{Link}
+use Rattle.policy_meaning.specs.declared.network.Network.{Network}
 use Rattle.policy_meaning.proofs.Lists.{all-map}
-use Rattle.composed_tables.specs.Rules.{AreRulesOf, AreTied, LeadsToParted, RulesOf}
+use Rattle.composed_tables.specs.Rules.{AreRulesOf, AreSound, AreTied, AreTreesOf, LeadsToParted, RulesOf}
 use Rattle.composed_tables.proofs.Nodes.{node-same}
 use Rattle.composed_tables.proofs.Trees.{from-scratch}
 
@@ -36,16 +37,20 @@ within {A} xs n lt = by (slice_get_cases xs n).1
 pub beside : {A B : Type 0} (xs : List A) (ys : List B) (n : ℕ) (x : A) → length ys ≡ length xs → slice_get xs n ≡ Some x → There ys n
 beside xs ys n x e at = within ys n (let lt = slice_get_within xs n x at in omega arith)
 
+-- the rules of a compiled expression
+pub rules-of-tree : (net : Network) (trees : List Tree) → AreSound trees → AreTreesOf net trees → (v : ℕ) (x : SwitchOf) (t : Tree)
+    → slice_get net.switches v ≡ Some x → slice_get trees v ≡ Some t → IsPermutation (rules_at (tree_of t)) (switch_rules net.tables (Some x))
+rules-of-tree net trees sound are v x t at is =
+    let f = are v x t at is in
+    let sizes = λ (i : ℕ). table_size (slice_get net.tables i) in
+    let rules = λ (i : ℕ). table_rules (ports_of x) (slice_get net.tables i) in
+    subst (λ (e : Policy). IsPermutation (rules_at (tree_of t)) (rules_of sizes rules e)) f.policy
+    (from-scratch sizes rules (tree_of t) (sound v t is) f.tables_are)
+
 module _ (s : Setting) (r : RulesOf) (tied : AreTied r) (of : AreRulesOf s r) where
-  -- the rules of a compiled expression
   pub tree-rules : (v : ℕ) (x : SwitchOf) (t : Tree) → slice_get s.network.switches v ≡ Some x → slice_get r.trees v ≡ Some t
       → IsPermutation (rules_at (tree_of t)) (switch_rules s.network.tables (Some x))
-  tree-rules v x t at is =
-      let f = of.trees_are v x t at is in
-      let sizes = λ (i : ℕ). table_size (slice_get s.network.tables i) in
-      let rules = λ (i : ℕ). table_rules (ports_of x) (slice_get s.network.tables i) in
-      subst (λ (e : Policy). IsPermutation (rules_at (tree_of t)) (rules_of sizes rules e)) f.policy
-      (from-scratch sizes rules (tree_of t) (tied.sound v t is) f.tables_are)
+  tree-rules v x t at is = rules-of-tree s.network r.trees tied.sound of.trees_are v x t at is
 
   -- a virtual switch that isn't all of its physical switch
   abbrev pub Parted : ℕ → Type 0
@@ -54,7 +59,7 @@ module _ (s : Setting) (r : RulesOf) (tied : AreTied r) (of : AreRulesOf s r) wh
   closed : (v : ℕ) → Parted v → AllByRecursion (λ (l : Link). Parted l.peer.v) ((fabric r.hops).links v)
   closed v p = all-map (LeadsToParted s.network) (λ (l : Link). Parted l.peer.v) (links r.hops.plan v) (λ l f. (f.to, f.there, f.parted)) (of.laid_out.leads v)
 
-  kept-rules : (v : ℕ) → Parted v → IsPermutation ((fabric r.hops).rules v) ((fabric_of s.network).rules v)
+  pub kept-rules : (v : ℕ) → Parted v → IsPermutation ((fabric r.hops).rules v) ((fabric_of s.network).rules v)
   kept-rules v p =
       let t = beside s.network.switches r.trees v p.0 of.count p.1 in
       let open-there : is_whole r.hops v ≡ false = of.laid_out.whole v p.0 p.1 ∙ p.2 in

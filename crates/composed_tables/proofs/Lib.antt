@@ -14,3 +14,7 @@ pub mod Building
 pub mod Pushing
 pub mod Changing
 pub mod Built
+pub mod HopSteps
+pub mod Places
+pub mod Spending
+pub mod Starting

@@ -96,6 +96,7 @@ pub record IsWholeAt (n : ℕ) (batch : Batch) (before now : List SwitchTableOf)
 pub record AreMoved (v : ℕ) (delta : LeafDelta) (w : Wiring) (switches : List SwitchOf) (next : ℕ) (r r' : RulesOf)
     (old new : List SwitchTableOf) (batches : List SwitchBatch) : Type 0 where
   pub tied : AreTied r'
+  pub plan : r'.hops.plan ≡ r.hops.plan
   pub rules : (before after : Setting) → AreRulesOf before r → Changes v delta before after → AreRulesOf after r'
   pub deltas : List PortDelta
   pub exact : (before after : Setting) → AreRulesOf before r → Changes v delta before after

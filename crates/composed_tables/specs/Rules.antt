@@ -9,7 +9,7 @@ use Rattle.incr_compile.specs.Compiling.{IsMemberDelta, IsOf, IsOfTables, Member
 use Rattle.incr_compile.specs.Trees.{IsTree, TreeOf, has_member, tree_of}
 use Rattle.incr_compile.specs.declared.compiled.LeafDelta.{LeafDelta}
 use Rattle.incr_compile.specs.declared.tree.Tree.{Tree}
-use Rattle.list_change.specs.Changes.{Changed}
+use Rattle.list_change.specs.Changes.{Apart, Changed}
 use Rattle.of10_match.specs.Normal.{IsNormal}
 use Rattle.op_compose.specs.declared.delta.RuleDelta.{RuleDelta}
 use Rattle.policy_expr.specs.Policy.{members_of}
@@ -63,6 +63,7 @@ pub record LeadsToParted (net : Network) (l : Link) : Type 0 where
 -- the table of hops has the links, sizes and outside ports of a setting
 pub record IsLaidOut (s : Setting) (t : TableOf) : Type 0 where
   pub hops : t.hops ≡ s.hops
+  pub count : length t.plan.virtuals ≡ length s.network.switches
   pub sizes : (v : ℕ) → (fabric t).sizes v ≡ (fabric_of s.network).sizes v
   pub links_are : (v : ℕ) → links t.plan v ≡ switch_links (slice_get s.network.switches v)
   pub leads : (v : ℕ) → AllByRecursion (LeadsToParted s.network) (links t.plan v)
@@ -90,6 +91,7 @@ pub record IsTreeChanged (delta : LeafDelta) (told : RuleDelta) (before after : 
   pub policy : policy_in after ≡ policy_in before
   pub members : (sizes : ℕ → ℕ) (rules rules' : ℕ → List Rule) → MemberChanges delta rules rules' → IsOf sizes rules before → IsOf sizes rules' after
   pub rules : Changed (rules_at before) (rules_at after) told.gone told.come
+  pub apart : Apart told.gone told.come
 
 -- that of one virtual switch did, and all others are as they were
 pub record IsChangedAt (v : ℕ) (delta : LeafDelta) (before after : List Tree) (told : RuleDelta) : Type 0 where

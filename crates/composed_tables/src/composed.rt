@@ -1,5 +1,5 @@
 //! The composed part of a setting: its rules, and what is to stand on each switch.
-ghost use Rattle.std.specs.Prelude.{◌≡◌, ◌<◌, ◌^◌, [], ℕ, IfOk, IfSome, IsSome, None, OnErr, OnOk, Some, is_some};
+ghost use Rattle.std.specs.Prelude.{◌≡◌, ◌+◌, ◌<◌, ◌≤◌, ◌^◌, [], ℕ, IfOk, IfSome, IsSome, None, OnErr, OnOk, Some, is_some};
 ghost use Rattle.std.specs.Prelude.{length, map, slice_get, true};
 ghost use Rattle.std.specs.List.{range_with_len};
 ghost use Rattle.agreement.specs.Entries.{entries_of as entries_of_of};
@@ -11,7 +11,8 @@ ghost use Rattle.composed_tables.specs.Composing.{IsStandingOf, IsWholeAt, WasOf
 ghost use Rattle.switch_tables.specs.Turning.{AreBatches, AreKept, AreTurned, HaveNow, IsUndoneAt, StandAsBefore};
 ghost use Rattle.switch_tables.specs.Turning.{up_of};
 ghost use Rattle.composed_tables.specs.Placing.{entry_delta};
-ghost use Rattle.composed_tables.specs.Rules.{AreTied, CanTake, IsReadyFor, RulesOf};
+ghost use Rattle.composed_tables.specs.Rules.{AreRulesOf, AreTied, CanTake, IsReadyFor, RulesOf};
+ghost use Rattle.composed_tables.specs.Steps.{building_steps, setting_steps};
 ghost use Rattle.switch_tables.specs.Tables.{HasNow};
 
 use crate::placing::entry_deltas;
@@ -25,6 +26,7 @@ use policy_meaning::VirtualSwitch;
 use std::alloc::Global;
 use std::marker::Model;
 use std::sync::ledger::Ledger;
+use std::thread::Threads;
 use switch_meaning::Wiring;
 use switch_tables::{SwitchBatch, SwitchTable, change_all, undo_all};
 use virtual_topology::Topology;
@@ -146,6 +148,8 @@ fn turn_all<G: Ledger>(
     ensures moved { IfOk result
         (AreMoved v delta wiring.now switches.now next rules.old rules.new tables.old tables.new) }
     ensures ups { IfOk result (λ batches. map up_of batches ≡ ups.now) }
+    ensures steps { (before after : SettingOf) → AreRulesOf before rules.old → Changes v delta before after
+        → steps.new ≤ steps.old + setting_steps rules.old.hops.plan before after }
     ensures memory { OnErr result (AreKept tables.old tables.new) }
 {
     let deltas = rules.apply(alloc, v, delta, steps)?;
@@ -185,6 +189,8 @@ fn turn_some<G: Ledger>(
         (IsMovedFrom v delta wiring.now switches.now next rules.old rules.new tables.old tables.new) }
     ensures ups { IfOk result (λ batches. map up_of batches ≡ ups.now) }
     ensures none { OnErr result (rules.new ≡ None) }
+    ensures steps { (r : RulesOf) → rules.old ≡ Some r → (before after : SettingOf) → AreRulesOf before r
+        → Changes v delta before after → steps.new ≤ steps.old + setting_steps r.hops.plan before after }
     ensures memory { OnErr result (AreKept tables.old tables.new) }
 {
     let Some(mut there) = rules.take() else {
@@ -224,7 +230,8 @@ fn are_tables(tables: &List<SwitchTable>)
 
 impl Composed {
     /// That of a setting, from scratch.
-    pub fn build<G: Ledger>(
+    pub fn build<R: Threads + Sync, G: Ledger>(
+        rt: &R,
         alloc: Global,
         topology: &Topology,
         setting: &Setting,
@@ -236,8 +243,11 @@ impl Composed {
         requires few { length setting.now.switches < 2 ^ 32 }
         ensures of { IfOk result (IsOf setting.now) }
         ensures compiled { IfOk result (λ c. is_some c.rules ≡ true) }
+        ensures plan { IfOk result (λ c. (r : RulesOf) → c.rules ≡ Some r → r.hops.plan ≡ topology.now) }
+        // Whatever the result.
+        ensures steps { steps.new ≤ steps.old + building_steps topology.now setting.now }
     {
-        let rules = Rules::build(alloc, topology, setting, steps)?;
+        let rules = Rules::build(rt, alloc, topology, setting, steps)?;
         let tables = tables_of(alloc, setting)?;
         let wiring = setting.wiring.copy()?;
         let switches = setting.network.switches.copy()?;
@@ -258,8 +268,9 @@ impl Composed {
     }
 
     /// The rules are made anew, from the setting of which the rest is.
-    pub fn restore<G: Ledger>(
+    pub fn restore<R: Threads + Sync, G: Ledger>(
         &mut self,
+        rt: &R,
         topology: &Topology,
         setting: &Setting,
         steps: &mut Steps<G>,
@@ -270,8 +281,12 @@ impl Composed {
         ensures of { IsOf setting.now self.new }
         ensures compiled { OnOk result (is_some self.new.rules ≡ true) }
         ensures tables { self.new.tables ≡ self.old.tables }
+        ensures plan { OnOk result ((r : RulesOf) → self.new.rules ≡ Some r → r.hops.plan ≡ topology.now) }
+        ensures memory { OnErr result (self.new ≡ self.old) }
+        // Whatever the result.
+        ensures steps { steps.new ≤ steps.old + building_steps topology.now setting.now }
     {
-        let rules = Rules::build(self.alloc, topology, setting, steps)?;
+        let rules = Rules::build(rt, self.alloc, topology, setting, steps)?;
         self.rules = Some(rules);
         Ok(())
     }
@@ -298,6 +313,10 @@ impl Composed {
         ensures ups { IfOk result (λ batches. map up_of batches ≡ ups.now) }
         ensures memory { (before : SettingOf) → IsOf before self.old → OnErr result (IsOf before self.new) }
         ensures memory_standing { OnErr result (StandAsBefore self.old.tables self.new.tables) }
+        ensures plan { (r s : RulesOf) → self.old.rules ≡ Some r → self.new.rules ≡ Some s → s.hops.plan ≡ r.hops.plan }
+        // Whatever the result, by the settings before and after.
+        ensures steps { (r : RulesOf) → self.old.rules ≡ Some r → (before after : SettingOf) → IsOf before self.old
+            → Changes v delta before after → steps.new ≤ steps.old + setting_steps r.hops.plan before after }
     {
         let batches = turn_some(
             self.alloc,
@@ -338,6 +357,7 @@ impl Composed {
         requires { n < length self.old.tables }
         ensures of { (s : SettingOf) → IsOf s self.old → IsOf s self.new }
         ensures was { (s : SettingOf) → WasOf s self.old → WasOf s self.new }
+        ensures rules { self.new.rules ≡ self.old.rules }
         ensures deletes { IfOk result (λ batch. batch.deletes ≡ []) }
         ensures standing { (s : SettingOf) → IsGood s → IsOf s self.old
             → IfOk result (λ batch. IsStandingOf s n batch.adds) }

@@ -1,12 +1,19 @@
 //! The composed rules: those of the expression of each virtual switch, and those of its ports through hops.
-ghost use Rattle.std.specs.Prelude.{◌≡◌, ◌<◌, ◌^◌, ◌++◌, ◌∷◌, [], ℕ, All, false, IfOk, IsPermutation, IsTrue, List};
-ghost use Rattle.std.specs.Prelude.{OnOk, Some, length, map, slice_get, slice_index_or};
+ghost use Rattle.std.specs.Prelude.{◌≡◌, ◌+◌, ◌<◌, ◌≤◌, ◌^◌, ◌++◌, ◌∷◌, [], ℕ, All, false, IfOk, IsPermutation, IsTrue, List};
+ghost use Rattle.std.specs.Prelude.{OnOk, Some, length, map, slice_get, slice_index_or, sum_by};
 ghost use Rattle.std.specs.List.{AllByRecursion};
 ghost use Rattle.agreement.specs.Fitting.{IsFittingSetting};
 ghost use Rattle.agreement.specs.declared.state.Setting.{Setting as SettingOf};
 ghost use Rattle.alg_priority.specs.Levels.{capped};
-ghost use Rattle.hop_rules.specs.Tables.{IsHanded, empty_table, fabric, is_whole, rules_at as rules_kept};
+ghost use Rattle.hop_rules.specs.Counts.{change_steps};
+ghost use Rattle.hop_rules.specs.Links.{ends};
+ghost use Rattle.hop_rules.specs.Tables.{IsHanded, TableOf, empty_table, fabric, is_whole, own_ports};
+ghost use Rattle.hop_rules.specs.Tables.{rules_at as rules_kept};
+ghost use Rattle.incr_compile.specs.Compiling.{IsOf as IsTreeWith, MemberChanges, policy_in};
+ghost use Rattle.incr_compile.specs.Costs.{steps_of};
 ghost use Rattle.incr_compile.specs.Trees.{IsTree, tree_of};
+ghost use Rattle.incr_compile.specs.declared.tree.Tree.{Tree};
+ghost use Rattle.list_change.specs.Changes.{Apart};
 ghost use Rattle.of10_match.specs.Normal.{IsNormal};
 ghost use Rattle.policy_meaning.specs.Fitting.{IsFittingTable, levels_of};
 ghost use Rattle.policy_meaning.specs.Hops.{hop_size};
@@ -16,6 +23,8 @@ ghost use Rattle.composed_tables.specs.Composing.{AreExact, Changes, rules_in};
 ghost use Rattle.composed_tables.specs.Rules.{ArePortDeltas, AreRulesOf, AreSound, AreTied, AreTreesOf, CanChangeAt};
 ghost use Rattle.composed_tables.specs.Rules.{CanCompile};
 ghost use Rattle.composed_tables.specs.Rules.{AreHandedOver, IsAdded, IsEmptyTable, IsHandedOver};
+ghost use Rattle.composed_tables.specs.Steps.{HasFirst, building_steps, compile_steps, first_fabric, first_steps};
+ghost use Rattle.composed_tables.specs.Steps.{hop_steps, setting_steps};
 ghost use Rattle.composed_tables.specs.Rules.{CanTake, IsChangedAt, IsFitting, IsReadyFor, IsTreeOf};
 
 use agreement::Setting;
@@ -28,6 +37,7 @@ use policy_meaning::{Network, Rule, VirtualSwitch, expression_size};
 use std::alloc::Global;
 use std::marker::Model;
 use std::sync::ledger::Ledger;
+use std::thread::Threads;
 use virtual_topology::Topology;
 
 /// A compiled expression for each virtual switch, and the rules of their ports.
@@ -81,7 +91,8 @@ fn are_fitting(size: u64, rules: &List<Rule>) -> bool
 }
 
 /// Appends the compiled expression of a virtual switch.
-fn add_tree<G: Ledger>(
+fn add_tree<R: Threads + Sync, G: Ledger>(
+    rt: &R,
     alloc: Global,
     trees: &mut List<Compiled>,
     network: &Network,
@@ -91,10 +102,11 @@ fn add_tree<G: Ledger>(
 ) -> Result<(), Memory>
     requires can { CanCompile network.now }
     requires there { slice_get network.now.switches v ≡ Some x.now }
-    ensures { OnOk result (IsAdded network.now.tables x.now trees.old trees.new) }
+    ensures added { OnOk result (IsAdded network.now.tables x.now trees.old trees.new) }
+    ensures steps { steps.new ≤ steps.old + compile_steps network.now.tables x.now }
 {
     let ports = x.ports(alloc)?;
-    let tree = Compiled::build(alloc, &x.expr, &network.tables, &ports, steps)?;
+    let tree = Compiled::build(rt, alloc, &x.expr, &network.tables, &ports, steps)?;
     // Where the tree would be dropped, the proof learns that it is sound.
     trees.reserve(1)?;
     trees.push(tree)?;
@@ -102,7 +114,8 @@ fn add_tree<G: Ledger>(
 }
 
 /// The compiled expressions of all virtual switches.
-fn compile_all<G: Ledger>(
+fn compile_all<R: Threads + Sync, G: Ledger>(
+    rt: &R,
     alloc: Global,
     network: &Network,
     steps: &mut Steps<G>,
@@ -111,11 +124,12 @@ fn compile_all<G: Ledger>(
     ensures count { IfOk result (λ trees. length trees ≡ length network.now.switches) }
     ensures trees { IfOk result (AreTreesOf network.now) }
     ensures sound { IfOk result AreSound }
+    ensures steps { steps.new ≤ steps.old + sum_by (compile_steps network.now.tables) network.now.switches }
 {
     let mut trees = List::new(alloc);
     let switches = network.switches.as_slice();
     for v in 0..switches.len() {
-        add_tree(alloc, &mut trees, network, v, &switches[v], steps)?;
+        add_tree(rt, alloc, &mut trees, network, v, &switches[v], steps)?;
     }
     Ok(trees)
 }
@@ -193,6 +207,9 @@ fn change_ports<G: Ledger>(
     requires gone { (kept : List RuleOf) × IsPermutation (rules_kept hops.old v) (told.now.gone ++ kept) }
     ensures handed { OnOk result (IsHanded hops.old hops.new v told.now.gone told.now.come) }
     ensures deltas { IfOk result (ArePortDeltas hops.old hops.new) }
+    ensures steps { (after : TableOf) → IsHanded hops.old after v told.now.gone told.now.come
+        → Apart told.now.gone told.now.come → steps.new ≤ steps.old
+        + change_steps (fabric hops.old) (fabric after) (ends hops.old.plan) (own_ports hops.old) hops.old.hops }
 {
     let size = size_at(sizes, v);
     if !are_fitting(size, &told.come) {
@@ -220,7 +237,10 @@ fn hand_over<G: Ledger>(
     requires sizes_are { hops.old.sizes ≡ sizes.now }
     requires wholes_are { hops.old.whole ≡ whole.now }
     requires none { rules_kept hops.old v ≡ [] }
-    ensures { OnOk result (IsHandedOver v trees.now hops.old hops.new) }
+    ensures handed { OnOk result (IsHandedOver v trees.now hops.old hops.new) }
+    ensures steps { (s : SettingOf) → AreSound trees.now → HasFirst s v hops.old → AreRulesOf s
+        (record { trees = trees.now; sizes = sizes.now; whole = whole.now; hops = hops.old })
+        → steps.new ≤ steps.old + hop_steps hops.old.plan s (first_fabric s.network v) (first_fabric s.network (v + 1)) }
 {
     if whole_at(whole, v) {
         return Ok(());
@@ -245,7 +265,10 @@ fn hand_over_all<G: Ledger>(
     requires count { length sizes.now ≡ length trees.now }
     requires wholes { length whole.now ≡ length trees.now }
     requires empty { IsEmptyTable sizes.now whole.now hops.old }
-    ensures { OnOk result (AreHandedOver trees.now hops.old hops.new) }
+    ensures handed { OnOk result (AreHandedOver trees.now hops.old hops.new) }
+    ensures steps { (s : SettingOf) → AreSound trees.now → AreRulesOf s
+        (record { trees = trees.now; sizes = sizes.now; whole = whole.now; hops = hops.old })
+        → steps.new ≤ steps.old + first_steps hops.old.plan s (length trees.now) }
 {
     for v in 0..trees.len() {
         hand_over(alloc, hops, sizes, whole, trees, v as u32, steps)?;
@@ -278,7 +301,8 @@ fn empty_hops(
 
 impl Rules {
     /// The composed rules of a setting of this topology, from scratch.
-    pub fn build<G: Ledger>(
+    pub fn build<R: Threads + Sync, G: Ledger>(
+        rt: &R,
         alloc: Global,
         topology: &Topology,
         setting: &Setting,
@@ -288,9 +312,12 @@ impl Rules {
         requires ready { IsReadyFor topology.now setting.now }
         ensures tied { IfOk result AreTied }
         ensures rules { IfOk result (AreRulesOf setting.now) }
+        ensures plan { IfOk result (λ r. r.hops.plan ≡ topology.now) }
+        // Whatever the result.
+        ensures steps { steps.new ≤ steps.old + building_steps topology.now setting.now }
     {
         let network = &setting.network;
-        let trees = compile_all(alloc, network, steps)?;
+        let trees = compile_all(rt, alloc, network, steps)?;
         let sizes = sizes(alloc, network)?;
         let whole = wholes(alloc, network)?;
         let mut hops = empty_hops(alloc, topology, &sizes, &whole, setting.hops)?;
@@ -318,6 +345,10 @@ impl Rules {
             → Changes v delta before after → OnOk result (AreRulesOf after self.new) }
         ensures exact { (before after : SettingOf) → AreRulesOf before self.old → Changes v delta before after
             → IfOk result (AreExact before.network.switches (rules_in before) (rules_in after)) }
+        ensures plan { OnOk result (self.new.hops.plan ≡ self.old.hops.plan) }
+        // Whatever the result.
+        ensures steps { (before after : SettingOf) → AreRulesOf before self.old → Changes v delta before after
+            → steps.new ≤ steps.old + setting_steps self.old.hops.plan before after }
     {
         let told = change_tree(&mut self.trees, v, delta, steps)?;
         if whole_at(&self.whole, v) {
@@ -337,7 +368,10 @@ fn change_tree<G: Ledger>(
     steps: &mut Steps<G>,
 ) -> Result<RuleDelta, Memory>
     requires { CanChangeAt trees.old v delta }
-    ensures { IfOk result (IsChangedAt v delta trees.old trees.new) }
+    ensures changed { IfOk result (IsChangedAt v delta trees.old trees.new) }
+    ensures steps { (t : Tree) → slice_get trees.old v ≡ Some t
+        → (sizes : ℕ → ℕ) → (before after : ℕ → List RuleOf) → MemberChanges delta before after
+        → IsTreeWith sizes before (tree_of t) → steps.new ≤ steps.old + steps_of sizes before after (policy_in (tree_of t)) }
 {
     // Taken out: where the tree would be dropped, the proof learns that it is sound.
     let mut tree = trees.remove(v as usize);

@@ -15,9 +15,19 @@ returns-clause-moved g c =
     let e = c.in_ok-deltas.ensures in
     record {
       tied = e.tied;
+      plan = e.plan;
       rules = e.rules;
       deltas = c.as_slice.result.now;
       exact = λ before after of ch. subst (AreExact before.network.switches (rules_in before) (rules_in after)) (sym c.as_slice.ensures) (e.exact before after of ch);
       count = c.in_ok-batches.ensures.count;
       turned = c.in_ok-batches.ensures.turned;
     }
+
+pub returns-in_err-deltas-clause-steps : goal.returns-in_err-deltas-clause-steps
+returns-in_err-deltas-clause-steps g c before after of ch = c.apply.ensures.steps before after of ch
+
+pub returns-in_err-batches-clause-steps : goal.returns-in_err-batches-clause-steps
+returns-in_err-batches-clause-steps g c before after of ch = c.apply.ensures.steps before after of ch
+
+pub returns-clause-steps : goal.returns-clause-steps
+returns-clause-steps g c before after of ch = c.apply.ensures.steps before after of ch

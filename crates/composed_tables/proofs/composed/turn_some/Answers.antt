@@ -1,7 +1,9 @@
-use Rattle.std.proofs.Common.{refl, sym, subst, ◌∙◌}
+use Rattle.std.proofs.Common.{◌≡◌, ◌+◌, ◌≤◌, refl, sym, subst, ◌∙◌}
 use Rattle.std.specs.Prelude.{IfSome}
 use Rattle.switch_tables.proofs.Outcomes.{on-err}
-use Rattle.composed_tables.specs.Rules.{AreTied}
+use Rattle.switch_meaning.proofs.Items.{some_injective}
+use Rattle.composed_tables.specs.Rules.{AreRulesOf, AreTied, RulesOf}
+use Rattle.composed_tables.specs.Steps.{setting_steps}
 use Rattle.composed_tables.proofs.composed.turn_some.Goals as goal
 
 pub turn_all-requires-clause-tied : goal.turn_all-requires-clause-tied
@@ -30,3 +32,15 @@ returns-clause-moved g c = record {
   is = refl;
   moved = c.in_ok-batches.ensures.moved;
 }
+
+pub returns-in_err-batches-clause-steps : goal.returns-in_err-batches-clause-steps
+returns-in_err-batches-clause-steps g c r e before after of ch =
+    let same : c.in-Some.there ≡ r = some_injective (sym (sym c.take.ensures.value ∙ c.in-Some.is) ∙ e) in
+    subst (λ (z : RulesOf). c.turn_all.new.steps ≤ c.args.steps.now + setting_steps z.hops.plan before after) same
+    (c.turn_all.ensures.steps before after (subst (AreRulesOf before) (sym same) of) ch)
+
+pub returns-clause-steps : goal.returns-clause-steps
+returns-clause-steps g c r e before after of ch =
+    let same : c.in-Some.there ≡ r = some_injective (sym (sym c.take.ensures.value ∙ c.in-Some.is) ∙ e) in
+    subst (λ (z : RulesOf). c.turn_all.new.steps ≤ c.args.steps.now + setting_steps z.hops.plan before after) same
+    (c.turn_all.ensures.steps before after (subst (AreRulesOf before) (sym same) of) ch)

@@ -11,3 +11,9 @@ returns-clause-handed g c = c.in_ok-deltas.ensures.handed c.requires.parted
 
 pub returns-clause-deltas : goal.returns-clause-deltas
 returns-clause-deltas g c = record { ports = c.in_ok-deltas.ensures.ports c.requires.parted; others = c.in_ok-deltas.ensures.others c.requires.parted }
+
+pub returns-in_err-deltas-clause-steps : goal.returns-in_err-deltas-clause-steps
+returns-in_err-deltas-clause-steps g c after handed apart = c.apply.ensures.steps c.requires.parted after handed apart
+
+pub returns-clause-steps : goal.returns-clause-steps
+returns-clause-steps g c after handed apart = c.apply.ensures.steps c.requires.parted after handed apart

@@ -1,5 +1,6 @@
-use Rattle.std.proofs.Common.{List, Option, length, refl, ap, sym, subst, ◌∙◌, arith}
+use Rattle.std.proofs.Common.{◌≡◌, List, Option, Some, None, length, refl, ap, sym, subst, ◌∙◌, arith}
 use Rattle.std.specs.Prelude.{is_some}
+use Rattle.switch_meaning.proofs.Items.{some_injective}
 use Rattle.switch_tables.specs.Tables.{SwitchTableOf}
 use Rattle.switch_tables.specs.Turning.{AreBatches, StandAsBefore}
 use Rattle.switch_tables.proofs.Outcomes.{on-err}
@@ -67,3 +68,23 @@ returns-clause-batches g c =
     let new : ComposedOf = record { wiring = i.wiring; switches = i.switches; rules = c.turn_some.new.rules; tables = c.turn_some.new.tables } in
     subst (λ (z : List SwitchTableOf). AreBatches c.args.next z c.turn_some.new.tables c.in_ok-batches.batches) (ap (λ (z : ComposedOf). z.tables) c.self.view_is)
     (batches-moved c.args.v c.args.delta c.args.next old new c.in_ok-batches.batches refl refl c.in_ok-batches.ensures.long c.in_ok-batches.ensures.moved)
+
+pub returns-in_err-batches-clause-plan : goal.returns-in_err-batches-clause-plan
+returns-in_err-batches-clause-plan g c r s was is = let none : None ≡ Some s = sym c.in_err-batches.ensures.none ∙ is in cc
+
+pub returns-clause-plan : goal.returns-clause-plan
+returns-clause-plan g c r s was is =
+    let m = c.in_ok-batches.ensures.moved in
+    let from : m.from ≡ r = some_injective (sym m.was ∙ (ap (λ (z : ComposedOf). z.rules) c.self.view_is ∙ was)) in
+    let to : m.to ≡ s = some_injective (sym m.is ∙ is) in
+    ap (λ (z : RulesOf). z.hops.plan) (sym to) ∙ (m.moved.plan ∙ ap (λ (z : RulesOf). z.hops.plan) from)
+
+pub returns-in_err-batches-clause-steps : goal.returns-in_err-batches-clause-steps
+returns-in_err-batches-clause-steps g c r was before after of ch =
+    let rules = ap (λ (z : ComposedOf). z.rules) c.self.view_is ∙ was in
+    c.turn_some.ensures.steps r rules before after (of.rules r was) ch
+
+pub returns-clause-steps : goal.returns-clause-steps
+returns-clause-steps g c r was before after of ch =
+    let rules = ap (λ (z : ComposedOf). z.rules) c.self.view_is ∙ was in
+    c.turn_some.ensures.steps r rules before after (of.rules r was) ch

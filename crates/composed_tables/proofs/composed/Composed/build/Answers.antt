@@ -1,7 +1,7 @@
-use Rattle.std.proofs.Common.{List, length, ap, subst, arith}
+use Rattle.std.proofs.Common.{List, length, ap, sym, subst, ◌∙◌, arith}
 use Rattle.policy_meaning.specs.Switches.{SwitchOf}
 use Rattle.switch_meaning.proofs.Items.{some_injective}
-use Rattle.composed_tables.specs.Rules.{AreRulesOf}
+use Rattle.composed_tables.specs.Rules.{AreRulesOf, RulesOf}
 use Rattle.composed_tables.proofs.composed.Composed.build.Goals as goal
 
 pub invariant_of-result : goal.invariant_of-result
@@ -20,3 +20,6 @@ returns-clause-of g c = record {
   tables = c.in_ok-tables.ensures.now;
   count = c.in_ok-tables.ensures.count;
 }
+
+pub returns-clause-plan : goal.returns-clause-plan
+returns-clause-plan g c r e = ap (λ (z : RulesOf). z.hops.plan) (sym (some_injective e)) ∙ c.in_ok-rules.ensures.plan

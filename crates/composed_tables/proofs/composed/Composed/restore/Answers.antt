@@ -2,8 +2,9 @@ use Rattle.std.proofs.Common.{length, ap, sym, subst, ◌∙◌}
 use Rattle.agreement.specs.Entries.{entries_of}
 use Rattle.switch_meaning.proofs.Items.{some_injective}
 use Rattle.switch_tables.specs.Turning.{HaveNow}
+use Rattle.switch_tables.proofs.Outcomes.{on-err}
 use Rattle.composed_tables.specs.Composing.{ComposedOf}
-use Rattle.composed_tables.specs.Rules.{AreRulesOf}
+use Rattle.composed_tables.specs.Rules.{AreRulesOf, RulesOf}
 use Rattle.composed_tables.proofs.composed.Composed.restore.Goals as goal
 
 pub invariant_of-self : goal.invariant_of-self
@@ -20,3 +21,9 @@ returns-clause-of g c =
       tables = subst (HaveNow (entries_of s)) (sym (ap (λ (z : ComposedOf). z.tables) c.self.view_is)) o.tables;
       count = ap (λ (z : ComposedOf). length z.tables) c.self.view_is ∙ o.count;
     }
+
+pub returns-clause-plan : goal.returns-clause-plan
+returns-clause-plan g c r e = ap (λ (z : RulesOf). z.hops.plan) (sym (some_injective e)) ∙ c.in_ok-rules.ensures.plan
+
+pub returns-in_err-rules-clause-memory : goal.returns-in_err-rules-clause-memory
+returns-in_err-rules-clause-memory g c = on-err c.from_residual.result _ c.self.view_is
