@@ -26,3 +26,4 @@ pub mod Following
 pub mod KeptOn
 pub mod Serials
 pub mod Bounds
+pub mod Still

@@ -1,5 +1,5 @@
 -- How many steps of composition an event takes at most.
-use Rattle.std.specs.Prelude.{ℕ, zero, suc, ◌+◌, ◌&&◌, not, Bool, true, false, Option, Some, None, if◌then◌else◌, length}
+use Rattle.std.specs.Prelude.{◌≡◌, ℕ, zero, suc, ◌+◌, ◌&&◌, not, Bool, true, false, Option, Some, None, if◌then◌else◌, length, map}
 use Rattle.composed_tables.specs.Steps.{building_steps, setting_steps}
 use Rattle.events.specs.declared.event.Event.{Event}
 use Rattle.events.specs.declared.event.Event.TheVariants.{Take}
@@ -7,6 +7,7 @@ use Rattle.events.specs.declared.event.Reply.{Reply}
 use Rattle.events.specs.declared.event.Reply.TheVariants.{Replaced}
 use Rattle.policy_file.specs.Policies.{PolicyOf, plan}
 use Rattle.setting_laws.specs.Mixed.{mixed}
+use Rattle.setting_laws.specs.Staying.{kept_of}
 use Rattle.machine_meaning.specs.Glances.{glance_of}
 use Rattle.machine_meaning.specs.Hearing.{heard}
 use Rattle.machine_meaning.specs.Phases.{is_empty, nobody, settled_of, slow}
@@ -80,3 +81,13 @@ cost_in d e = cost_of d.plan (state_in d) e
 
 unfoldable pub most_in : StateData → Event → ℕ
 most_in d e = most_of d.plan (state_in d) e
+
+-- an event changes no member's table, no session is closed as slow, and no expression replaced
+pub record IsStill (p : PolicyOf) (s : State) (e : Event) : Type 0 where
+  pub tables : map kept_of (settled_of p (heard s e) e nobody).state.members ≡ map kept_of s.members
+  pub none_slow : is_empty (slow p (heard s e) e) ≡ true
+  pub none_replaced : is_replaced (settled_of p (heard s e) e nobody).reply ≡ false
+
+-- then what is kept takes no step to follow it
+abbrev pub StillTakesNone : Type 0
+StillTakesNone = (d : StateData) (e : Event) → IsStill d.plan (state_in d) e → cost_in d e ≡ 0

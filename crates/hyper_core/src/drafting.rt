@@ -155,7 +155,7 @@ pub(crate) fn draft_event<G: Ledger>(
     let mut closing = Closing::nobody(setup.alloc());
     let mut left = held.switches.len() + held.members.len();
     loop {
-        let tried = attempt(
+        match attempt(
             setup,
             held,
             event,
@@ -164,8 +164,7 @@ pub(crate) fn draft_event<G: Ledger>(
             left == 0,
             composed,
             steps,
-        )?;
-        match tried {
+        )? {
             Trial::Ready(drafted) => return Ok(drafted),
             Trial::Slow(more) => closing.join(more)?,
         }

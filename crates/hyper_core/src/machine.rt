@@ -2,7 +2,7 @@
 ghost use Rattle.std.specs.Prelude.{◌≡◌, true};
 ghost use Rattle.hyper_core.specs.Meanings.{MeaningsAreStates, NextIsStep, data_in, idle_stays, is_idle, next_data};
 ghost use Rattle.hyper_core.specs.Meanings.{reply_to};
-ghost use Rattle.hyper_core.specs.Costs.{cost_in, most_in};
+ghost use Rattle.hyper_core.specs.Costs.{StillTakesNone, cost_in, most_in};
 
 use crate::hyper::Hyper;
 use cv_io::{Duplicate, Memory, Steps};
@@ -85,4 +85,10 @@ pub fn meanings_are_states()
 /// Whatever a machine means, the reply to an event and the next meaning are those of the step.
 pub fn next_is_step()
     ensures { NextIsStep }
+{}
+
+/// An event that changes no member's table, replaces no expression and closes no session as slow takes no step where the
+/// composed part is kept.
+pub fn still_events_take_none()
+    ensures { StillTakesNone }
 {}
