@@ -23,7 +23,7 @@ ghost use Rattle.hyper_core.specs.Turning.{stood_in};
 ghost use Rattle.machine_drafts.specs.SwitchDrafts.{SwitchDraftOf, with_written};
 
 use crate::composed::fitting;
-use crate::keeping::{compose_on, put};
+use crate::keeping::{compose_on, set_kept};
 use crate::sources::Source;
 use crate::unchanged::is_unchanged;
 use composed_tables::Composed;
@@ -311,13 +311,13 @@ pub(crate) fn compose<G: Ledger>(
         return Ok(());
     }
     if is_replaced(&draft.reply) {
-        put(composed, None);
+        set_kept(composed, None);
         return compose_anew(setup, draft);
     }
     let Some(kept) = composed.take() else {
         return compose_anew(setup, draft);
     };
     let kept = compose_kept(setup, draft, kept, steps)?;
-    put(composed, Some(kept));
+    set_kept(composed, Some(kept));
     Ok(())
 }

@@ -15,7 +15,7 @@ ghost use Rattle.machine_meaning.specs.Phases.{draft_of, drafted as drafted_of, 
 ghost use Rattle.machine_meaning.specs.Rounds.{close as close_of};
 
 use crate::composing::compose;
-use crate::keeping::put as keep;
+use crate::keeping::set_kept;
 use composed_tables::Composed;
 use cv_io::{Memory, Steps};
 use events::Event;
@@ -169,7 +169,7 @@ pub(crate) fn draft_event<G: Ledger>(
             Trial::Slow(more) => closing.join(more)?,
         }
         // It may have followed the draft that is dropped.
-        keep(composed, None);
+        set_kept(composed, None);
         left -= 1;
     }
 }

@@ -115,7 +115,7 @@ fn has_numbers(held: &Held) -> bool
 }
 
 /// This is kept from now on.
-pub(crate) fn put(kept: &mut Option<Composed>, now: Option<Composed>)
+pub(crate) fn set_kept(kept: &mut Option<Composed>, now: Option<Composed>)
     ensures { kept.new ≡ now }
 {
     *kept = now;
@@ -136,12 +136,12 @@ pub(crate) fn keep<R: Threads + Sync, G: Ledger>(
         else building_steps_of setup.now (state_in_held held.now)) }
 {
     if !has_numbers(held) {
-        put(composed, None);
+        set_kept(composed, None);
         return;
     }
     if composed.is_some() {
         return;
     }
     let made = build(rt, setup, held, steps);
-    put(composed, made);
+    set_kept(composed, made);
 }

@@ -14,7 +14,7 @@ ghost use Rattle.machine_meaning.specs.Steps.{done, step_of};
 
 use crate::drafting::draft_event;
 use crate::glances::glance;
-use crate::keeping::{keep, put};
+use crate::keeping::{keep, set_kept};
 use crate::overtaking::hear;
 use crate::takings::take;
 use composed_tables::Composed;
@@ -112,7 +112,7 @@ pub(crate) fn proceed<R: Threads + Sync, G: Ledger>(
         }
         Err(Memory) => {
             // It may have followed the event.
-            put(composed, None);
+            set_kept(composed, None);
             overtaken.take_back(&mut held.counts);
             Err(Memory)
         }

@@ -29,7 +29,7 @@ pub returns-then-is_replaced-clause-kept : goal.returns-then-is_replaced-clause-
 returns-then-is_replaced-clause-kept g c =
     in_ok_case c.compose_anew-then-is_replaced.result
     (subst (λ (k : Option ComposedOf). IfSome k
-    (IsComposedOf c.args.setup.now (draft_in c.args.draft.now).state)) (sym c.put-then-is_replaced.ensures) tt)
+    (IsComposedOf c.args.setup.now (draft_in c.args.draft.now).state)) (sym c.set_kept-then-is_replaced.ensures) tt)
 
 -- the reply says so
 pub returns-then-is_replaced-clause-follows : goal.returns-then-is_replaced-clause-follows
@@ -49,17 +49,17 @@ returns-in_default-clause-follows g c some no =
 pub returns-clause-kept : goal.returns-clause-kept
 returns-clause-kept g c =
     subst (λ (k : Option ComposedOf). IfSome k
-    (IsComposedOf c.args.setup.now (draft_in c.args.draft.now).state)) (sym c.put.ensures) c.in_ok-kept.ensures.kept
+    (IsComposedOf c.args.setup.now (draft_in c.args.draft.now).state)) (sym c.set_kept.ensures) c.in_ok-kept.ensures.kept
 
 pub returns-clause-follows : goal.returns-clause-follows
-returns-clause-follows g c some no = ap is_some c.put.ensures
+returns-clause-follows g c some no = ap is_some c.set_kept.ensures
 
 pub returns-clause-steps : goal.returns-clause-steps
 returns-clause-steps g c =
-    kept_steps_of c.args.composed.now c.in-Some.kept c.args.steps.now c.compose_kept-kept.new.steps _
-    (sym c.take.ensures.value ∙ c.in-Some.is) c.compose_kept-kept.ensures.steps
+    kept_steps_of c.args.composed.now c.in-Some.kept c.args.steps.now c.compose_kept.new.steps _
+    (sym c.take.ensures.value ∙ c.in-Some.is) c.compose_kept.ensures.steps
 
 pub returns-in_err-kept-clause-steps : goal.returns-in_err-kept-clause-steps
 returns-in_err-kept-clause-steps g c =
-    kept_steps_of c.args.composed.now c.in-Some.kept c.args.steps.now c.compose_kept-kept.new.steps _
-    (sym c.take.ensures.value ∙ c.in-Some.is) c.compose_kept-kept.ensures.steps
+    kept_steps_of c.args.composed.now c.in-Some.kept c.args.steps.now c.compose_kept.new.steps _
+    (sym c.take.ensures.value ∙ c.in-Some.is) c.compose_kept.ensures.steps

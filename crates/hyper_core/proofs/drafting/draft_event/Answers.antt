@@ -81,16 +81,16 @@ loop-closing-preserved g c =
     c.loop-closing.invariant.state c.attempt.ensures.steps in
     record {
       state = same;
-      kept = subst (λ (k : Option ComposedOf). IfSome k (IsBegun p s e)) (sym c.put.ensures) tt;
+      kept = subst (λ (k : Option ComposedOf). IfSome k (IsBegun p s e)) (sym c.set_kept.ensures) tt;
       rest = ap (slow_from (c.loop-closing.left - 1) p s e) c.in_ok-join-in-Slow.ensures ∙ anew;
-      first = λ some. absurd (true≢false (sym some ∙ ap is_some c.put.ensures));
+      first = λ some. absurd (true≢false (sym some ∙ ap is_some c.set_kept.ensures));
       follows = λ some none.
           absurd (true≢false (sym none
           ∙ slow_some (c.loop-closing.left - 1) p s e closing (closing_of c.in-Slow.more) put.2 anew));
       steps =
           subst (λ (k : Option ComposedOf). c.attempt.new.steps + kept_steps k (first_steps p s e)
           ≤ c.args.steps.now + first_steps p s e)
-          (sym c.put.ensures)
+          (sym c.set_kept.ensures)
           (tried p s e closing c.loop-closing.composed c.args.steps.now c.loop-closing.steps c.attempt.new.steps
           c.loop-closing.invariant.first c.loop-closing.invariant.steps taken);
     }

@@ -58,7 +58,7 @@ returns-in_err-overtaken-clause-kept g c =
     (sym c.in_err-overtaken.ensures.memory) c.requires.kept
 
 pub returns-in-Ok-clause-kept : goal.returns-in-Ok-clause-kept
-returns-in-Ok-clause-kept g c = c.keep-in-Ok.ensures.kept
+returns-in-Ok-clause-kept g c = c.keep.ensures.kept
 
 pub returns-in-Ok-clause-done : goal.returns-in-Ok-clause-done
 returns-in-Ok-clause-done g c =
@@ -90,7 +90,7 @@ returns-in-Err-clause-all g c =
 
 pub returns-in-Err-clause-kept : goal.returns-in-Err-clause-kept
 returns-in-Err-clause-kept g c =
-    subst (IsKept c.args.setup.now _) (sym c.put-in-Err.ensures)
+    subst (IsKept c.args.setup.now _) (sym c.set_kept.ensures)
     (kept_none c.args.setup.now _
     (subst (IsSoundWhile c.args.setup.now)
     (sym (taken_back c.args.held.now c.hear.new.held c.drive.new.held c.take_back.new.counts
@@ -114,8 +114,8 @@ returns-in-Ok-clause-cost g c there =
     (step_other p s e c.requires.changes c.requires.drafted
     ∙ sym (c.in-Ok.ensures.done ∙ ap (λ (z : State). done p (drafted p z e)) c.in_ok-overtaken.ensures.heard)) in
     followed p s e (state_in_held c.hear.new.held) (state_in_held c.drive.new.held) c.args.steps.now c.drive.new.steps
-    c.keep-in-Ok.new.steps (is_some c.drive.new.composed) c.in_ok-overtaken.ensures.heard is
-    (c.in-Ok.ensures.follows there) c.drive.ensures.steps c.keep-in-Ok.ensures.steps
+    c.keep.new.steps (is_some c.drive.new.composed) c.in_ok-overtaken.ensures.heard is
+    (c.in-Ok.ensures.follows there) c.drive.ensures.steps c.keep.ensures.steps
 
 pub returns-in-Ok-clause-most : goal.returns-in-Ok-clause-most
 returns-in-Ok-clause-most g c =
@@ -127,8 +127,8 @@ returns-in-Ok-clause-most g c =
     (step_other p s e c.requires.changes c.requires.drafted
     ∙ sym (c.in-Ok.ensures.done ∙ ap (λ (z : State). done p (drafted p z e)) c.in_ok-overtaken.ensures.heard)) in
     whole p s e (state_in_held c.hear.new.held) (state_in_held c.drive.new.held) c.args.steps.now c.drive.new.steps
-    c.keep-in-Ok.new.steps (is_some c.drive.new.composed) c.in_ok-overtaken.ensures.heard is c.drive.ensures.steps
-    c.keep-in-Ok.ensures.steps
+    c.keep.new.steps (is_some c.drive.new.composed) c.in_ok-overtaken.ensures.heard is c.drive.ensures.steps
+    c.keep.ensures.steps
 
 pub returns-in-Err-clause-cost : goal.returns-in-Err-clause-cost
 returns-in-Err-clause-cost g c there =
