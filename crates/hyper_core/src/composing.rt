@@ -317,7 +317,7 @@ pub(crate) fn compose<G: Ledger>(
     let Some(kept) = composed.take() else {
         return compose_anew(setup, draft);
     };
-    let kept = compose_kept(setup, draft, kept, steps)?;
-    set_kept(composed, Some(kept));
+    let followed = compose_kept(setup, draft, kept, steps)?;
+    set_kept(composed, Some(followed));
     Ok(())
 }

@@ -49,7 +49,7 @@ returns-in_default-clause-follows g c some no =
 pub returns-clause-kept : goal.returns-clause-kept
 returns-clause-kept g c =
     subst (λ (k : Option ComposedOf). IfSome k
-    (IsComposedOf c.args.setup.now (draft_in c.args.draft.now).state)) (sym c.set_kept.ensures) c.in_ok-kept.ensures.kept
+    (IsComposedOf c.args.setup.now (draft_in c.args.draft.now).state)) (sym c.set_kept.ensures) c.in_ok-followed.ensures.kept
 
 pub returns-clause-follows : goal.returns-clause-follows
 returns-clause-follows g c some no = ap is_some c.set_kept.ensures
@@ -59,7 +59,7 @@ returns-clause-steps g c =
     kept_steps_of c.args.composed.now c.in-Some.kept c.args.steps.now c.compose_kept.new.steps _
     (sym c.take.ensures.value ∙ c.in-Some.is) c.compose_kept.ensures.steps
 
-pub returns-in_err-kept-clause-steps : goal.returns-in_err-kept-clause-steps
-returns-in_err-kept-clause-steps g c =
+pub returns-in_err-followed-clause-steps : goal.returns-in_err-followed-clause-steps
+returns-in_err-followed-clause-steps g c =
     kept_steps_of c.args.composed.now c.in-Some.kept c.args.steps.now c.compose_kept.new.steps _
     (sym c.take.ensures.value ∙ c.in-Some.is) c.compose_kept.ensures.steps

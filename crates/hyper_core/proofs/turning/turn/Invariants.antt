@@ -11,5 +11,5 @@ invariant-loop-n g l = record {
   of : IsComposedOf l.setup (mixed_at l.n l.draft) l.composed;
   told : AreTold l.draft.next_cookie l.initial.composed.tables l.composed.tables l.turned;
   steps : l.steps
-      ≤ l.initial.steps + sum_below (turning_steps_at l.setup (stood_in l.draft) (state_in l.draft)) l.n;
+      ≤ l.fn.steps + sum_below (turning_steps_at l.setup (stood_in l.draft) (state_in l.draft)) l.n;
 }
