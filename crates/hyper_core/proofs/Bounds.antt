@@ -68,6 +68,9 @@ spent_kept true false a b c f m kept first then = omega (arith, first, then)
 spent_kept false true a b c f m kept first then = absurd (true≢false (sym (kept refl)))
 spent_kept false false a b c f m kept first then = omega (arith, first, then)
 
+more_yet : (a b m n : ℕ) → b ≤ a + m → m ≤ n → b ≤ a + n
+more_yet a b m n h more = omega (arith, h, more)
+
 -- and where memory is wanted before
 wanting : (a b f m : ℕ) → b ≤ a + f → b ≤ a + (f + m)
 wanting a b f m h = omega (arith, h)
@@ -107,12 +110,12 @@ pub all_turned : (p : PolicyOf) (o : Outcome) (a b n : ℕ)
 unfolding turning_steps
 all_turned p o a b n steps few =
     let f = turning_steps_at p (stood_in o) (state_in o) in
-    let d = length o.members - n in
-    let long = length-map o.members (λ (m : MemberDraftOf). m.now) in
-    let end : n + d ≡ length (state_in o).members = omega (arith, few, long) in
+    let long : length (state_in o).members ≡ length o.members =
+    length-map o.members (λ (m : MemberDraftOf). m.now) in
+    let end : n + (length o.members - n) ≡ length o.members = omega (arith, few) in
     let more : sum_below f n ≤ sum_below f (length (state_in o).members) =
-    subst (λ (k : ℕ). sum_below f n ≤ sum_below f k) end (sum_more f n d) in
-    omega (arith, steps, more)
+    subst (λ (k : ℕ). sum_below f n ≤ sum_below f k) (end ∙ sym long) (sum_more f n (length o.members - n)) in
+    more_yet a b (sum_below f n) (sum_below f (length (state_in o).members)) steps more
 
 -- the draft of an event that settled changes members from how they stand
 pub drafted_steps : (p : PolicyOf) (h : Held) (now : ℕ) (o : Outcome) (x : Draft) → bases o ≡ bases_of now h
