@@ -25,6 +25,7 @@ use policy_file::Policy;
 use replay_report::Player;
 use script_text::Form;
 use std::alloc::Global;
+use std::thread::Threads;
 
 /// A replay of which nothing is done yet.
 fn begin(alloc: Global, form: Form, policy: Policy) -> Result<Player, Memory>
@@ -37,7 +38,8 @@ fn begin(alloc: Global, form: Form, policy: Policy) -> Result<Player, Memory>
 }
 
 /// Replays a script over a policy.
-fn replay<S: Source, K: Sink>(
+fn replay<R: Threads + Sync, S: Source, K: Sink>(
+    rt: &R,
     alloc: Global,
     form: Form,
     policy: Policy,
@@ -56,12 +58,13 @@ fn replay<S: Source, K: Sink>(
     let Ok(mut player) = begin(alloc, form, policy) else {
         return Status::Memory;
     };
-    let outcome = replay_over(&mut player, &mut lines, input, out);
+    let outcome = replay_over(rt, &mut player, &mut lines, input, out);
     conclude(alloc, &mut player, outcome, out)
 }
 
 /// Replays a script over the built-in policy.
-pub(crate) fn replay_built_in<S: Source, K: Sink>(
+pub(crate) fn replay_built_in<R: Threads + Sync, S: Source, K: Sink>(
+    rt: &R,
     alloc: Global,
     input: &mut S,
     out: &mut K,
@@ -73,13 +76,14 @@ pub(crate) fn replay_built_in<S: Source, K: Sink>(
     ensures whole { result ≡ Status.Done → IsAtEnd (S.remaining input.new) }
 {
     match open_built_in(alloc) {
-        Ok(policy) => replay(alloc, Form::Replay, policy, input, out),
+        Ok(policy) => replay(rt, alloc, Form::Replay, policy, input, out),
         Err(_) => Status::Memory,
     }
 }
 
 /// Replays a script over the policy of a file.
-pub(crate) fn replay_file<F: Files, S: Source, K: Sink>(
+pub(crate) fn replay_file<R: Threads + Sync, F: Files, S: Source, K: Sink>(
+    rt: &R,
     alloc: Global,
     form: Form,
     name: &Text,
@@ -94,17 +98,23 @@ pub(crate) fn replay_file<F: Files, S: Source, K: Sink>(
     ensures whole { result ≡ Status.Done → IsAtEnd (S.remaining input.new) }
 {
     match open(alloc, files, name) {
-        Ok(policy) => replay(alloc, form, policy, input, out),
+        Ok(policy) => replay(rt, alloc, form, policy, input, out),
         Err(fault) => tell(alloc, name, fault, out),
     }
 }
 
 /// Does a script that is made, and writes one line of numbers.
-pub(crate) fn make<K: Sink>(alloc: Global, seed: u64, count: u32, out: &mut K) -> Status
+pub(crate) fn make<R: Threads + Sync, K: Sink>(
+    rt: &R,
+    alloc: Global,
+    seed: u64,
+    count: u32,
+    out: &mut K,
+) -> Status
     ensures { EndsWith result (K.held out.old) (K.held out.new) (K.faults out.old) (K.faults out.new)
         [] (as_line (summary_text (made_of seed count))) }
 {
-    let Ok(line) = made_line(alloc, seed, count) else {
+    let Ok(line) = made_line(rt, alloc, seed, count) else {
         return Status::Memory;
     };
     match write_all(out, line.as_bytes()) {
@@ -114,10 +124,15 @@ pub(crate) fn make<K: Sink>(alloc: Global, seed: u64, count: u32, out: &mut K) -
 }
 
 /// The line of numbers of a script that is made.
-fn made_line(alloc: Global, seed: u64, count: u32) -> Result<Text, Memory>
+fn made_line<R: Threads + Sync>(
+    rt: &R,
+    alloc: Global,
+    seed: u64,
+    count: u32,
+) -> Result<Text, Memory>
     ensures { IfOk result (λ line. line ≡ as_line (summary_text (made_of seed count))) }
 {
-    let summary = make_report::make(alloc, seed, count)?;
+    let summary = make_report::make(rt, alloc, seed, count)?;
     let mut line = summary_line(alloc, &summary)?;
     line.push(b'\n')?;
     Ok(line)

@@ -207,16 +207,16 @@ where
     ensures whole { result ≡ Status.Done → has_script (Some command) ≡ true → IsAtEnd (S.remaining input.new) }
 {
     match command {
-        Command::Replay => replay_built_in(alloc, input, out),
+        Command::Replay => replay_built_in(rt, alloc, input, out),
         Command::ReplayPolicy { name } => {
-            replay_file(alloc, Form::Replay, &name, files, input, out)
+            replay_file(rt, alloc, Form::Replay, &name, files, input, out)
         }
         Command::ExplainPolicy { name } => {
-            replay_file(alloc, Form::Explain, &name, files, input, out)
+            replay_file(rt, alloc, Form::Explain, &name, files, input, out)
         }
         Command::Serve { name } => {
             serve_file(rt, alloc, &name, files, out, links, spawner, clock)
         }
-        Command::Make { seed, count } => make(alloc, seed, count, out),
+        Command::Make { seed, count } => make(rt, alloc, seed, count, out),
     }
 }

@@ -10,12 +10,14 @@ use crate::stop::Stop;
 use crate::writing::flush;
 use cv_io::{Sink, Source};
 use replay_report::{Kind, LINE, Player};
+use std::thread::Threads;
 
 /// How many bytes of the report wait before they are written, though more of the script is there.
 const FULL: usize = 65_536;
 
 /// Replays a script up to its end. What is reported of it last waits.
-pub(crate) fn replay_over<S: Source, K: Sink>(
+pub(crate) fn replay_over<R: Threads + Sync, S: Source, K: Sink>(
+    rt: &R,
     player: &mut Player,
     lines: &mut Lines,
     input: &mut S,
@@ -31,10 +33,10 @@ pub(crate) fn replay_over<S: Source, K: Sink>(
     // Each round reads or does a byte at least, and a script has at most 2^32: no run gets to the end of this range.
     for _ in 0..u64::MAX {
         match lines.take()? {
-            Taken::Whole => whole_line(player, lines, out)?,
+            Taken::Whole => whole_line(rt, player, lines, out)?,
             Taken::Part => {
                 if !more(player, lines, input, out)? {
-                    return last_line(player, lines.line());
+                    return last_line(rt, player, lines.line());
                 }
             }
         }
@@ -43,7 +45,12 @@ pub(crate) fn replay_over<S: Source, K: Sink>(
 }
 
 /// Does a line that takes so many bytes of the script.
-fn do_line(player: &mut Player, line: &[u8], used: usize) -> Result<(), Stop>
+fn do_line<R: Threads + Sync>(
+    rt: &R,
+    player: &mut Player,
+    line: &[u8],
+    used: usize,
+) -> Result<(), Stop>
     requires some { 1 ≤ used }
     requires short { used ≤ length line.now + 1 }
     ensures takes { OnOk result (Takes None
@@ -55,14 +62,19 @@ fn do_line(player: &mut Player, line: &[u8], used: usize) -> Result<(), Stop>
     ensures form { form_of player.new ≡ form_of player.old }
     ensures plan { plan_of player.new ≡ plan_of player.old }
 {
-    match player.line(line, used)? {
+    match player.line(rt, line, used)? {
         None => Ok(()),
         Some(kind) => Err(Stop::Refused { kind }),
     }
 }
 
 /// Does a line whose line feed was read.
-fn whole_line<K: Sink>(player: &mut Player, lines: &mut Lines, out: &mut K) -> Result<(), Stop>
+fn whole_line<R: Threads + Sync, K: Sink>(
+    rt: &R,
+    player: &mut Player,
+    lines: &mut Lines,
+    out: &mut K,
+) -> Result<(), Stop>
     ensures does { OnOk result (Does
         (taken (form_of player.old) (plan_of player.old) (progress_of player.old) lines.old.line (length lines.old.line + 1))
         (length lines.old.line + 1) (progress_of player.old) (progress_of player.new)
@@ -77,7 +89,7 @@ fn whole_line<K: Sink>(player: &mut Player, lines: &mut Lines, out: &mut K) -> R
     ensures form { form_of player.new ≡ form_of player.old }
     ensures plan { plan_of player.new ≡ plan_of player.old }
 {
-    do_line(player, lines.line(), lines.line().len() + 1)?;
+    do_line(rt, player, lines.line(), lines.line().len() + 1)?;
     lines.clear();
     if player.report().len() < FULL {
         return Ok(());
@@ -86,7 +98,7 @@ fn whole_line<K: Sink>(player: &mut Player, lines: &mut Lines, out: &mut K) -> R
 }
 
 /// Does what stands behind the last line feed, unless it is empty.
-fn last_line(player: &mut Player, line: &[u8]) -> Result<(), Stop>
+fn last_line<R: Threads + Sync>(rt: &R, player: &mut Player, line: &[u8]) -> Result<(), Stop>
     ensures closes { OnOk result (Closes (form_of player.old) (plan_of player.old) line.now
         (progress_of player.old) (progress_of player.new) (reported player.old) (reported player.new)) }
     ensures refused { IfErr result (λ stop. ClosesNot stop (form_of player.old) (plan_of player.old) line.now
@@ -95,7 +107,7 @@ fn last_line(player: &mut Player, line: &[u8]) -> Result<(), Stop>
     if line.is_empty() {
         return Ok(());
     }
-    do_line(player, line, line.len())
+    do_line(rt, player, line, line.len())
 }
 
 /// Reads on in a line, once all that was reported is written; false at the end of the script.

@@ -46,6 +46,7 @@ kept_unchanged p o c same h = record {
       (leaves_stay p (stood_in o) (state_in o)
       (record { exprs = same.exprs; kept = same_kept o.members same.members })) c h.of;
   compiled = h.compiled;
+  plan_is = h.plan_is;
 }
 
 pub unchanged_kept : (p : PolicyOf) (o : Outcome) (k : Option ComposedOf) → IsUnchanged o

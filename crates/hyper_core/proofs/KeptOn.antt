@@ -81,7 +81,7 @@ begun_one p h new e c given none is rest sound of =
           (drafts_sound heard_sound settled_sound p (state_in_held h) sound e given none closing
           (subst (λ (z : State). HaveSerials (settled_of p z e closing).state.members) is serials));
       given = given_sound p (state_in_held same) there;
-      of = record { of = kept.of; compiled = kept.compiled };
+      of = record { of = kept.of; compiled = kept.compiled; plan_is = kept.plan_is };
     }
 
 -- of what is kept, once the event was heard
@@ -113,7 +113,7 @@ kept_one p h e closing now d c is i = record {
       subst (λ (z : Draft). AreSoundTables p z.state) (sym is)
       (i.after closing (subst (λ (z : Draft). HaveSerials z.state.members) is serials));
   given = i.given;
-  of = record { of = i.of.of; compiled = i.of.compiled };
+  of = record { of = i.of.of; compiled = i.of.compiled; plan_is = i.of.plan_is };
 }
 
 -- what is kept as the event begins is what stands beside its draft
@@ -136,6 +136,7 @@ kept_done p s e reply new (Some c) is i =
     (record {
       of = settings_stay p settled after (leaves_stay p settled after (steps_stay p s e (slow p s e))) c i.of;
       compiled = i.compiled;
+      plan_is = i.plan_is;
     })
 
 -- takings -----------------------------------------------------------------------------------------------------------
@@ -158,6 +159,7 @@ taken_if p s session (Some c) i = record {
   of =
       settings_stay p s (left_after session s) (leaves_stay p s (left_after session s) (takings_stay session s)) c i.of;
   compiled = i.compiled;
+  plan_is = i.plan_is;
 }
 
 -- what is kept stays in a taking

@@ -25,3 +25,5 @@ pub mod Sourced
 pub mod Following
 pub mod KeptOn
 pub mod Serials
+pub mod Bounds
+pub mod Still

@@ -83,6 +83,7 @@ module _ (p : PolicyOf) (o : Outcome) (exprs : o.exprs.now ≡ o.exprs.base) whe
             settings_stay p (mixed (length s.members) s t) t
             (leaves_stay p (mixed (length s.members) s t) t lead.last) c last.of;
         compiled = last.compiled;
+        plan_is = last.plan_is;
       }
 
   module _ (n : ℕ) (item : MemberItem) (m : MemberDraftOf) (there : slice_get p.members n ≡ Some item)
@@ -108,6 +109,7 @@ module _ (p : PolicyOf) (o : Outcome) (exprs : o.exprs.now ≡ o.exprs.base) whe
           (mixtures_stay p s t as_many n item (member_of m.base) m.now there was is (ap (leaf_of n item.grant) same)) c
           h.of;
       compiled = h.compiled;
+      plan_is = h.plan_is;
     }
 
     -- where its rules change

@@ -3,10 +3,11 @@ use Rattle.std.specs.Prelude.{◌≡◌, ℕ, Bool, true, List, Option, Some, If
 use Rattle.agreement.specs.Entries.{entries_of}
 use Rattle.agreement.specs.declared.state.Setting.{Setting}
 use Rattle.composed_tables.specs.Composing.{ComposedOf, IsOf}
+use Rattle.composed_tables.specs.Rules.{RulesOf}
 use Rattle.events.specs.declared.event.Event.{Event}
 use Rattle.install_plan.specs.Tables.{entry_of}
 use Rattle.install_plan.specs.declared.written.Written.{Written}
-use Rattle.policy_file.specs.Policies.{PolicyOf}
+use Rattle.policy_file.specs.Policies.{PolicyOf, plan}
 use Rattle.setting_laws.specs.Drafted.{HaveSerials}
 use Rattle.switch_meaning.specs.Batches.{by_key}
 use Rattle.switch_meaning.specs.Keys.{installed}
@@ -18,10 +19,11 @@ use Rattle.machine_meaning.specs.States.{State}
 use Rattle.machine_drafts.specs.Outcomes.{Bases}
 use Rattle.machine_drafts.specs.Views.{member_of, standing_of, switch_of}
 
--- it is that of the setting of a state, and its rules are there
+-- it is that of the setting of a state, and its rules are there, over the policy's topology
 pub record IsComposedOf (p : PolicyOf) (s : State) (c : ComposedOf) : Type 0 where
   pub of : IsOf (setting_of p s) c
   pub compiled : is_some c.rules ≡ true
+  pub plan_is : (r : RulesOf) → c.rules ≡ Some r → r.hops.plan ≡ plan p
 
 -- a state is sound as long as numbers are left
 abbrev pub IsSoundWhile : PolicyOf → State → Type 0

@@ -1,6 +1,6 @@
 //! Each switch that is up is written the change from the entries that stand to those that the setting gives.
-ghost use Rattle.std.specs.Prelude.{◌≡◌, ◌==◌, ℕ, ◌<◌, ◌+◌, ◌^◌, ◌++◌, [], IfSome, IsTrue, OnOk, Some, false, length, map};
-ghost use Rattle.std.specs.Prelude.{slice_get};
+ghost use Rattle.std.specs.Prelude.{◌≡◌, ◌==◌, ℕ, ◌<◌, ◌≤◌, ◌+◌, ◌^◌, ◌++◌, [], IfOk, IfSome, IsTrue, OnOk, Some};
+ghost use Rattle.std.specs.Prelude.{false, is_some, length, map, slice_get, true};
 ghost use Rattle.agreement.specs.declared.state.Setting.{Setting as SettingOf};
 ghost use Rattle.cv_io.specs.declared.leaf.Who.{Who as WhoOf};
 ghost use Rattle.install_plan.specs.declared.written.Batch.{Batch as BatchOf};
@@ -12,20 +12,23 @@ ghost use Rattle.hyper_core.specs.Composed.{IsWrittenTo, with_composed, with_swi
 ghost use Rattle.machine_meaning.specs.Composing.{compose as compose_of, compose_all as compose_all_of};
 ghost use Rattle.machine_meaning.specs.Composing.{compose_at as compose_at_of};
 ghost use Rattle.machine_meaning.specs.Drafts.{Draft, letter};
+ghost use Rattle.hyper_core.specs.Costs.{is_replaced as is_replaced_of, kept_steps, turning_steps};
 ghost use Rattle.hyper_core.specs.Kept.{IsComposedOf, IsKeptBy};
 ghost use Rattle.machine_drafts.specs.Serials.{DraftsHaveSerials};
 ghost use Rattle.machine_drafts.specs.Outcomes.{bases, draft_in, standing_in, switch_bases, switches_in};
 ghost use Rattle.machine_meaning.specs.Sessions.{is_switch};
 ghost use Rattle.hyper_core.specs.Settled.{WasSettled};
 ghost use Rattle.hyper_core.specs.Sources.{CanGive, Gives, GivesAll};
+ghost use Rattle.hyper_core.specs.Turning.{stood_in};
 ghost use Rattle.machine_drafts.specs.SwitchDrafts.{SwitchDraftOf, with_written};
 
 use crate::composed::fitting;
-use crate::keeping::compose_kept;
+use crate::keeping::{compose_on, set_kept};
 use crate::sources::Source;
 use crate::unchanged::is_unchanged;
 use composed_tables::Composed;
-use cv_io::{List, Memory, Who};
+use cv_io::{List, Memory, Steps, Who};
+use events::Reply;
 use install_plan::Written;
 use machine_drafts::member_draft::MemberDraft;
 use machine_drafts::outcome::Outcome;
@@ -35,6 +38,7 @@ use machine_meaning::Letter;
 use outbox::Letters;
 use stats_map::Pending;
 use std::alloc::Global;
+use std::sync::ledger::Ledger;
 use told_batches::{Change, can_send};
 
 /// Whether the round of the switch of a number begins.
@@ -252,30 +256,68 @@ fn have_serials(members: &[MemberDraft<'_>]) -> bool
     members.iter().all(|member| member.has_serial())
 }
 
+/// An expression was replaced, as the reply says.
+fn is_replaced(reply: &Reply) -> bool
+    ensures { result ≡ is_replaced_of reply.now }
+{
+    match reply {
+        Reply::Replaced => true,
+        _ => false,
+    }
+}
+
+/// What is kept follows the event. Where the reply says nothing else expressions are as they stand, and serial numbers
+/// are left: so it is, always.
+fn compose_kept<G: Ledger>(
+    setup: &Setup,
+    draft: &mut Outcome<'_>,
+    mut kept: Composed,
+    steps: &mut Steps<G>,
+) -> Result<Composed, Memory>
+    requires settled { WasSettled setup.now (bases draft.old) }
+    requires kept { IsKeptBy setup.now (bases draft.old) (draft_in draft.old).state kept }
+    ensures drafted { OnOk result (draft_in draft.new ≡ compose_of setup.now (draft_in draft.old)) }
+    ensures bases { OnOk result (bases draft.new ≡ bases draft.old) }
+    ensures kept { IfOk result (IsComposedOf setup.now (draft_in draft.old).state) }
+    ensures steps { steps.new ≤ steps.old + turning_steps setup.now (stood_in draft.old) (draft_in draft.old).state }
+{
+    if !draft.exprs.is_kept() || !have_serials(draft.members.as_slice()) {
+        return Err(Memory);
+    }
+    compose_on(setup, draft, &mut kept, steps)?;
+    Ok(kept)
+}
+
 /// Each switch that is up is written the change from the entries that stand to those that the setting gives. There is
 /// none where the event changed nothing that composition reads. What is kept follows the event, unless an expression is
 /// replaced.
-pub(crate) fn compose(
+pub(crate) fn compose<G: Ledger>(
     setup: &Setup,
     draft: &mut Outcome<'_>,
     composed: &mut Option<Composed>,
+    steps: &mut Steps<G>,
 ) -> Result<(), Memory>
     requires settled { WasSettled setup.now (bases draft.old) }
     requires kept { IfSome composed.old (IsKeptBy setup.now (bases draft.old) (draft_in draft.old).state) }
     ensures drafted { OnOk result (draft_in draft.new ≡ compose_of setup.now (draft_in draft.old)) }
     ensures bases { OnOk result (bases draft.new ≡ bases draft.old) }
     ensures kept { OnOk result (IfSome composed.new (IsComposedOf setup.now (draft_in draft.old).state)) }
+    ensures follows { is_some composed.old ≡ true → is_replaced_of draft.old.reply ≡ false
+        → OnOk result (is_some composed.new ≡ true) }
+    ensures steps { steps.new ≤ steps.old + kept_steps composed.old
+        (turning_steps setup.now (stood_in draft.old) (draft_in draft.old).state) }
 {
     if is_unchanged(draft) {
         return Ok(());
     }
-    let Some(mut kept) = composed.take() else {
-        return compose_anew(setup, draft);
-    };
-    if !draft.exprs.is_kept() || !have_serials(draft.members.as_slice()) {
+    if is_replaced(&draft.reply) {
+        set_kept(composed, None);
         return compose_anew(setup, draft);
     }
-    compose_kept(setup, draft, &mut kept)?;
-    *composed = Some(kept);
+    let Some(kept) = composed.take() else {
+        return compose_anew(setup, draft);
+    };
+    let followed = compose_kept(setup, draft, kept, steps)?;
+    set_kept(composed, Some(followed));
     Ok(())
 }

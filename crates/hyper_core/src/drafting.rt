@@ -1,7 +1,8 @@
 //! An event is drafted: it goes through its phases, anew where sessions are put more than they may be.
-ghost use Rattle.std.specs.Prelude.{◌≡◌, IfOk, IfSome, OnOk};
+ghost use Rattle.std.specs.Prelude.{◌≡◌, ◌≤◌, ◌+◌, IfOk, IfSome, OnOk, false, is_some, true};
 ghost use Rattle.machine_drafts.specs.Acts.{IsJudgedFor};
 ghost use Rattle.machine_drafts.specs.Closings.{closing_of};
+ghost use Rattle.hyper_core.specs.Costs.{first_steps, is_followed, is_replaced, kept_steps, turning_steps};
 ghost use Rattle.hyper_core.specs.Drafting.{IsDraftOf, IsPutOf};
 ghost use Rattle.hyper_core.specs.Kept.{IsBegun, IsComposedOf};
 ghost use Rattle.machine_drafts.specs.Machines.{bases_of, state_in_held};
@@ -14,8 +15,9 @@ ghost use Rattle.machine_meaning.specs.Phases.{draft_of, drafted as drafted_of, 
 ghost use Rattle.machine_meaning.specs.Rounds.{close as close_of};
 
 use crate::composing::compose;
+use crate::keeping::set_kept;
 use composed_tables::Composed;
-use cv_io::Memory;
+use cv_io::{Memory, Steps};
 use events::Event;
 use machine_drafts::acting::{act, judge_event};
 use machine_drafts::beginning::begin_outcome;
@@ -30,6 +32,7 @@ use machine_drafts::settling::settle;
 use machine_drafts::setup::Setup;
 use machine_drafts::telling::tell;
 use std::alloc::Global;
+use std::sync::ledger::Ledger;
 
 /// The moment of an event.
 fn moment_of(event: &Event, told: u64) -> u64
@@ -55,7 +58,7 @@ fn close(alloc: Global, draft: &mut Outcome<'_>, closing: &Closing) -> Result<()
 }
 
 /// The draft of an event whose frame was judged, where these sessions are closed as slow.
-fn draft<'a>(
+fn draft<'a, G: Ledger>(
     setup: &Setup,
     held: &'a Held,
     event: &Event,
@@ -63,6 +66,7 @@ fn draft<'a>(
     heard: &Heard,
     closing: &Closing,
     composed: &mut Option<Composed>,
+    steps: &mut Steps<G>,
 ) -> Result<Outcome<'a>, Memory>
     requires numbers { HaveNumbers (bases_of (moment_of_event event.now held.now.moment) held.now) }
     requires whole { IsWhole event.now }
@@ -76,6 +80,11 @@ fn draft<'a>(
         bases o ≡ bases_of (moment_of_event event.now held.now.moment) held.now) }
     ensures kept { OnOk result (IfSome composed.new (IsComposedOf setup.now
         (settled_of setup.now (state_in_held held.now) event.now (closing_of closing.now)).state)) }
+    ensures follows { is_some composed.old ≡ true
+        → is_replaced (settled_of setup.now (state_in_held held.now) event.now (closing_of closing.now)).reply ≡ false
+        → OnOk result (is_some composed.new ≡ true) }
+    ensures steps { steps.new ≤ steps.old + kept_steps composed.old (turning_steps setup.now (state_in_held held.now)
+        (settled_of setup.now (state_in_held held.now) event.now (closing_of closing.now)).state) }
 {
     let alloc = setup.alloc();
     let now = moment_of(event, held.moment);
@@ -83,14 +92,14 @@ fn draft<'a>(
     act(setup, &mut draft, event, judged, heard)?;
     close(alloc, &mut draft, closing)?;
     settle(setup, &mut draft)?;
-    compose(setup, &mut draft, composed)?;
+    compose(setup, &mut draft, composed, steps)?;
     tell(setup, &mut draft)?;
     Ok(draft)
 }
 
 /// An event is judged and drafted, and its draft is put, where these sessions are closed as slow. What is held gets
 /// room for a change of a member's table, and stays as it is.
-fn attempt(
+fn attempt<G: Ledger>(
     setup: &Setup,
     held: &mut Held,
     event: &Event,
@@ -98,6 +107,7 @@ fn attempt(
     closing: &Closing,
     last: bool,
     composed: &mut Option<Composed>,
+    steps: &mut Steps<G>,
 ) -> Result<Trial, Memory>
     requires numbers { HaveNumbers (bases_of (moment_of_event event.now held.old.moment) held.old) }
     requires whole { IsWhole event.now }
@@ -108,19 +118,25 @@ fn attempt(
     ensures state { state_in_held held.new ≡ state_in_held held.old }
     ensures kept { OnOk result (IfSome composed.new (IsComposedOf setup.now
         (settled_of setup.now (state_in_held held.old) event.now (closing_of closing.now)).state)) }
+    ensures follows { is_some composed.old ≡ true
+        → is_replaced (settled_of setup.now (state_in_held held.old) event.now (closing_of closing.now)).reply ≡ false
+        → OnOk result (is_some composed.new ≡ true) }
+    ensures steps { steps.new ≤ steps.old + kept_steps composed.old (turning_steps setup.now (state_in_held held.old)
+        (settled_of setup.now (state_in_held held.old) event.now (closing_of closing.now)).state) }
 {
     let judged = judge_event(setup, held, event)?;
-    let drafted = draft(setup, held, event, judged, heard, closing, composed)?;
+    let drafted = draft(setup, held, event, judged, heard, closing, composed, steps)?;
     put(setup, drafted, last)
 }
 
 /// An event is drafted. What is held gets room for a change of a member's table, and stays as it is.
-pub(crate) fn draft_event(
+pub(crate) fn draft_event<G: Ledger>(
     setup: &Setup,
     held: &mut Held,
     event: &Event,
     heard: &Heard,
     composed: &mut Option<Composed>,
+    steps: &mut Steps<G>,
 ) -> Result<Drafted, Memory>
     requires numbers { HaveNumbers (bases_of (moment_of_event event.now held.old.moment) held.old) }
     requires whole { IsWhole event.now }
@@ -132,16 +148,28 @@ pub(crate) fn draft_event(
     ensures state { state_in_held held.new ≡ state_in_held held.old }
     ensures kept { OnOk result (IfSome composed.new (IsComposedOf setup.now (settled_of setup.now
         (state_in_held held.old) event.now (slow_of setup.now (state_in_held held.old) event.now)).state)) }
+    ensures follows { is_some composed.old ≡ true → is_followed setup.now (state_in_held held.old) event.now ≡ true
+        → OnOk result (is_some composed.new ≡ true) }
+    ensures steps { steps.new ≤ steps.old + first_steps setup.now (state_in_held held.old) event.now }
 {
     let mut closing = Closing::nobody(setup.alloc());
     let mut left = held.switches.len() + held.members.len();
     loop {
-        match attempt(setup, held, event, heard, &closing, left == 0, composed)? {
+        match attempt(
+            setup,
+            held,
+            event,
+            heard,
+            &closing,
+            left == 0,
+            composed,
+            steps,
+        )? {
             Trial::Ready(drafted) => return Ok(drafted),
             Trial::Slow(more) => closing.join(more)?,
         }
         // It may have followed the draft that is dropped.
-        *composed = None;
+        set_kept(composed, None);
         left -= 1;
     }
 }

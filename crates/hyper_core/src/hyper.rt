@@ -1,10 +1,11 @@
 //! The machine.
-ghost use Rattle.std.specs.Prelude.{◌≡◌, IfOk, OnErr, option_map};
+ghost use Rattle.std.specs.Prelude.{◌≡◌, ◌≤◌, ◌+◌, IfOk, OnErr, option_map, true};
 ghost use Rattle.packet_map.specs.Networks.{SeeRising, network_of};
 ghost use Rattle.policy_file.specs.Policies.{plan};
 ghost use Rattle.policy_file.specs.Sound.{IsSound};
 ghost use Rattle.machine_meaning.specs.Glances.{glance_of};
 ghost use Rattle.machine_drafts.specs.Machines.{state_of};
+ghost use Rattle.hyper_core.specs.Costs.{cost_of, most_of};
 ghost use Rattle.hyper_core.specs.Worlds.{AreTablesOf, installed_on, network_in, rule_count};
 ghost use Rattle.machine_meaning.specs.Sessions.{round_of};
 ghost use Rattle.machine_meaning.specs.States.{opening};
@@ -16,7 +17,7 @@ use crate::stepping::step as step_held;
 use crate::views::{installed, round, rules};
 use crate::worlds::{Tables, copied_tables, followed};
 use composed_tables::Composed;
-use cv_io::{Duplicate, Memory, Who};
+use cv_io::{Duplicate, Memory, Steps, Who};
 use events::{Event, Reply};
 use install_plan::Written;
 use machine_drafts::copying::copied_held;
@@ -26,6 +27,8 @@ use packet_map::World;
 use policy_file::Policy;
 use std::alloc::Global;
 use std::marker::Model;
+use std::sync::ledger::Ledger;
+use std::thread::Threads;
 use virtual_topology::Topology;
 
 /// The hypervisor.
@@ -80,14 +83,29 @@ impl Hyper {
         glance(&self.setup, &self.held, event)
     }
 
-    /// One step: the reply to an event. After want of memory all is as it was.
-    pub fn step(&mut self, event: &Event) -> Result<Reply, Memory>
+    /// One step: the reply to an event. After want of memory all is as it was. The steps of composition are counted.
+    pub fn step<R: Threads + Sync, G: Ledger>(
+        &mut self,
+        rt: &R,
+        event: &Event,
+        steps: &mut Steps<G>,
+    ) -> Result<Reply, Memory>
         ensures step { IfOk result (λ reply.
             (reply, state_of self.new) ≡ step_of self.old.plan (state_of self.old) event.now) }
         ensures plan { self.new.plan ≡ self.old.plan }
         ensures memory { OnErr result (state_of self.new ≡ state_of self.old) }
+        ensures cost { self.old.compiled ≡ true
+            → steps.new ≤ steps.old + cost_of self.old.plan (state_of self.old) event.now }
+        ensures most { steps.new ≤ steps.old + most_of self.old.plan (state_of self.old) event.now }
     {
-        step_held(&self.setup, &mut self.held, event, &mut self.composed)
+        step_held(
+            rt,
+            &self.setup,
+            &mut self.held,
+            event,
+            &mut self.composed,
+            steps,
+        )
     }
 }
 

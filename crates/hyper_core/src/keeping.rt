@@ -1,11 +1,13 @@
 //! The composed part is kept beside what the machine holds, under changes of members' tables.
-ghost use Rattle.std.specs.Prelude.{◌≡◌, ◌<◌, IfOk, IfSome, IsTrue, OnOk};
+ghost use Rattle.std.specs.Prelude.{◌≡◌, ◌≤◌, ◌+◌, IfOk, IfSome, IsTrue, OnOk, if◌then◌else◌, is_some};
 ghost use Rattle.composed_tables.specs.Composing.{AreTables};
+ghost use Rattle.hyper_core.specs.Costs.{building_steps_of, turning_steps};
 ghost use Rattle.hyper_core.specs.Kept.{IsComposedOf, IsKept, IsKeptBy, IsSoundWhile};
 ghost use Rattle.machine_drafts.specs.Serials.{DraftsHaveSerials, HasSerial, StandingHaveSerials};
 ghost use Rattle.machine_drafts.specs.Machines.{state_in_held};
 ghost use Rattle.machine_drafts.specs.Outcomes.{bases, draft_in};
 ghost use Rattle.hyper_core.specs.Settled.{WasSettled};
+ghost use Rattle.hyper_core.specs.Turning.{stood_in};
 ghost use Rattle.machine_drafts.specs.Views.{member_of};
 ghost use Rattle.machine_meaning.specs.Composing.{compose as compose_of};
 ghost use Rattle.machine_meaning.specs.Sound.{HasNumbers, IsSoundState};
@@ -21,8 +23,8 @@ use machine_drafts::outcome::Outcome;
 use machine_drafts::session::Member;
 use machine_drafts::setup::Setup;
 use setting_laws::laws::settings_are_ready;
-use std::marker::Brand;
-use std::sync::ledger::{Blank, Ledger};
+use std::sync::ledger::Ledger;
+use std::thread::Threads;
 
 /// What is true of what is to stand on each switch.
 fn are_tables(composed: &Composed)
@@ -32,14 +34,13 @@ fn are_tables(composed: &Composed)
     let _ = composed.count();
 }
 
-/// What is kept changes with the draft, and switches are written it.
-fn compose_on<G: Ledger>(
+/// What is kept changes with the draft, and each switch that is up is written the change.
+pub(crate) fn compose_on<G: Ledger>(
     setup: &Setup,
     draft: &mut Outcome<'_>,
     composed: &mut Composed,
-    blank: Blank,
+    steps: &mut Steps<G>,
 ) -> Result<(), Memory>
-    requires blank { (blank.name ≡ G.name) × (blank.parts ≡ G.parts) × (0 < blank.parts) }
     requires settled { WasSettled setup.now (bases draft.old) }
     requires kept { IsKeptBy setup.now (bases draft.old) (draft_in draft.old).state composed.old }
     requires exprs { draft.old.exprs.now ≡ draft.old.exprs.base }
@@ -47,54 +48,47 @@ fn compose_on<G: Ledger>(
     ensures drafted { OnOk result (draft_in draft.new ≡ compose_of setup.now (draft_in draft.old)) }
     ensures bases { OnOk result (bases draft.new ≡ bases draft.old) }
     ensures kept { OnOk result (IsComposedOf setup.now (draft_in draft.old).state composed.new) }
+    ensures steps { steps.new ≤ steps.old + turning_steps setup.now (stood_in draft.old) (draft_in draft.old).state }
 {
     // The proof learns what is true of every policy, of settings, and of what is to stand before and after.
     let _policy = setup.policy();
     settings_are_ready();
     are_tables(composed);
-    let mut steps = Steps::<G>::new(blank);
-    let turned = turn(setup, draft, composed, &mut steps)?;
+    let turned = turn(setup, draft, composed, steps)?;
     are_tables(composed);
     compose_from(setup.alloc(), &Source::Kept(composed, &turned), draft)
 }
 
-/// What is kept changes with the draft, and each switch that is up is written the change.
-pub(crate) fn compose_kept(
-    setup: &Setup,
-    draft: &mut Outcome<'_>,
-    composed: &mut Composed,
-) -> Result<(), Memory>
-    requires settled { WasSettled setup.now (bases draft.old) }
-    requires kept { IsKeptBy setup.now (bases draft.old) (draft_in draft.old).state composed.old }
-    requires exprs { draft.old.exprs.now ≡ draft.old.exprs.base }
-    requires serials { DraftsHaveSerials draft.old.members }
-    ensures drafted { OnOk result (draft_in draft.new ≡ compose_of setup.now (draft_in draft.old)) }
-    ensures bases { OnOk result (bases draft.new ≡ bases draft.old) }
-    ensures kept { OnOk result (IsComposedOf setup.now (draft_in draft.old).state composed.new) }
-{
-    compose_on::<Brand>(setup, draft, composed, Blank::new(1))
-}
-
 /// The composed part of what is held.
-fn build_from<G: Ledger>(setup: &Setup, held: &Held, blank: Blank) -> Result<Composed, Memory>
-    requires blank { (blank.name ≡ G.name) × (blank.parts ≡ G.parts) × (0 < blank.parts) }
-    requires sound { IsSoundState setup.now (state_in_held held.now) }
-    ensures { IfOk result (IsComposedOf setup.now (state_in_held held.now)) }
+fn build_from<R: Threads + Sync, G: Ledger>(
+    rt: &R,
+    setup: &Setup,
+    held: &Held,
+    steps: &mut Steps<G>,
+) -> Result<Composed, Memory>
+    requires { IsSoundState setup.now (state_in_held held.now) }
+    ensures of { IfOk result (IsComposedOf setup.now (state_in_held held.now)) }
+    ensures steps { steps.new ≤ steps.old + building_steps_of setup.now (state_in_held held.now) }
 {
     // The proof learns what is true of every policy, and of settings.
     let _policy = setup.policy();
     settings_are_ready();
-    let mut steps = Steps::<G>::new(blank);
     let setting = present(setup, held)?;
-    Composed::build(setup.alloc(), setup.topology(), &setting, &mut steps)
+    Composed::build(rt, setup.alloc(), setup.topology(), &setting, steps)
 }
 
 /// The composed part of what is held, if there is memory for it.
-fn build(setup: &Setup, held: &Held) -> Option<Composed>
+fn build<R: Threads + Sync, G: Ledger>(
+    rt: &R,
+    setup: &Setup,
+    held: &Held,
+    steps: &mut Steps<G>,
+) -> Option<Composed>
     requires { IsSoundState setup.now (state_in_held held.now) }
-    ensures { IfSome result (IsComposedOf setup.now (state_in_held held.now)) }
+    ensures of { IfSome result (IsComposedOf setup.now (state_in_held held.now)) }
+    ensures steps { steps.new ≤ steps.old + building_steps_of setup.now (state_in_held held.now) }
 {
-    build_from::<Brand>(setup, held, Blank::new(1)).ok()
+    build_from(rt, setup, held, steps).ok()
 }
 
 /// A serial number is left for an entry of a member. So it is, always.
@@ -120,18 +114,34 @@ fn has_numbers(held: &Held) -> bool
     held.next_cookie < u64::MAX && have_serials(held.members.as_slice())
 }
 
+/// This is kept from now on.
+pub(crate) fn set_kept(kept: &mut Option<Composed>, now: Option<Composed>)
+    ensures { kept.new ≡ now }
+{
+    *kept = now;
+}
+
 /// What is kept once an event ended: as long as numbers are left, what followed the event, or else what is made anew.
-pub(crate) fn keep(setup: &Setup, held: &Held, composed: &mut Option<Composed>)
+pub(crate) fn keep<R: Threads + Sync, G: Ledger>(
+    rt: &R,
+    setup: &Setup,
+    held: &Held,
+    composed: &mut Option<Composed>,
+    steps: &mut Steps<G>,
+)
     requires sound { IsSoundWhile setup.now (state_in_held held.now) }
     requires followed { IfSome composed.old (IsComposedOf setup.now (state_in_held held.now)) }
-    ensures { IsKept setup.now (state_in_held held.now) composed.new }
+    ensures kept { IsKept setup.now (state_in_held held.now) composed.new }
+    ensures steps { steps.new ≤ steps.old + (if is_some composed.old then 0
+        else building_steps_of setup.now (state_in_held held.now)) }
 {
     if !has_numbers(held) {
-        *composed = None;
+        set_kept(composed, None);
         return;
     }
     if composed.is_some() {
         return;
     }
-    *composed = build(setup, held);
+    let made = build(rt, setup, held, steps);
+    set_kept(composed, made);
 }

@@ -1,6 +1,8 @@
 //! The machine as the lock has it: one that many post events to.
+ghost use Rattle.std.specs.Prelude.{◌≡◌, true};
 ghost use Rattle.hyper_core.specs.Meanings.{MeaningsAreStates, NextIsStep, data_in, idle_stays, is_idle, next_data};
 ghost use Rattle.hyper_core.specs.Meanings.{reply_to};
+ghost use Rattle.hyper_core.specs.Costs.{StillTakesNone, cost_in, most_in};
 
 use crate::hyper::Hyper;
 use cv_io::{Duplicate, Memory, Steps};
@@ -29,7 +31,6 @@ impl Model for Meaning {
     ghost view = { λ _. no_data };
 }
 
-// Composing from scratch counts no steps.
 impl Machine for Hyper {
     type Event = Event;
 
@@ -45,11 +46,12 @@ impl Machine for Hyper {
 
     ghost idle = { is_idle };
 
-    ghost ready = { λ _. Unit {0} };
+    // Its composed part is kept.
+    ghost ready = { λ m. m.compiled ≡ true };
 
-    ghost cost = { λ _ _. 0 };
+    ghost cost = { cost_in };
 
-    ghost most = { λ _ _. 0 };
+    ghost most = { most_in };
 
     fn step<R: Threads + Sync, G: Ledger>(
         &mut self,
@@ -57,7 +59,7 @@ impl Machine for Hyper {
         event: &Event,
         steps: &mut Steps<G>,
     ) -> Result<Reply, Memory> {
-        Hyper::step(self, event)
+        Hyper::step(self, rt, event, steps)
     }
 
     fn glance(&self, event: &Event) -> Option<Reply> {
@@ -83,4 +85,10 @@ pub fn meanings_are_states()
 /// Whatever a machine means, the reply to an event and the next meaning are those of the step.
 pub fn next_is_step()
     ensures { NextIsStep }
+{}
+
+/// An event that changes no member's table, replaces no expression and closes no session as slow takes no step where the
+/// composed part is kept.
+pub fn still_events_take_none()
+    ensures { StillTakesNone }
 {}

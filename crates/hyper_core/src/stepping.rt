@@ -1,8 +1,9 @@
 //! An event that isn't answered at once, and is no taking: it is drafted, and what it leaves is moved in.
-ghost use Rattle.std.specs.Prelude.{◌≡◌, ◌<◌, ◌^◌, IfOk, IfSome, IsTrue, None, OnErr, OnOk};
+ghost use Rattle.std.specs.Prelude.{◌≡◌, ◌<◌, ◌≤◌, ◌+◌, ◌^◌, IfOk, IfSome, IsTrue, None, OnErr, OnOk, is_some, true};
 ghost use Rattle.machine_meaning.specs.Events.{AreBytes, IsEvent};
 ghost use Rattle.machine_meaning.specs.Glances.{glance_of};
 ghost use Rattle.machine_meaning.specs.Hearing.{heard};
+ghost use Rattle.hyper_core.specs.Costs.{cost_of, first_steps, followed_cost, is_followed, most_of, whole_cost};
 ghost use Rattle.hyper_core.specs.Kept.{IsBegun, IsComposedOf, IsKept};
 ghost use Rattle.machine_drafts.specs.Machines.{HasAll, state_in_held};
 ghost use Rattle.machine_drafts.specs.Moments.{taking_in as taking_in_of};
@@ -13,11 +14,11 @@ ghost use Rattle.machine_meaning.specs.Steps.{done, step_of};
 
 use crate::drafting::draft_event;
 use crate::glances::glance;
-use crate::keeping::keep;
+use crate::keeping::{keep, set_kept};
 use crate::overtaking::hear;
 use crate::takings::take;
 use composed_tables::Composed;
-use cv_io::{Memory, Session};
+use cv_io::{Memory, Session, Steps};
 use events::{Event, Reply};
 use machine_drafts::heard::Heard;
 use machine_drafts::held::Held;
@@ -25,14 +26,17 @@ use machine_drafts::moving::move_in;
 use machine_drafts::putting::Drafted;
 use machine_drafts::setup::Setup;
 use machine_meaning::laws::soundness_is_kept;
+use std::sync::ledger::Ledger;
+use std::thread::Threads;
 
 /// An event is drafted, and what it leaves is moved in.
-fn drive(
+fn drive<G: Ledger>(
     setup: &Setup,
     held: &mut Held,
     event: &Event,
     heard: &Heard,
     composed: &mut Option<Composed>,
+    steps: &mut Steps<G>,
 ) -> Result<Reply, Memory>
     requires all { HasAll setup.now held.old }
     requires whole { IsWhole event.now }
@@ -44,6 +48,9 @@ fn drive(
     ensures all { HasAll setup.now held.new }
     ensures settled { IsSettledState setup.now (state_in_held held.new) }
     ensures kept { OnOk result (IfSome composed.new (IsComposedOf setup.now (state_in_held held.new))) }
+    ensures follows { is_some composed.old ≡ true → is_followed setup.now (state_in_held held.old) event.now ≡ true
+        → OnOk result (is_some composed.new ≡ true) }
+    ensures steps { steps.new ≤ steps.old + first_steps setup.now (state_in_held held.old) event.now }
     ensures memory { OnErr result (state_in_held held.new ≡ state_in_held held.old) }
 {
     // The proof learns how many members and switches a policy has.
@@ -53,7 +60,7 @@ fn drive(
         reply,
         counts,
         parts,
-    } = draft_event(setup, held, event, heard, composed)?;
+    } = draft_event(setup, held, event, heard, composed, steps)?;
     held.counts.make(counts)?;
     move_in(held, parts);
     Ok(reply)
@@ -68,11 +75,13 @@ fn cookie_fits(held: &Held)
 
 /// One step of such an event: what it tells is heard before, and taken back where memory is wanted. What is kept follows
 /// it, or is made anew.
-pub(crate) fn proceed(
+pub(crate) fn proceed<R: Threads + Sync, G: Ledger>(
+    rt: &R,
     setup: &Setup,
     held: &mut Held,
     event: &Event,
     composed: &mut Option<Composed>,
+    steps: &mut Steps<G>,
 ) -> Result<Reply, Memory>
     requires all { HasAll setup.now held.old }
     requires whole { IsWhole event.now }
@@ -87,20 +96,23 @@ pub(crate) fn proceed(
     ensures settled { IsSettledState setup.now (state_in_held held.new) }
     ensures kept { IsKept setup.now (state_in_held held.new) composed.new }
     ensures memory { OnErr result (state_in_held held.new ≡ state_in_held held.old) }
+    ensures cost { is_some composed.old ≡ true
+        → steps.new ≤ steps.old + followed_cost setup.now (state_in_held held.old) event.now }
+    ensures most { steps.new ≤ steps.old + whole_cost setup.now (state_in_held held.old) event.now }
 {
     // The proof learns what is true of every policy, of cookies, and of steps.
     let _policy = setup.policy();
     cookie_fits(held);
     soundness_is_kept();
     let overtaken = hear(setup.alloc(), held, event)?;
-    match drive(setup, held, event, &overtaken.heard, composed) {
+    match drive(setup, held, event, &overtaken.heard, composed, steps) {
         Ok(reply) => {
-            keep(setup, held, composed);
+            keep(rt, setup, held, composed, steps);
             Ok(reply)
         }
         Err(Memory) => {
             // It may have followed the event.
-            *composed = None;
+            set_kept(composed, None);
             overtaken.take_back(&mut held.counts);
             Err(Memory)
         }
@@ -151,11 +163,13 @@ fn taking_in(event: &Event) -> Option<Session>
 
 /// One step.
 #[tactic(auto, using(crate::proofs::Stepped::step_glanced, crate::proofs::Stepped::step_taking, crate::proofs::Stepped::step_other, crate::proofs::Stepped::has_all_taken, crate::proofs::Stepped::settled_taken, crate::proofs::Whole::whole_event))]
-pub(crate) fn step(
+pub(crate) fn step<R: Threads + Sync, G: Ledger>(
+    rt: &R,
     setup: &Setup,
     held: &mut Held,
     event: &Event,
     composed: &mut Option<Composed>,
+    steps: &mut Steps<G>,
 ) -> Result<Reply, Memory>
     requires all { HasAll setup.now held.old }
     requires settled { IsSettledState setup.now (state_in_held held.old) }
@@ -166,6 +180,9 @@ pub(crate) fn step(
     ensures settled { IsSettledState setup.now (state_in_held held.new) }
     ensures kept { IsKept setup.now (state_in_held held.new) composed.new }
     ensures memory { OnErr result (state_in_held held.new ≡ state_in_held held.old) }
+    ensures cost { is_some composed.old ≡ true
+        → steps.new ≤ steps.old + cost_of setup.now (state_in_held held.old) event.now }
+    ensures most { steps.new ≤ steps.old + most_of setup.now (state_in_held held.old) event.now }
 {
     // The proof learns what is true of every policy, of cookies, and of steps.
     let _policy = setup.policy();
@@ -180,5 +197,5 @@ pub(crate) fn step(
     if let Some(session) = taking_in(event) {
         return Ok(take(held, session));
     }
-    proceed(setup, held, event, composed)
+    proceed(rt, setup, held, event, composed, steps)
 }

@@ -1,5 +1,6 @@
 //! What is kept of the composed part changes with what an event plans for members' tables.
-ghost use Rattle.std.specs.Prelude.{◌≡◌, ◌<◌, ◌+◌, IfOk, List, OnOk, length};
+ghost use Rattle.std.specs.Prelude.{◌≡◌, ◌<◌, ◌≤◌, ◌+◌, IfOk, List, OnOk, length};
+ghost use Rattle.hyper_core.specs.Costs.{turning_steps, turning_steps_at};
 ghost use Rattle.hyper_core.specs.Kept.{IsComposedOf};
 ghost use Rattle.machine_drafts.specs.Outcomes.{state_in};
 ghost use Rattle.hyper_core.specs.Turning.{ArePortsAt, AreTold, CanFollow, joined, mixed_at, stood_in};
@@ -73,6 +74,7 @@ fn turn_member<G: Ledger>(
     ensures of { OnOk result (IsComposedOf setup.now (mixed_at (n + 1) draft.now) composed.new) }
     ensures told { (before : List SwitchTableOf) → AreTold draft.now.next_cookie before composed.old.tables turned
         → IfOk result (AreTold draft.now.next_cookie before composed.new.tables) }
+    ensures steps { steps.new ≤ steps.old + turning_steps_at setup.now (stood_in draft.now) (state_in draft.now) n }
 {
     // The proof learns what is true of every policy, and of members that change.
     let _policy = setup.policy();
@@ -104,6 +106,7 @@ pub(crate) fn turn<G: Ledger>(
     requires { CanFollow setup.now draft.now composed.old }
     ensures of { OnOk result (IsComposedOf setup.now (state_in draft.now) composed.new) }
     ensures told { IfOk result (AreTold draft.now.next_cookie composed.old.tables composed.new.tables) }
+    ensures steps { steps.new ≤ steps.old + turning_steps setup.now (stood_in draft.now) (state_in draft.now) }
 {
     let ups = ups(setup.alloc(), draft.switches.as_slice())?;
     let mut turned = Turned::Nothing;

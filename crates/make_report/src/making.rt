@@ -14,6 +14,7 @@ use policy_file::Policy;
 use replay_report::{Kind, Player};
 use script_text::Form;
 use std::alloc::Global;
+use std::thread::Threads;
 
 /// How many bytes of a script a line takes with its line feed.
 fn used(line: &[u8]) -> usize
@@ -35,14 +36,18 @@ fn begin(alloc: Global, policy: Policy) -> Result<Player, Memory>
 
 /// Does a line, or tells why it isn't done.
 #[tactic(none)]
-fn do_line(player: &mut Player, line: &[u8]) -> Result<Option<Kind>, Memory>
+fn do_line<R: Threads + Sync>(
+    rt: &R,
+    player: &mut Player,
+    line: &[u8],
+) -> Result<Option<Kind>, Memory>
     requires form { form_of player.old ≡ Replay }
     requires report { reported player.old ≡ [] }
     ensures stepped { IfOk result (λ refused. Stepped refused player.old player.new line.now) }
     ensures form { form_of player.new ≡ form_of player.old }
     ensures plan { plan_of player.new ≡ plan_of player.old }
 {
-    player.line(line, used(line))
+    player.line(rt, line, used(line))
 }
 
 /// Counts a line and what was reported of it, unless it wasn't done.
@@ -65,7 +70,12 @@ fn count_line(
 
 /// Does a line, counts what is reported of it, and forgets the report.
 #[tactic(none)]
-fn play_line(player: &mut Player, counts: &mut Counts, line: &[u8]) -> Result<(), Memory>
+fn play_line<R: Threads + Sync>(
+    rt: &R,
+    player: &mut Player,
+    counts: &mut Counts,
+    line: &[u8],
+) -> Result<(), Memory>
     requires form { form_of player.old ≡ Replay }
     requires report { reported player.old ≡ [] }
     ensures tally { OnOk result (tally_of player.new counts.new
@@ -74,7 +84,7 @@ fn play_line(player: &mut Player, counts: &mut Counts, line: &[u8]) -> Result<()
     ensures plan { OnOk result (plan_of player.new ≡ plan_of player.old) }
     ensures report { OnOk result (reported player.new ≡ []) }
 {
-    let refused = do_line(player, line)?;
+    let refused = do_line(rt, player, line)?;
     count_line(counts, line, refused, player.report())?;
     player.clear();
     Ok(())
@@ -82,7 +92,12 @@ fn play_line(player: &mut Player, counts: &mut Counts, line: &[u8]) -> Result<()
 
 /// Does the lines that are left of a script, one after the other.
 #[tactic(none)]
-fn play_lines(player: &mut Player, counts: &mut Counts, script: &mut Made) -> Result<(), Memory>
+fn play_lines<R: Threads + Sync>(
+    rt: &R,
+    player: &mut Player,
+    counts: &mut Counts,
+    script: &mut Made,
+) -> Result<(), Memory>
     requires form { form_of player.old ≡ Replay }
     requires report { reported player.old ≡ [] }
     ensures tally { OnOk result (tally_of player.new counts.new
@@ -93,13 +108,18 @@ fn play_lines(player: &mut Player, counts: &mut Counts, script: &mut Made) -> Re
         let Some(line) = script.next()? else {
             return Ok(());
         };
-        play_line(player, counts, line.as_bytes())?;
+        play_line(rt, player, counts, line.as_bytes())?;
     }
 }
 
 /// Does a script of so many lines, and tells what it gave.
 #[tactic(none)]
-fn tell(player: &mut Player, script: &mut Made, lines: u64) -> Result<Summary, Memory>
+fn tell<R: Threads + Sync>(
+    rt: &R,
+    player: &mut Player,
+    script: &mut Made,
+    lines: u64,
+) -> Result<Summary, Memory>
     requires form { form_of player.old ≡ Replay }
     requires first { tally_of player.old nothing ≡ first (plan_of player.old) }
     requires report { reported player.old ≡ [] }
@@ -107,7 +127,7 @@ fn tell(player: &mut Player, script: &mut Made, lines: u64) -> Result<Summary, M
     ensures { IfOk result (λ summary. summary ≡ summary_in (plan_of player.old) script.old) }
 {
     let mut counts = Counts::new();
-    play_lines(player, &mut counts, script)?;
+    play_lines(rt, player, &mut counts, script)?;
     let rules = player.rules()?;
     Ok(Summary {
         lines,
@@ -119,19 +139,30 @@ fn tell(player: &mut Player, script: &mut Made, lines: u64) -> Result<Summary, M
 
 /// What a script of so many lines gives over a policy.
 #[tactic(none)]
-fn summary(alloc: Global, policy: Policy, mut script: Made, lines: u64) -> Result<Summary, Memory>
+fn summary<R: Threads + Sync>(
+    rt: &R,
+    alloc: Global,
+    policy: Policy,
+    mut script: Made,
+    lines: u64,
+) -> Result<Summary, Memory>
     requires { lines ≡ length script }
     ensures { IfOk result (λ summary. summary ≡ summary_in policy script) }
 {
     let mut player = begin(alloc, policy)?;
-    tell(&mut player, &mut script, lines)
+    tell(rt, &mut player, &mut script, lines)
 }
 
 /// What the script of a seed with so many messages gives over the policy of benchmarks.
-pub fn make(alloc: Global, seed: u64, count: u32) -> Result<Summary, Memory>
+pub fn make<R: Threads + Sync>(
+    rt: &R,
+    alloc: Global,
+    seed: u64,
+    count: u32,
+) -> Result<Summary, Memory>
     ensures summary { IfOk result (λ summary. summary ≡ made_of seed count) }
     ensures lines { IfOk result (λ summary. summary.lines ≡ count + 3) }
 {
     let script = Made::new(alloc, seed, count);
-    summary(alloc, policy(alloc)?, script, u64::from(count) + 3)
+    summary(rt, alloc, policy(alloc)?, script, u64::from(count) + 3)
 }

@@ -11,10 +11,16 @@ use events::Event;
 use of10_frames::Framer;
 use script_text::{say, say_number};
 use std::alloc::Global;
+use std::thread::Threads;
 
 /// Each frame of what a session sent is a message, up to bytes that don't begin with one. The length that they give,
 /// where it is less than a header's.
-fn send_frames(stage: &mut Stage, who: Who, framer: &mut Framer) -> Result<Option<u16>, Memory>
+fn send_frames<R: Threads + Sync>(
+    rt: &R,
+    stage: &mut Stage,
+    who: Who,
+    framer: &mut Framer,
+) -> Result<Option<u16>, Memory>
     ensures report { OnOk result (stage.new.report ≡ stage.old.report
         ++ (sends stage.old.machine.plan who (frames_of framer.old) (state_of stage.old.machine)).text) }
     ensures state { OnOk result (state_of stage.new.machine
@@ -28,7 +34,7 @@ fn send_frames(stage: &mut Stage, who: Who, framer: &mut Framer) -> Result<Optio
         match next_frame(framer)? {
             Next::Frame(frame) => {
                 let session = stage.present(who);
-                stage.happen(&Event::Msg { session, frame })?;
+                stage.happen(rt, &Event::Msg { session, frame })?;
             }
             Next::Short(length) => return Ok(Some(length)),
             Next::Nothing => return Ok(None),
@@ -50,7 +56,8 @@ fn add_short_line(alloc: Global, report: &mut Bytes, name: &Text, length: u16) -
 
 /// A session sends bytes. Behind a header that gives a length that is less than its own they are dropped.
 #[tactic(auto, unfolding(crate::specs::Playing::hears))]
-pub(crate) fn hear(
+pub(crate) fn hear<R: Threads + Sync>(
+    rt: &R,
     stage: &mut Stage,
     name: &Text,
     who: Who,
@@ -70,11 +77,11 @@ pub(crate) fn hear(
         return Ok(());
     }
     stream.framer.feed(bytes)?;
-    let Some(length) = send_frames(stage, who, &mut stream.framer)? else {
+    let Some(length) = send_frames(rt, stage, who, &mut stream.framer)? else {
         return Ok(());
     };
     stream.is_short = true;
     add_short_line(stage.alloc, &mut stage.report, name, length)?;
     let session = stage.present(who);
-    stage.happen(&Event::Gone { session })
+    stage.happen(rt, &Event::Gone { session })
 }

@@ -14,6 +14,7 @@ use crate::telling::Stage;
 use cv_io::{Bytes, Duplicate, List, Memory, Text, Who};
 use events::Event;
 use script_text::Line;
+use std::thread::Threads;
 
 /// A switch tells whether it matches ARP addresses, of a member nothing is told.
 fn tells_arp(who: Who, noarp: bool) -> bool
@@ -26,7 +27,8 @@ fn tells_arp(who: Who, noarp: bool) -> bool
 }
 
 /// A session comes up, with an empty stream.
-fn come_up(
+fn come_up<R: Threads + Sync>(
+    rt: &R,
     stage: &mut Stage,
     streams: &mut List<Stream>,
     found: Found,
@@ -42,14 +44,15 @@ fn come_up(
 {
     streams.set(found.at, Stream::new(stage.alloc));
     let arp = tells_arp(found.who, noarp);
-    stage.happen(&Event::Up {
+    stage.happen(rt, &Event::Up {
         who: found.who,
         arp,
     })
 }
 
 /// A session sends bytes.
-fn send(
+fn send<R: Threads + Sync>(
+    rt: &R,
     stage: &mut Stage,
     streams: &mut [Stream],
     name: &Text,
@@ -64,6 +67,7 @@ fn send(
     ensures names { stage.new.names ≡ stage.old.names }
 {
     hear(
+        rt,
         stage,
         name,
         found.who,
@@ -73,7 +77,7 @@ fn send(
 }
 
 /// A session goes.
-fn leave(stage: &mut Stage, found: Found) -> Result<(), Memory>
+fn leave<R: Threads + Sync>(rt: &R, stage: &mut Stage, found: Found) -> Result<(), Memory>
     ensures report { OnOk result (stage.new.report
         ≡ stage.old.report ++ (goes stage.old.machine.plan found.who (state_of stage.old.machine)).text) }
     ensures state { OnOk result (state_of stage.new.machine
@@ -82,11 +86,16 @@ fn leave(stage: &mut Stage, found: Found) -> Result<(), Memory>
     ensures names { stage.new.names ≡ stage.old.names }
 {
     let session = stage.present(found.who);
-    stage.happen(&Event::Gone { session })
+    stage.happen(rt, &Event::Gone { session })
 }
 
 /// A virtual switch gets another expression.
-fn replace(stage: &mut Stage, v: u32, text: &Text) -> Result<(), Memory>
+fn replace<R: Threads + Sync>(
+    rt: &R,
+    stage: &mut Stage,
+    v: u32,
+    text: &Text,
+) -> Result<(), Memory>
     ensures report { OnOk result (stage.new.report
         ≡ stage.old.report ++ (does stage.old.machine.plan (Event.Policy v text.now)
         (state_of stage.old.machine)).text) }
@@ -95,14 +104,15 @@ fn replace(stage: &mut Stage, v: u32, text: &Text) -> Result<(), Memory>
     ensures plan { stage.new.machine.plan ≡ stage.old.machine.plan }
     ensures names { stage.new.names ≡ stage.old.names }
 {
-    stage.happen(&Event::Policy {
+    stage.happen(rt, &Event::Policy {
         v,
         text: text.copy()?,
     })
 }
 
 /// Does a line; false where it names something that the policy hasn't.
-pub(crate) fn play(
+pub(crate) fn play<R: Threads + Sync>(
+    rt: &R,
     stage: &mut Stage,
     streams: &mut List<Stream>,
     line: &Line,
@@ -121,26 +131,26 @@ pub(crate) fn play(
             let Some(found) = find(stage.names.as_slice(), name) else {
                 return Ok(false);
             };
-            come_up(stage, streams, found, *noarp)?;
+            come_up(rt, stage, streams, found, *noarp)?;
         }
         Line::From { name, bytes } => {
             let Some(found) = find(stage.names.as_slice(), name) else {
                 return Ok(false);
             };
-            send(stage, streams.as_mut_slice(), name, found, bytes)?;
+            send(rt, stage, streams.as_mut_slice(), name, found, bytes)?;
         }
         Line::Gone { name } => {
             let Some(found) = find(stage.names.as_slice(), name) else {
                 return Ok(false);
             };
-            leave(stage, found)?;
+            leave(rt, stage, found)?;
         }
-        Line::Tick { second } => stage.happen(&Event::Tick { second: *second })?,
+        Line::Tick { second } => stage.happen(rt, &Event::Tick { second: *second })?,
         Line::Expr { name, text } => {
             let Some(v) = stage.virtual_named(name) else {
                 return Ok(false);
             };
-            replace(stage, v, text)?;
+            replace(rt, stage, v, text)?;
         }
         Line::Ask {
             switch,

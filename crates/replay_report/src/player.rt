@@ -13,6 +13,7 @@ use cv_io::{List, Memory};
 use policy_file::Policy;
 use script_text::{Form, Line, read_line};
 use std::alloc::Global;
+use std::thread::Threads;
 
 /// The most bytes of a line, without its line feed.
 pub const LINE: usize = 140_000;
@@ -121,7 +122,12 @@ impl Player {
 
     /// Does a line, which takes so many bytes of the script, and reports what it does; or tells why it isn't done.
     #[tactic(auto, unfolding(crate::specs::Players::form_of, crate::specs::Players::plan_of, crate::specs::Players::reported, crate::specs::Players::progress_of))]
-    pub fn line(&mut self, line: &[u8], used: usize) -> Result<Option<Kind>, Memory>
+    pub fn line<R: Threads + Sync>(
+        &mut self,
+        rt: &R,
+        line: &[u8],
+        used: usize,
+    ) -> Result<Option<Kind>, Memory>
         requires some { 1 ≤ used }
         requires short { used ≤ length line.now + 1 }
         ensures takes { IfOk result (λ refused. Takes refused (taken (form_of self.old) (plan_of self.old)
@@ -141,7 +147,7 @@ impl Player {
             Ok(said) => said,
             Err(kind) => return Ok(Some(kind)),
         };
-        if !play(&mut self.stage, &mut self.streams, &said)? {
+        if !play(rt, &mut self.stage, &mut self.streams, &said)? {
             return Ok(Some(Kind::Unknown));
         }
         self.number += 1;

@@ -1,6 +1,7 @@
 //! An event, and the report of what it puts into outboxes and audit.
-ghost use Rattle.std.specs.Prelude.{◌≡◌, ◌++◌, [], IfOk, OnOk};
+ghost use Rattle.std.specs.Prelude.{◌≡◌, ◌<◌, ◌++◌, [], IfOk, OnErr, OnOk};
 ghost use Rattle.machine_meaning.specs.States.{opening};
+ghost use Rattle.machine_meaning.specs.Steps.{step_of};
 ghost use Rattle.machine_drafts.specs.Machines.{state_of};
 ghost use Rattle.replay_report.specs.Playing.{present as present_of};
 ghost use Rattle.replay_report.specs.Explaining.{Asks, asked};
@@ -10,13 +11,16 @@ ghost use Rattle.replay_report.specs.Takings.{taken_in, takes_all, waits_for};
 
 use crate::explaining::say_findings;
 use crate::sessions::{Named, find_virtual};
-use cv_io::{Bytes, List, Memory, Session, Text, Who};
+use cv_io::{Bytes, List, Memory, Session, Steps, Text, Who};
 use events::{Event, Reply};
 use explain_text::{answer, find_entrance};
 use hyper_core::Hyper;
 use policy_file::Policy;
 use script_text::report_line;
 use std::alloc::Global;
+use std::marker::Brand;
+use std::sync::ledger::{Blank, Ledger};
+use std::thread::Threads;
 
 /// Appends a line.
 pub(crate) fn add_line(report: &mut Bytes, text: &[u8]) -> Result<(), Memory>
@@ -36,8 +40,39 @@ fn message_in(reply: Reply) -> Option<Bytes>
     }
 }
 
+/// One step, with a counter of its own.
+fn step_on<R: Threads + Sync, G: Ledger>(
+    rt: &R,
+    machine: &mut Hyper,
+    event: &Event,
+    blank: Blank,
+) -> Result<Reply, Memory>
+    requires { (blank.name ≡ G.name) × (blank.parts ≡ G.parts) × (0 < blank.parts) }
+    ensures step { IfOk result (λ reply.
+        (reply, state_of machine.new) ≡ step_of machine.old.plan (state_of machine.old) event.now) }
+    ensures plan { machine.new.plan ≡ machine.old.plan }
+    ensures memory { OnErr result (state_of machine.new ≡ state_of machine.old) }
+{
+    let mut steps = Steps::<G>::new(blank);
+    machine.step(rt, event, &mut steps)
+}
+
+/// One step. What it counts is dropped: the sum over a script isn't claimed yet.
+fn step_counted<R: Threads + Sync>(
+    rt: &R,
+    machine: &mut Hyper,
+    event: &Event,
+) -> Result<Reply, Memory>
+    ensures step { IfOk result (λ reply.
+        (reply, state_of machine.new) ≡ step_of machine.old.plan (state_of machine.old) event.now) }
+    ensures plan { machine.new.plan ≡ machine.old.plan }
+    ensures memory { OnErr result (state_of machine.new ≡ state_of machine.old) }
+{
+    step_on::<R, Brand>(rt, machine, event, Blank::new(1))
+}
+
 /// Takes what waits first for a session, or in the audit.
-fn take(machine: &mut Hyper, who: Who) -> Result<Option<Bytes>, Memory>
+fn take<R: Threads + Sync>(rt: &R, machine: &mut Hyper, who: Who) -> Result<Option<Bytes>, Memory>
     ensures taken { IfOk result (λ taken. TakesFirst taken who (state_of machine.old) (state_of machine.new)) }
     ensures plan { machine.new.plan ≡ machine.old.plan }
 {
@@ -45,18 +80,22 @@ fn take(machine: &mut Hyper, who: Who) -> Result<Option<Bytes>, Memory>
         who,
         round: machine.round(who),
     };
-    let reply = machine.step(&Event::Take { session })?;
+    let reply = step_counted(rt, machine, &Event::Take { session })?;
     Ok(message_in(reply))
 }
 
 /// Takes and reports all that waits in the audit.
-fn tell_audit(machine: &mut Hyper, report: &mut Bytes) -> Result<(), Memory>
+fn tell_audit<R: Threads + Sync>(
+    rt: &R,
+    machine: &mut Hyper,
+    report: &mut Bytes,
+) -> Result<(), Memory>
     ensures report { OnOk result (report.new ≡ report.old ++ audit_lines (waits_for (state_of machine.old) Who.Audit)) }
     ensures state { OnOk result (state_of machine.new ≡ emptied Who.Audit (state_of machine.old)) }
     ensures plan { machine.new.plan ≡ machine.old.plan }
 {
     loop {
-        let Some(line) = take(machine, Who::Audit)? else {
+        let Some(line) = take(rt, machine, Who::Audit)? else {
             return Ok(());
         };
         add_line(report, line.as_slice())?;
@@ -64,7 +103,8 @@ fn tell_audit(machine: &mut Hyper, report: &mut Bytes) -> Result<(), Memory>
 }
 
 /// Takes and reports all that waits for a session.
-fn tell_session(
+fn tell_session<R: Threads + Sync>(
+    rt: &R,
     alloc: Global,
     machine: &mut Hyper,
     session: &Named,
@@ -76,7 +116,7 @@ fn tell_session(
     ensures plan { machine.new.plan ≡ machine.old.plan }
 {
     loop {
-        let Some(message) = take(machine, session.who)? else {
+        let Some(message) = take(rt, machine, session.who)? else {
             return Ok(());
         };
         let line = report_line(alloc, &session.name, message.as_slice())?;
@@ -85,7 +125,8 @@ fn tell_session(
 }
 
 /// Takes and reports all that waits.
-fn tell(
+fn tell<R: Threads + Sync>(
+    rt: &R,
     alloc: Global,
     machine: &mut Hyper,
     names: &[Named],
@@ -95,9 +136,9 @@ fn tell(
     ensures state { OnOk result (state_of machine.new ≡ (takes_all names.now (state_of machine.old)).state) }
     ensures plan { machine.new.plan ≡ machine.old.plan }
 {
-    tell_audit(machine, report)?;
+    tell_audit(rt, machine, report)?;
     for session in names {
-        tell_session(alloc, machine, session, report)?;
+        tell_session(rt, alloc, machine, session, report)?;
     }
     Ok(())
 }
@@ -174,7 +215,7 @@ impl Stage {
 
     /// An event happens, and what it puts into outboxes and audit is reported.
     #[tactic(auto, unfolding(crate::specs::Takings::does))]
-    pub(crate) fn happen(&mut self, event: &Event) -> Result<(), Memory>
+    pub(crate) fn happen<R: Threads + Sync>(&mut self, rt: &R, event: &Event) -> Result<(), Memory>
         ensures report { OnOk result (self.new.report
             ≡ self.old.report ++ (does self.old.machine.plan event.now (state_of self.old.machine)).text) }
         ensures state { OnOk result (state_of self.new.machine
@@ -182,8 +223,9 @@ impl Stage {
         ensures plan { self.new.machine.plan ≡ self.old.machine.plan }
         ensures names { self.new.names ≡ self.old.names }
     {
-        let _reply = self.machine.step(event)?;
+        let _reply = step_counted(rt, &mut self.machine, event)?;
         tell(
+            rt,
             self.alloc,
             &mut self.machine,
             self.names.as_slice(),

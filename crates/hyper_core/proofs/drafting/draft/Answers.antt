@@ -1,6 +1,8 @@
-use Rattle.std.proofs.Common.{◌≡◌, ◌∙◌, sym, ap, subst}
+use Rattle.std.proofs.Common.{◌≡◌, ◌∙◌, ℕ, ◌+◌, ◌≤◌, sym, ap, subst}
 use Rattle.std.specs.Prelude.{IfSome}
 use Rattle.machine_drafts.proofs.Acted.{few_begun, fresh_begun, judged_begun, nothing_sent, sendable_after}
+use Rattle.hyper_core.specs.Costs.{is_replaced, kept_steps}
+use Rattle.hyper_core.proofs.Bounds.{drafted_steps}
 use Rattle.hyper_core.proofs.KeptOn.{all_settled, kept_settled}
 use Rattle.hyper_core.proofs.Overtaken.{heard_at}
 use Rattle.hyper_core.proofs.Phased.{all_phases, moment_again, stands_before, timely_begun}
@@ -15,54 +17,54 @@ use Rattle.hyper_core.specs.Settled.{WasSettled}
 use Rattle.hyper_core.proofs.drafting.draft.Goals as goal
 
 pub act-requires-clause-few : goal.act-requires-clause-few
-act-requires-clause-few c =
+act-requires-clause-few g c =
     few_begun c.args.held.now c.moment_of-now.result (moment_of c.args.event.now c.args.held.now.moment)
     c.in_ok-draft.draft c.in_ok-draft.ensures.bases c.requires.numbers
 
 pub act-requires-clause-fresh : goal.act-requires-clause-fresh
-act-requires-clause-fresh c =
+act-requires-clause-fresh g c =
     fresh_begun c.args.held.now c.moment_of-now.result c.in_ok-draft.draft c.in_ok-draft.ensures.draft
     c.in_ok-draft.ensures.bases
 
 pub act-requires-clause-timely : goal.act-requires-clause-timely
-act-requires-clause-timely c =
+act-requires-clause-timely g c =
     subst AreTimely (sym c.in_ok-draft.ensures.bases) (timely_begun c.moment_of-now.result c.args.held.now)
 
 pub act-requires-clause-moment : goal.act-requires-clause-moment
-act-requires-clause-moment c =
+act-requires-clause-moment g c =
     subst (IsOfEvent c.args.event.now) (sym c.in_ok-draft.ensures.bases)
     (subst (λ n. moment_of c.args.event.now n ≡ n) (sym c.moment_of-now.ensures)
     (moment_again c.args.event.now c.args.held.now.moment))
 
 pub act-requires-clause-whole : goal.act-requires-clause-whole
-act-requires-clause-whole c = c.requires.whole
+act-requires-clause-whole g c = c.requires.whole
 
 pub act-requires-clause-judged : goal.act-requires-clause-judged
-act-requires-clause-judged c =
+act-requires-clause-judged g c =
     judged_begun c.args.setup.now c.args.held.now c.moment_of-now.result c.args.event.now c.in_ok-draft.draft
     c.args.judged c.in_ok-draft.ensures.draft c.in_ok-draft.ensures.bases c.moment_of-now.ensures c.requires.judged
 
 pub act-requires-clause-heard : goal.act-requires-clause-heard
-act-requires-clause-heard c =
+act-requires-clause-heard g c =
     let P : Draft → Type 0 = λ d. IsHeardOf c.args.event.now c.args.heard.now d.state in
     subst P (sym c.in_ok-draft.ensures.draft)
     (heard_at c.args.event.now c.args.heard.now (state_in_held c.args.held.now) c.moment_of-now.result c.requires.heard)
 
 pub settle-requires : goal.settle-requires
-settle-requires c =
+settle-requires g c =
     subst AreTimely
     (sym (c.in_ok-close.ensures.bases ∙ (c.in_ok-act.ensures.bases ∙ c.in_ok-draft.ensures.bases)))
     (timely_begun c.moment_of-now.result c.args.held.now)
 
 pub compose-requires-clause-settled : goal.compose-requires-clause-settled
-compose-requires-clause-settled c =
+compose-requires-clause-settled g c =
     subst (WasSettled c.args.setup.now)
     (sym (c.in_ok-settle.ensures.bases ∙ (c.in_ok-close.ensures.bases ∙ (c.in_ok-act.ensures.bases
     ∙ c.in_ok-draft.ensures.bases))))
     c.requires.settled
 
 pub compose-requires-clause-kept : goal.compose-requires-clause-kept
-compose-requires-clause-kept c =
+compose-requires-clause-kept g c =
     let s = state_in_held c.args.held.now in
     let begun = c.in_ok-draft.ensures.draft ∙ ap (λ n. untouched (at_moment n s)) c.moment_of-now.ensures in
     let is = all_settled c.args.setup.now s c.args.event.now (closing_of c.args.closing.now) _ _ _ _ begun
@@ -74,7 +76,7 @@ compose-requires-clause-kept c =
     is c.requires.kept
 
 pub tell-requires-clause-few : goal.tell-requires-clause-few
-tell-requires-clause-few c =
+tell-requires-clause-few g c =
     few_begun c.args.held.now c.moment_of-now.result (moment_of c.args.event.now c.args.held.now.moment)
     c.compose.new.draft
     (c.in_ok-compose.ensures.bases ∙ (c.in_ok-settle.ensures.bases ∙ (c.in_ok-close.ensures.bases
@@ -82,7 +84,7 @@ tell-requires-clause-few c =
     c.requires.numbers
 
 pub tell-requires-clause-sendable : goal.tell-requires-clause-sendable
-tell-requires-clause-sendable c =
+tell-requires-clause-sendable g c =
     sendable_after c.args.setup.now (closing_of c.args.closing.now) (draft_in c.act.new.draft)
     (draft_in c.close.new.draft) (draft_in c.settle.new.draft) (draft_in c.compose.new.draft)
     c.in_ok-close.ensures.drafted c.in_ok-settle.ensures.drafted c.in_ok-compose.ensures.drafted
@@ -91,7 +93,7 @@ tell-requires-clause-sendable c =
     c.in_ok-draft.ensures.bases))
 
 pub returns-clause-draft : goal.returns-clause-draft
-returns-clause-draft c =
+returns-clause-draft g c =
     let s = state_in_held c.args.held.now in
     let begun = c.in_ok-draft.ensures.draft ∙ ap (λ n. untouched (at_moment n s)) c.moment_of-now.ensures in
     let bases = c.in_ok-compose.ensures.bases ∙ (c.in_ok-settle.ensures.bases ∙ (c.in_ok-close.ensures.bases
@@ -102,7 +104,7 @@ returns-clause-draft c =
     c.in_ok-compose.ensures.drafted (c.in_ok-tell.ensures.drafted s before)
 
 pub returns-clause-kept : goal.returns-clause-kept
-returns-clause-kept c =
+returns-clause-kept g c =
     let s = state_in_held c.args.held.now in
     let begun = c.in_ok-draft.ensures.draft ∙ ap (λ n. untouched (at_moment n s)) c.moment_of-now.ensures in
     let is = all_settled c.args.setup.now s c.args.event.now (closing_of c.args.closing.now) _ _ _ _ begun
@@ -111,7 +113,53 @@ returns-clause-kept c =
     c.in_ok-compose.ensures.kept
 
 pub returns-clause-bases : goal.returns-clause-bases
-returns-clause-bases c =
+returns-clause-bases g c =
     c.in_ok-tell.ensures.bases ∙ (c.in_ok-compose.ensures.bases ∙ (c.in_ok-settle.ensures.bases
     ∙ (c.in_ok-close.ensures.bases ∙ (c.in_ok-act.ensures.bases ∙ (c.in_ok-draft.ensures.bases
     ∙ ap (λ n. bases_of n c.args.held.now) c.moment_of-now.ensures)))))
+
+pub returns-clause-follows : goal.returns-clause-follows
+returns-clause-follows g c some no =
+    let s = state_in_held c.args.held.now in
+    let begun = c.in_ok-draft.ensures.draft ∙ ap (λ n. untouched (at_moment n s)) c.moment_of-now.ensures in
+    let is = all_settled c.args.setup.now s c.args.event.now (closing_of c.args.closing.now) _ _ _ _ begun
+    c.in_ok-act.ensures.drafted c.in_ok-close.ensures.drafted c.in_ok-settle.ensures.drafted in
+    c.in_ok-compose.ensures.follows some (ap (λ (d : Draft). is_replaced d.reply) is ∙ no)
+
+pub returns-clause-steps : goal.returns-clause-steps
+returns-clause-steps g c =
+    let s = state_in_held c.args.held.now in
+    let begun = c.in_ok-draft.ensures.draft ∙ ap (λ n. untouched (at_moment n s)) c.moment_of-now.ensures in
+    let is = all_settled c.args.setup.now s c.args.event.now (closing_of c.args.closing.now) _ _ _ _ begun
+    c.in_ok-act.ensures.drafted c.in_ok-close.ensures.drafted c.in_ok-settle.ensures.drafted in
+    let bases = c.in_ok-settle.ensures.bases ∙ (c.in_ok-close.ensures.bases ∙ (c.in_ok-act.ensures.bases
+    ∙ c.in_ok-draft.ensures.bases)) in
+    subst (λ (n : ℕ). c.compose.new.steps ≤ c.args.steps.now + kept_steps c.args.composed.now n)
+    (drafted_steps c.args.setup.now c.args.held.now c.moment_of-now.result c.settle.new.draft _ bases is)
+    c.compose.ensures.steps
+
+-- so it is where memory is wanted
+
+pub returns-in_err-compose-clause-steps : goal.returns-in_err-compose-clause-steps
+returns-in_err-compose-clause-steps g c =
+    let s = state_in_held c.args.held.now in
+    let begun = c.in_ok-draft.ensures.draft ∙ ap (λ n. untouched (at_moment n s)) c.moment_of-now.ensures in
+    let is = all_settled c.args.setup.now s c.args.event.now (closing_of c.args.closing.now) _ _ _ _ begun
+    c.in_ok-act.ensures.drafted c.in_ok-close.ensures.drafted c.in_ok-settle.ensures.drafted in
+    let bases = c.in_ok-settle.ensures.bases ∙ (c.in_ok-close.ensures.bases ∙ (c.in_ok-act.ensures.bases
+    ∙ c.in_ok-draft.ensures.bases)) in
+    subst (λ (n : ℕ). c.compose.new.steps ≤ c.args.steps.now + kept_steps c.args.composed.now n)
+    (drafted_steps c.args.setup.now c.args.held.now c.moment_of-now.result c.settle.new.draft _ bases is)
+    c.compose.ensures.steps
+
+pub returns-in_err-tell-clause-steps : goal.returns-in_err-tell-clause-steps
+returns-in_err-tell-clause-steps g c =
+    let s = state_in_held c.args.held.now in
+    let begun = c.in_ok-draft.ensures.draft ∙ ap (λ n. untouched (at_moment n s)) c.moment_of-now.ensures in
+    let is = all_settled c.args.setup.now s c.args.event.now (closing_of c.args.closing.now) _ _ _ _ begun
+    c.in_ok-act.ensures.drafted c.in_ok-close.ensures.drafted c.in_ok-settle.ensures.drafted in
+    let bases = c.in_ok-settle.ensures.bases ∙ (c.in_ok-close.ensures.bases ∙ (c.in_ok-act.ensures.bases
+    ∙ c.in_ok-draft.ensures.bases)) in
+    subst (λ (n : ℕ). c.compose.new.steps ≤ c.args.steps.now + kept_steps c.args.composed.now n)
+    (drafted_steps c.args.setup.now c.args.held.now c.moment_of-now.result c.settle.new.draft _ bases is)
+    c.compose.ensures.steps

@@ -5,6 +5,7 @@ use Rattle.composed_tables.specs.Rules.{IsReadyFor}
 use Rattle.policy_file.specs.Policies.{plan}
 use Rattle.virtual_topology.specs.declared.plan.TopologyPlan.{TopologyPlan}
 use Rattle.machine_drafts.specs.Machines.{state_in_held}
+use Rattle.hyper_core.proofs.Bounds.{built_steps}
 use Rattle.hyper_core.proofs.Kept.{built_kept, tables_sound}
 use Rattle.hyper_core.proofs.keeping.build_from.Goals as goal
 
@@ -16,7 +17,7 @@ build-requires-clause-good g c =
     let p = c.args.setup.now in
     let s = state_in_held c.args.held.now in
     subst IsGood (sym c.in_ok-setting.ensures.setting)
-    (c.settings_are_ready.ensures p c.policy-policy.ensures.sound s (tables_sound p s c.requires.sound)).good
+    (c.settings_are_ready.ensures p c.policy-policy.ensures.sound s (tables_sound p s c.requires)).good
 
 pub build-requires-clause-ready : goal.build-requires-clause-ready
 build-requires-clause-ready g c =
@@ -24,16 +25,22 @@ build-requires-clause-ready g c =
     let s = state_in_held c.args.held.now in
     subst (λ (t : TopologyPlan). IsReadyFor t c.in_ok-setting.setting) (sym c.topology.ensures)
     (subst (λ (t : Setting). IsReadyFor (plan p) t) (sym c.in_ok-setting.ensures.setting)
-    (c.settings_are_ready.ensures p c.policy-policy.ensures.sound s (tables_sound p s c.requires.sound)).ready)
+    (c.settings_are_ready.ensures p c.policy-policy.ensures.sound s (tables_sound p s c.requires)).ready)
 
 pub build-requires-clause-few : goal.build-requires-clause-few
 build-requires-clause-few g c =
     let p = c.args.setup.now in
     let s = state_in_held c.args.held.now in
     subst (λ (t : Setting). length t.switches < 2 ^ 32) (sym c.in_ok-setting.ensures.setting)
-    (c.settings_are_ready.ensures p c.policy-policy.ensures.sound s (tables_sound p s c.requires.sound)).few
+    (c.settings_are_ready.ensures p c.policy-policy.ensures.sound s (tables_sound p s c.requires)).few
 
-pub returns : goal.returns
-returns g c =
-    built_kept c.args.setup.now (state_in_held c.args.held.now) c.in_ok-setting.setting c.build.result
-    c.in_ok-setting.ensures.setting c.build.ensures.of c.build.ensures.compiled
+pub returns-clause-of : goal.returns-clause-of
+returns-clause-of g c =
+    built_kept c.args.setup.now (state_in_held c.args.held.now) c.in_ok-setting.setting c.topology.result.now
+    c.build.result c.in_ok-setting.ensures.setting c.topology.ensures c.build.ensures.of c.build.ensures.compiled
+    c.build.ensures.plan
+
+pub returns-clause-steps : goal.returns-clause-steps
+returns-clause-steps g c =
+    built_steps c.args.setup.now (state_in_held c.args.held.now) c.in_ok-setting.setting c.topology.result.now
+    c.args.steps.now c.build.new.steps c.in_ok-setting.ensures.setting c.topology.ensures c.build.ensures.steps

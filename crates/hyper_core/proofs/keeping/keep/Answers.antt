@@ -1,24 +1,39 @@
+use Rattle.std.proofs.Common.{◌∙◌, ◌+◌, ◌≤◌, Bool, subst, sym}
+use Rattle.std.specs.Prelude.{if◌then◌else◌}
 use Rattle.machine_drafts.specs.Machines.{state_in_held}
+use Rattle.hyper_core.specs.Costs.{building_steps_of}
+use Rattle.hyper_core.specs.Kept.{IsKept}
 use Rattle.hyper_core.proofs.KeptOn.{kept_none}
 use Rattle.hyper_core.proofs.keeping.keep.Goals as goal
 
-pub returns-then-not-has_numbers : goal.returns-then-not-has_numbers
-returns-then-not-has_numbers c =
-    kept_none c.args.setup.now (state_in_held c.args.held.now) c.requires.sound
+pub returns-then-not-has_numbers-clause-kept : goal.returns-then-not-has_numbers-clause-kept
+returns-then-not-has_numbers-clause-kept g c =
+    subst (IsKept c.args.setup.now (state_in_held c.args.held.now)) (sym c.set_kept-then-not-has_numbers.ensures)
+    (kept_none c.args.setup.now (state_in_held c.args.held.now) c.requires.sound)
 
-pub returns-then-is_some : goal.returns-then-is_some
-returns-then-is_some c = record {
+pub returns-then-is_some-clause-kept : goal.returns-then-is_some-clause-kept
+returns-then-is_some-clause-kept g c = record {
   sound = c.requires.sound;
   numbers = λ some. c.has_numbers.ensures c.if-not-has_numbers.false;
   of = c.requires.followed;
 }
 
 pub build-requires : goal.build-requires
-build-requires c = c.requires.sound (c.has_numbers.ensures c.if-not-has_numbers.false)
+build-requires g c = c.requires.sound (c.has_numbers.ensures c.if-not-has_numbers.false)
 
-pub returns : goal.returns
-returns c = record {
-  sound = c.requires.sound;
-  numbers = λ some. c.has_numbers.ensures c.if-not-has_numbers.false;
-  of = c.build.ensures;
-}
+pub returns-clause-kept : goal.returns-clause-kept
+returns-clause-kept g c =
+    subst (IsKept c.args.setup.now (state_in_held c.args.held.now)) (sym c.set_kept.ensures)
+    (record {
+      sound = c.requires.sound;
+      numbers = λ some. c.has_numbers.ensures c.if-not-has_numbers.false;
+      of = c.build-made.ensures.of;
+    })
+
+pub returns-clause-steps : goal.returns-clause-steps
+returns-clause-steps g c =
+    subst
+    (λ (b : Bool). c.build-made.new.steps
+    ≤ c.args.steps.now
+    + (if b then 0 else building_steps_of c.args.setup.now (state_in_held c.args.held.now)))
+    (sym c.if-is_some.false ∙ c.is_some.ensures) c.build-made.ensures.steps

@@ -9,32 +9,32 @@ use Rattle.hyper_core.specs.Settled.{IsSettledState}
 use Rattle.hyper_core.proofs.stepping.drive.Goals as goal
 
 pub draft_event-requires-clause-whole : goal.draft_event-requires-clause-whole
-draft_event-requires-clause-whole c = c.requires.whole
+draft_event-requires-clause-whole g c = c.requires.whole
 
 pub draft_event-requires-clause-heard : goal.draft_event-requires-clause-heard
-draft_event-requires-clause-heard c = c.requires.heard
+draft_event-requires-clause-heard g c = c.requires.heard
 
 pub draft_event-requires-clause-settled : goal.draft_event-requires-clause-settled
-draft_event-requires-clause-settled c = c.requires.settled
+draft_event-requires-clause-settled g c = c.requires.settled
 
 pub draft_event-requires-clause-kept : goal.draft_event-requires-clause-kept
-draft_event-requires-clause-kept c = c.requires.kept
+draft_event-requires-clause-kept g c = c.requires.kept
 
 pub make-requires : goal.make-requires
-make-requires c = c.in_ok-reply.ensures.draft.counts
+make-requires g c = c.in_ok-reply.ensures.draft.counts
 
 pub move_in-requires : goal.move_in-requires
-move_in-requires c =
+move_in-requires g c =
     drafted_moves c.args.setup.now c.draft_event.new.held c.args.event.now _ _ c.make.new.self
     c.in_ok-reply.ensures.draft c.in_ok-make.ensures.made
 
 pub returns-clause-done : goal.returns-clause-done
-returns-clause-done c =
+returns-clause-done g c =
     drafted_done c.args.setup.now c.draft_event.new.held c.args.event.now _ _ c.make.new.self
     (state_in_held c.move_in.new.held) c.in_ok-reply.ensures.draft c.in_ok-make.ensures.made c.move_in.ensures
 
 pub returns-clause-all : goal.returns-clause-all
-returns-clause-all c =
+returns-clause-all g c =
     let held = c.draft_event.new.held in
     let all = has_all_kept c.args.setup.now c.args.held.now held c.requires.all c.draft_event.ensures.state in
     has_all_moved c.args.setup.now (held_with held c.make.new.self) c.move_in.new.held
@@ -42,39 +42,39 @@ returns-clause-all c =
     (record { members = all.members; switches = all.switches }) c.move_in.ensures
 
 pub returns-clause-settled : goal.returns-clause-settled
-returns-clause-settled c =
-    settled_done c.args.setup.now (state_in_held c.args.held.now) c.args.event.now _ _ (returns-clause-done c)
+returns-clause-settled g c =
+    settled_done c.args.setup.now (state_in_held c.args.held.now) c.args.event.now _ _ (returns-clause-done g c)
 
 pub returns-clause-kept : goal.returns-clause-kept
-returns-clause-kept c =
+returns-clause-kept g c =
     kept_done c.args.setup.now (state_in_held c.args.held.now) c.args.event.now _ (state_in_held c.move_in.new.held)
-    c.draft_event.new.composed (returns-clause-done c) c.in_ok-reply.ensures.kept
+    c.draft_event.new.composed (returns-clause-done g c) c.in_ok-reply.ensures.kept
 
 -- where memory is wanted
 
 pub returns-in_err-reply-clause-all : goal.returns-in_err-reply-clause-all
-returns-in_err-reply-clause-all c =
+returns-in_err-reply-clause-all g c =
     has_all_kept c.args.setup.now c.args.held.now c.draft_event.new.held c.requires.all c.draft_event.ensures.state
 
 pub returns-in_err-reply-clause-memory : goal.returns-in_err-reply-clause-memory
-returns-in_err-reply-clause-memory c = in_any_case c.from_residual.result c.draft_event.ensures.state
+returns-in_err-reply-clause-memory g c = in_any_case c.from_residual.result c.draft_event.ensures.state
 
 pub returns-in_err-make-clause-all : goal.returns-in_err-make-clause-all
-returns-in_err-make-clause-all c =
+returns-in_err-make-clause-all g c =
     let held = c.draft_event.new.held in
     let all = has_all_kept c.args.setup.now c.args.held.now held c.requires.all c.draft_event.ensures.state in
     record { members = all.members; switches = all.switches }
 
 pub returns-in_err-reply-clause-settled : goal.returns-in_err-reply-clause-settled
-returns-in_err-reply-clause-settled c =
+returns-in_err-reply-clause-settled g c =
     subst (IsSettledState c.args.setup.now) (sym c.draft_event.ensures.state) c.requires.settled
 
 pub returns-in_err-make-clause-settled : goal.returns-in_err-make-clause-settled
-returns-in_err-make-clause-settled c =
+returns-in_err-make-clause-settled g c =
     subst (IsSettledState c.args.setup.now) (sym c.draft_event.ensures.state) c.requires.settled
 
 pub returns-in_err-make-clause-memory : goal.returns-in_err-make-clause-memory
-returns-in_err-make-clause-memory c =
+returns-in_err-make-clause-memory g c =
     in_any_case c.from_residual-in_err-make.result
     (ap (λ (counts : HeldOf). state_in_held (held_with c.draft_event.new.held counts)) c.in_err-make.ensures.memory
     ∙ c.draft_event.ensures.state)

@@ -1,10 +1,29 @@
-use Rattle.std.proofs.Common.{◌∙◌, sym}
+use Rattle.std.proofs.Common.{◌∙◌, ◌+◌, ◌≤◌, ℕ, subst, sym}
+use Rattle.machine_drafts.specs.Machines.{state_in_held}
+use Rattle.hyper_core.specs.Costs.{followed_cost, whole_cost}
+use Rattle.hyper_core.proofs.Bounds.{not_still}
 use Rattle.hyper_core.proofs.Stepped.{kept_left}
 use Rattle.hyper_core.proofs.stepping.step.Goals as goal
 
 pub returns-in-Some-taking_in-clause-kept : goal.returns-in-Some-taking_in-clause-kept
-returns-in-Some-taking_in-clause-kept c =
+returns-in-Some-taking_in-clause-kept g c =
     kept_left c.soundness_is_kept.ensures c.args.setup.now c.policy-policy.ensures.sound c.args.held.now c.take.new.held
     c.cookie_fits.ensures c.args.event.now c.in-Some-taking_in.session c.args.composed.now
     (c.is_event.ensures c.if-not-is_event.false) (sym c.glance.ensures ∙ c.in_default.is)
     (sym c.taking_in.ensures ∙ c.in-Some-taking_in.is) c.take.ensures.left c.requires.kept
+
+pub returns-clause-cost : goal.returns-clause-cost
+returns-clause-cost g c there =
+    subst (λ (n : ℕ). c.proceed.new.steps ≤ c.args.steps.now + n)
+    (not_still c.args.setup.now (state_in_held c.args.held.now) c.args.event.now
+    (followed_cost c.args.setup.now (state_in_held c.args.held.now) c.args.event.now)
+    (sym c.glance.ensures ∙ c.in_default.is) (sym c.taking_in.ensures ∙ c.in_default-2.is))
+    (c.proceed.ensures.cost there)
+
+pub returns-clause-most : goal.returns-clause-most
+returns-clause-most g c =
+    subst (λ (n : ℕ). c.proceed.new.steps ≤ c.args.steps.now + n)
+    (not_still c.args.setup.now (state_in_held c.args.held.now) c.args.event.now
+    (whole_cost c.args.setup.now (state_in_held c.args.held.now) c.args.event.now)
+    (sym c.glance.ensures ∙ c.in_default.is) (sym c.taking_in.ensures ∙ c.in_default-2.is))
+    c.proceed.ensures.most

@@ -4,7 +4,9 @@ use Rattle.policy_file.specs.declared.policy.MemberItem.{MemberItem}
 use Rattle.machine_meaning.proofs.Grants.{grant_sound, item_of}
 use Rattle.incr_compile.specs.declared.compiled.LeafDelta.{LeafDelta}
 use Rattle.machine_drafts.specs.MemberDrafts.{IsLeafDelta}
-use Rattle.hyper_core.specs.Turning.{AreTold}
+use Rattle.hyper_core.specs.Turning.{AreTold, mixed_at, stood_in}
+use Rattle.machine_drafts.specs.Outcomes.{state_in}
+use Rattle.hyper_core.proofs.Bounds.{applied, no_more, plan_kept}
 use Rattle.hyper_core.proofs.OneTurn.{can_turn, item_at, items_long, kept_unplanned, told_more}
 use Rattle.hyper_core.proofs.turning.turn_member.Goals as goal
 
@@ -103,6 +105,8 @@ returns-clause-of g c =
     record {
       of = c.in_ok-batches.ensures.of _ _ turn.good turn.good_after c.requires.of.of turn.changes;
       compiled = c.in_ok-batches.ensures.compiled;
+      plan_is = λ r there. plan_kept p (mixed_at n o) c.args.composed.now c.requires.of r
+          (λ was before. c.apply.ensures.plan was r before there);
     }
 
 pub returns-clause-told : goal.returns-clause-told
@@ -110,3 +114,41 @@ returns-clause-told g c before told =
     subst (AreTold c.args.draft.now.next_cookie before c.apply.new.self.tables) (sym c.and.ensures)
     (told_more c.args.draft.now.next_cookie before c.args.composed.now.tables c.apply.new.self.tables c.args.turned
     c.in_ok-batches.batches told c.in_ok-batches.ensures.batches)
+
+pub returns-clause-steps : goal.returns-clause-steps
+returns-clause-steps g c =
+    let o = c.args.draft.now in
+    let n = c.args.n in
+    let m = c.index-members-n.result in
+    let item = c.index-items-n.result in
+    let p = c.args.setup.now in
+    let at = item_at o.members c.as_slice-members.result.now n m c.as_slice-members.ensures c.requires.there
+    c.index-members-n.is in
+    let there = item_at p.members c.members-items.result.now n item c.members-items.ensures.members
+    (items_long p o n c.requires.after c.requires.there) c.index-items-n.is in
+    let delta = c.in-Some.delta in
+    let changes = subst (λ (k : Option LeafDelta). IfSome k (IsLeafDelta n item.grant c.in_ok-ports.ports m)) c.in-Some.is
+    c.in_ok-delta.ensures.some in
+    let turn = can_turn p o c.requires.exprs n item m there at c.mixtures_turn.ensures c.policy-policy.ensures.sound
+    c.requires.before c.requires.after c.in_ok-ports.ports delta c.in_ok-ports.ensures changes in
+    applied p (stood_in o) (state_in o) n c.args.composed.now c.args.steps.now c.apply.new.steps c.requires.of
+    (λ r was. c.apply.ensures.steps r was _ _ c.requires.of.of turn.changes)
+
+pub returns-in_err-batches-clause-steps : goal.returns-in_err-batches-clause-steps
+returns-in_err-batches-clause-steps g c =
+    let o = c.args.draft.now in
+    let n = c.args.n in
+    let m = c.index-members-n.result in
+    let item = c.index-items-n.result in
+    let p = c.args.setup.now in
+    let at = item_at o.members c.as_slice-members.result.now n m c.as_slice-members.ensures c.requires.there
+    c.index-members-n.is in
+    let there = item_at p.members c.members-items.result.now n item c.members-items.ensures.members
+    (items_long p o n c.requires.after c.requires.there) c.index-items-n.is in
+    let delta = c.in-Some.delta in
+    let changes = subst (λ (k : Option LeafDelta). IfSome k (IsLeafDelta n item.grant c.in_ok-ports.ports m)) c.in-Some.is
+    c.in_ok-delta.ensures.some in
+    let turn = can_turn p o c.requires.exprs n item m there at c.mixtures_turn.ensures c.policy-policy.ensures.sound
+    c.requires.before c.requires.after c.in_ok-ports.ports delta c.in_ok-ports.ensures changes in
+    applied p (stood_in o) (state_in o) n c.args.composed.now c.args.steps.now c.apply.new.steps c.requires.of
+    (λ r was. c.apply.ensures.steps r was _ _ c.requires.of.of turn.changes)

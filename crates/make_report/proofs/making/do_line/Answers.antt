@@ -3,18 +3,18 @@ use Rattle.make_report.proofs.Stepping.{stepped, used_some, used_within}
 use Rattle.make_report.proofs.making.do_line.Goals as goal
 
 pub line-requires-clause-some : goal.line-requires-clause-some
-line-requires-clause-some c = used_some c.used.result (length c.args.line.now) c.used.ensures
+line-requires-clause-some g c = used_some c.used.result (length c.args.line.now) c.used.ensures
 
 pub line-requires-clause-short : goal.line-requires-clause-short
-line-requires-clause-short c = used_within c.used.result (length c.args.line.now) c.used.ensures
+line-requires-clause-short g c = used_within c.used.result (length c.args.line.now) c.used.ensures
 
 pub returns-clause-stepped : goal.returns-clause-stepped
-returns-clause-stepped c =
+returns-clause-stepped g c =
     stepped c.line.result c.args.player.now c.line.new.self c.args.line.now c.used.result
     c.requires.form c.requires.report c.used.ensures c.line.ensures.takes
 
 pub returns-clause-form : goal.returns-clause-form
-returns-clause-form c = c.line.ensures.form
+returns-clause-form g c = c.line.ensures.form
 
 pub returns-clause-plan : goal.returns-clause-plan
-returns-clause-plan c = c.line.ensures.plan
+returns-clause-plan g c = c.line.ensures.plan

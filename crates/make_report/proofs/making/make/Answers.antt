@@ -5,18 +5,18 @@ use Rattle.make_report.proofs.Stepping.{lines_told, made_long, of_bench, summary
 use Rattle.make_report.proofs.making.make.Goals as goal
 
 pub summary-requires : goal.summary-requires
-summary-requires c =
+summary-requires g c =
     ap (λ n. n + 3) c.from.ensures ∙ sym (ap length c.new-script.ensures ∙ made_long c.args.seed c.args.count)
 
 pub returns-clause-summary : goal.returns-clause-summary
-returns-clause-summary c =
+returns-clause-summary g c =
     let p = c.in_ok-policy.field-0 in
     subst (λ told. IfOk c.summary.result (λ summary. summary ≡ told))
     (ap (summary_in p) c.new-script.ensures ∙ of_bench p c.args.seed c.args.count c.in_ok-policy.ensures)
     c.summary.ensures
 
 pub returns-clause-lines : goal.returns-clause-lines
-returns-clause-lines c =
+returns-clause-lines g c =
     let p = c.in_ok-policy.field-0 in
     let script = c.new-script.result in
     lines_told c.summary.result (summary_in p script) (c.args.count + 3) c.summary.ensures

@@ -3,48 +3,48 @@ use Rattle.make_report.proofs.Stepping.{line_counted, unowed}
 use Rattle.make_report.proofs.making.play_line.Goals as goal
 
 pub do_line-requires-clause-form : goal.do_line-requires-clause-form
-do_line-requires-clause-form c = c.requires.form
+do_line-requires-clause-form g c = c.requires.form
 
 pub do_line-requires-clause-report : goal.do_line-requires-clause-report
-do_line-requires-clause-report c = c.requires.report
+do_line-requires-clause-report g c = c.requires.report
 
 -- once a line was done, or not
 pub returns-clause-tally : goal.returns-clause-tally
-returns-clause-tally c =
+returns-clause-tally g c =
     line_counted c.in_ok-refused.refused c.args.player.now c.do_line.new.player c.clear.new.self
     c.args.counts.now c.count_line.new.counts c.args.line.now c.report.result.now
     c.in_ok-refused.ensures.stepped c.report.ensures c.in_ok-count_line.ensures c.clear.ensures.progress
 
 pub returns-clause-form : goal.returns-clause-form
-returns-clause-form c = c.clear.ensures.form ∙ c.do_line.ensures.form ∙ c.requires.form
+returns-clause-form g c = c.clear.ensures.form ∙ c.do_line.ensures.form ∙ c.requires.form
 
 pub returns-clause-plan : goal.returns-clause-plan
-returns-clause-plan c = c.clear.ensures.plan ∙ c.do_line.ensures.plan
+returns-clause-plan g c = c.clear.ensures.plan ∙ c.do_line.ensures.plan
 
 pub returns-clause-report : goal.returns-clause-report
-returns-clause-report c = c.clear.ensures.report
+returns-clause-report g c = c.clear.ensures.report
 
 -- after want of memory
 pub returns-in_err-refused-clause-tally : goal.returns-in_err-refused-clause-tally
-returns-in_err-refused-clause-tally c = unowed c.from_residual.result _ c.from_residual.ensures.0
+returns-in_err-refused-clause-tally g c = unowed c.from_residual.result _ c.from_residual.ensures.0
 
 pub returns-in_err-refused-clause-form : goal.returns-in_err-refused-clause-form
-returns-in_err-refused-clause-form c = unowed c.from_residual.result _ c.from_residual.ensures.0
+returns-in_err-refused-clause-form g c = unowed c.from_residual.result _ c.from_residual.ensures.0
 
 pub returns-in_err-refused-clause-plan : goal.returns-in_err-refused-clause-plan
-returns-in_err-refused-clause-plan c = unowed c.from_residual.result _ c.from_residual.ensures.0
+returns-in_err-refused-clause-plan g c = unowed c.from_residual.result _ c.from_residual.ensures.0
 
 pub returns-in_err-refused-clause-report : goal.returns-in_err-refused-clause-report
-returns-in_err-refused-clause-report c = unowed c.from_residual.result _ c.from_residual.ensures.0
+returns-in_err-refused-clause-report g c = unowed c.from_residual.result _ c.from_residual.ensures.0
 
 pub returns-in_err-count_line-clause-tally : goal.returns-in_err-count_line-clause-tally
-returns-in_err-count_line-clause-tally c = unowed c.from_residual-in_err-count_line.result _ c.from_residual-in_err-count_line.ensures.0
+returns-in_err-count_line-clause-tally g c = unowed c.from_residual-in_err-count_line.result _ c.from_residual-in_err-count_line.ensures.0
 
 pub returns-in_err-count_line-clause-form : goal.returns-in_err-count_line-clause-form
-returns-in_err-count_line-clause-form c = unowed c.from_residual-in_err-count_line.result _ c.from_residual-in_err-count_line.ensures.0
+returns-in_err-count_line-clause-form g c = unowed c.from_residual-in_err-count_line.result _ c.from_residual-in_err-count_line.ensures.0
 
 pub returns-in_err-count_line-clause-plan : goal.returns-in_err-count_line-clause-plan
-returns-in_err-count_line-clause-plan c = unowed c.from_residual-in_err-count_line.result _ c.from_residual-in_err-count_line.ensures.0
+returns-in_err-count_line-clause-plan g c = unowed c.from_residual-in_err-count_line.result _ c.from_residual-in_err-count_line.ensures.0
 
 pub returns-in_err-count_line-clause-report : goal.returns-in_err-count_line-clause-report
-returns-in_err-count_line-clause-report c = unowed c.from_residual-in_err-count_line.result _ c.from_residual-in_err-count_line.ensures.0
+returns-in_err-count_line-clause-report g c = unowed c.from_residual-in_err-count_line.result _ c.from_residual-in_err-count_line.ensures.0

@@ -5,27 +5,27 @@ use Rattle.make_report.proofs.Stepping.{at_end, line_on, shorter, unowed}
 use Rattle.make_report.proofs.making.play_lines.Goals as goal
 
 pub loop-line-init : goal.loop-line-init
-loop-line-init c = record { tally = refl; plan = refl; form = c.requires.form; report = c.requires.report }
+loop-line-init g c = record { tally = refl; plan = refl; form = c.requires.form; report = c.requires.report }
 
 -- the last line was done
 pub returns-in_default-clause-tally : goal.returns-in_default-clause-tally
-returns-in_default-clause-tally c =
+returns-in_default-clause-tally g c =
     let player = c.loop-line.player in
     let none = c.in_ok-line.ensures.end c.in_default.is in
     at_end (plan_of player) (tally_of player c.loop-line.counts) c.loop-line.script none ∙ c.loop-line.invariant.tally
 
 pub returns-in_default-clause-plan : goal.returns-in_default-clause-plan
-returns-in_default-clause-plan c = c.loop-line.invariant.plan
+returns-in_default-clause-plan g c = c.loop-line.invariant.plan
 
 -- one more line
 pub play_line-requires-clause-form : goal.play_line-requires-clause-form
-play_line-requires-clause-form c = c.loop-line.invariant.form
+play_line-requires-clause-form g c = c.loop-line.invariant.form
 
 pub play_line-requires-clause-report : goal.play_line-requires-clause-report
-play_line-requires-clause-report c = c.loop-line.invariant.report
+play_line-requires-clause-report g c = c.loop-line.invariant.report
 
 pub loop-line-preserved : goal.loop-line-preserved
-loop-line-preserved c =
+loop-line-preserved g c =
     let old = c.loop-line.player in
     let new = c.play_line.new.player in
     let next = rw c.in-Some.is at c.in_ok-line.ensures.line in
@@ -42,21 +42,21 @@ loop-line-preserved c =
     }
 
 pub loop-line-smaller : goal.loop-line-smaller
-loop-line-smaller c =
+loop-line-smaller g c =
     let next = rw c.in-Some.is at c.in_ok-line.ensures.line in
     shorter c.in-Some.line c.loop-line.script c.next.new.self next
 
 -- after want of memory
 pub returns-in_err-line-clause-tally : goal.returns-in_err-line-clause-tally
-returns-in_err-line-clause-tally c = unowed c.from_residual.result _ c.from_residual.ensures.0
+returns-in_err-line-clause-tally g c = unowed c.from_residual.result _ c.from_residual.ensures.0
 
 pub returns-in_err-line-clause-plan : goal.returns-in_err-line-clause-plan
-returns-in_err-line-clause-plan c = unowed c.from_residual.result _ c.from_residual.ensures.0
+returns-in_err-line-clause-plan g c = unowed c.from_residual.result _ c.from_residual.ensures.0
 
 pub returns-in_err-play_line-clause-tally : goal.returns-in_err-play_line-clause-tally
-returns-in_err-play_line-clause-tally c =
+returns-in_err-play_line-clause-tally g c =
     unowed c.from_residual-in_err-play_line.result _ c.from_residual-in_err-play_line.ensures.0
 
 pub returns-in_err-play_line-clause-plan : goal.returns-in_err-play_line-clause-plan
-returns-in_err-play_line-clause-plan c =
+returns-in_err-play_line-clause-plan g c =
     unowed c.from_residual-in_err-play_line.result _ c.from_residual-in_err-play_line.ensures.0

@@ -6,7 +6,7 @@ use Rattle.make_report.proofs.making.play_lines.Given as goal
 
 -- what is done, and then the lines that are left
 abbrev pub invariant-loop-line : goal.invariant-loop-line
-invariant-loop-line l = record {
+invariant-loop-line g l = record {
   tally : after_lines (plan_of l.player) (tally_of l.player l.counts) l.script
       ≡ after_lines (plan_of l.initial.player) (tally_of l.initial.player l.initial.counts) l.initial.script;
   plan : plan_of l.player ≡ plan_of l.initial.player;
@@ -15,4 +15,4 @@ invariant-loop-line l = record {
 }
 
 abbrev pub decreases-loop-line : goal.decreases-loop-line
-decreases-loop-line l = length l.script
+decreases-loop-line g l = length l.script

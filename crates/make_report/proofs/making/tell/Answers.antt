@@ -5,7 +5,7 @@ use Rattle.make_report.proofs.Stepping.{counts_of, rules_told, told_of, unowed}
 use Rattle.make_report.proofs.making.tell.Goals as goal
 
 pub returns : goal.returns
-returns c =
+returns g c =
     let p = plan_of c.args.player.now in
     let player = c.play_lines.new.player in
     let counts = c.play_lines.new.counts in
@@ -21,14 +21,14 @@ returns c =
     all
 
 pub play_lines-requires-clause-form : goal.play_lines-requires-clause-form
-play_lines-requires-clause-form c = c.requires.form
+play_lines-requires-clause-form g c = c.requires.form
 
 pub play_lines-requires-clause-report : goal.play_lines-requires-clause-report
-play_lines-requires-clause-report c = c.requires.report
+play_lines-requires-clause-report g c = c.requires.report
 
 -- after want of memory
 pub returns-in_err-play_lines : goal.returns-in_err-play_lines
-returns-in_err-play_lines c = unowed c.from_residual.result _ c.from_residual.ensures.0
+returns-in_err-play_lines g c = unowed c.from_residual.result _ c.from_residual.ensures.0
 
 pub returns-in_err-rules : goal.returns-in_err-rules
-returns-in_err-rules c = unowed c.from_residual-in_err-rules.result _ c.from_residual-in_err-rules.ensures.0
+returns-in_err-rules g c = unowed c.from_residual-in_err-rules.result _ c.from_residual-in_err-rules.ensures.0

@@ -6,7 +6,7 @@ use Rattle.replay_report.proofs.hearing.send_frames.Given as goal
 
 -- what is reported so far, and then of the frames that are left
 abbrev pub invariant-loop-frame : goal.invariant-loop-frame
-invariant-loop-frame l = record {
+invariant-loop-frame g l = record {
   report : l.stage.report ++ (sends l.stage.machine.plan l.who (frames_of l.framer) (state_of l.stage.machine)).text
       ≡ l.initial.stage.report ++ (sends l.initial.stage.machine.plan l.who (frames_of l.initial.framer) (state_of l.initial.stage.machine)).text;
   state : (sends l.stage.machine.plan l.who (frames_of l.framer) (state_of l.stage.machine)).state
@@ -17,4 +17,4 @@ invariant-loop-frame l = record {
 }
 
 abbrev pub decreases-loop-frame : goal.decreases-loop-frame
-decreases-loop-frame l = length (frames_of l.framer)
+decreases-loop-frame g l = length (frames_of l.framer)

@@ -7,10 +7,10 @@ use Rattle.replay_report.proofs.Takes.{takes_first}
 use Rattle.replay_report.proofs.telling.take.Goals as goal
 
 pub returns-clause-taken : goal.returns-clause-taken
-returns-clause-taken c =
+returns-clause-taken g c =
     let p = c.args.machine.now.plan in
     let s = state_of c.args.machine.now in
     let who = c.args.who in
     let stepped = c.in_ok-reply.ensures.step ∙ ap (λ (n : ℕ). step_of p s (Take (record { who = who; round = n }))) c.round.ensures in
-    subst (λ (o : Option (List ℕ)). TakesFirst o who s (state_of c.step.new.self)) (sym c.message_in.ensures)
-    (takes_first p who s (state_of c.step.new.self) c.in_ok-reply.reply stepped)
+    subst (λ (o : Option (List ℕ)). TakesFirst o who s (state_of c.step_counted.new.machine)) (sym c.message_in.ensures)
+    (takes_first p who s (state_of c.step_counted.new.machine) c.in_ok-reply.reply stepped)

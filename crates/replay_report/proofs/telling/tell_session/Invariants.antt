@@ -4,7 +4,7 @@ use Rattle.replay_report.specs.Takings.{emptied, message_lines, waits_for}
 use Rattle.replay_report.proofs.telling.tell_session.Given as goal
 
 abbrev pub invariant-loop-message : goal.invariant-loop-message
-invariant-loop-message l = record {
+invariant-loop-message g l = record {
   report : l.report ++ message_lines l.session.name (waits_for (state_of l.machine) l.session.who)
       ≡ l.initial.report ++ message_lines l.session.name (waits_for (state_of l.initial.machine) l.session.who);
   state : emptied l.session.who (state_of l.machine) ≡ emptied l.session.who (state_of l.initial.machine);
@@ -12,4 +12,4 @@ invariant-loop-message l = record {
 }
 
 abbrev pub decreases-loop-message : goal.decreases-loop-message
-decreases-loop-message l = length (waits_for (state_of l.machine) l.session.who)
+decreases-loop-message g l = length (waits_for (state_of l.machine) l.session.who)

@@ -1,3 +1,5 @@
+use Rattle.std.proofs.Common.{◌+◌, ◌≤◌, ℕ, subst}
+use Rattle.hyper_core.proofs.Bounds.{cost_is, most_is}
 use Rattle.hyper_core.proofs.Meanings.{step_is}
 use Rattle.hyper_core.proofs.machine.HyperMachine.step.Goals as goal
 
@@ -5,3 +7,13 @@ pub returns-clause-stepped : goal.returns-clause-stepped
 returns-clause-stepped g c =
     step_is c.args.self.now c.step.new.self c.args.event.now c.step.result c.step.ensures.plan c.step.ensures.step
     c.step.ensures.memory
+
+pub returns-clause-cost : goal.returns-clause-cost
+returns-clause-cost g c ready =
+    subst (λ (n : ℕ). c.step.new.steps ≤ c.args.steps.now + n) (cost_is c.args.self.now c.args.event.now)
+    (c.step.ensures.cost ready)
+
+pub returns-clause-most : goal.returns-clause-most
+returns-clause-most g c =
+    subst (λ (n : ℕ). c.step.new.steps ≤ c.args.steps.now + n) (most_is c.args.self.now c.args.event.now)
+    c.step.ensures.most

@@ -11,7 +11,7 @@ use Rattle.replay_report.proofs.player.Player.line.Goals as goal
 
 pub returns-then-line-gt-LINE-clause-takes : goal.returns-then-line-gt-LINE-clause-takes
 unfolding form_of plan_of reported progress_of
-returns-then-line-gt-LINE-clause-takes c =
+returns-then-line-gt-LINE-clause-takes g c =
     let self = c.args.self.now in
     let at = progress_of self in
     refused_takes (taken (form_of self) (plan_of self) at c.args.line.now c.args.used) Long c.args.used at (reported self)
@@ -19,7 +19,7 @@ returns-then-line-gt-LINE-clause-takes c =
 
 pub returns-then-size-gt-SCRIPT-clause-takes : goal.returns-then-size-gt-SCRIPT-clause-takes
 unfolding form_of plan_of reported progress_of
-returns-then-size-gt-SCRIPT-clause-takes c =
+returns-then-size-gt-SCRIPT-clause-takes g c =
     let self = c.args.self.now in
     let at = progress_of self in
     refused_takes (taken (form_of self) (plan_of self) at c.args.line.now c.args.used) Size c.args.used at (reported self)
@@ -27,7 +27,7 @@ returns-then-size-gt-SCRIPT-clause-takes c =
 
 pub returns-in-Err-clause-takes : goal.returns-in-Err-clause-takes
 unfolding form_of plan_of reported progress_of
-returns-in-Err-clause-takes c =
+returns-in-Err-clause-takes g c =
     let self = c.args.self.now in
     let at = progress_of self in
     let line = c.args.line.now in
@@ -38,7 +38,7 @@ returns-in-Err-clause-takes c =
 
 pub returns-then-not-branch-clause-takes : goal.returns-then-not-branch-clause-takes
 unfolding form_of plan_of reported progress_of
-returns-then-not-branch-clause-takes c =
+returns-then-not-branch-clause-takes g c =
     let self = c.args.self.now in
     let at = progress_of self in
     let line = c.args.line.now in
@@ -50,7 +50,7 @@ returns-then-not-branch-clause-takes c =
 
 pub returns-clause-takes : goal.returns-clause-takes
 unfolding form_of plan_of reported progress_of
-returns-clause-takes c =
+returns-clause-takes g c =
     let self = c.args.self.now in
     let at = progress_of self in
     let line = c.args.line.now in
