@@ -8,6 +8,7 @@ use fitting_changes::Composer;
 use std::alloc::Global;
 use std::io;
 use std::sync::ledger::{Blank, Ledger};
+use std::thread::Threads;
 
 /// How many rules there are, where they are counted, or came, and how many went.
 #[derive(Clone, Copy)]
@@ -17,14 +18,15 @@ struct Tally {
 }
 
 /// The members' rules, composed.
-fn composed<G: Ledger>(
+fn composed<R: Threads + Sync, G: Ledger>(
+    rt: &R,
     alloc: Global,
     asked: &Asked,
     steps: &mut Steps<G>,
 ) -> Result<Composer, Memory> {
     let tables = asked.tables(alloc)?;
     let ports = List::from_slice(alloc, &PORTS)?;
-    match Composer::build(alloc, asked.shape, SIZE, &tables, &ports, steps)? {
+    match Composer::build(rt, alloc, asked.shape, SIZE, &tables, &ports, steps)? {
         Some(composer) => Ok(composer),
         None => Err(Memory),
     }
@@ -68,17 +70,27 @@ impl Tally {
 }
 
 /// All is composed in each turn.
-fn anew<G: Ledger>(alloc: Global, asked: &Asked, steps: &mut Steps<G>) -> Result<(), Memory> {
+fn anew<R: Threads + Sync, G: Ledger>(
+    rt: &R,
+    alloc: Global,
+    asked: &Asked,
+    steps: &mut Steps<G>,
+) -> Result<(), Memory> {
     for _turn in 0..asked.turns {
-        composed(alloc, asked, steps)?;
+        composed(rt, alloc, asked, steps)?;
     }
     Ok(())
 }
 
 /// Composes the members' rules, and does what is asked for.
-fn run<G: Ledger>(alloc: Global, asked: &Asked, steps: &mut Steps<G>) -> Result<Tally, Memory> {
+fn run<R: Threads + Sync, G: Ledger>(
+    rt: &R,
+    alloc: Global,
+    asked: &Asked,
+    steps: &mut Steps<G>,
+) -> Result<Tally, Memory> {
     let mut tally = Tally { came: 0, went: 0 };
-    let mut composer = composed(alloc, asked, steps)?;
+    let mut composer = composed(rt, alloc, asked, steps)?;
     match asked.phase {
         Phase::Count => tally.came = composer.rules()?.len(),
         Phase::Adds => tally.turn(alloc, asked, &mut composer, true, steps)?,
@@ -86,7 +98,7 @@ fn run<G: Ledger>(alloc: Global, asked: &Asked, steps: &mut Steps<G>) -> Result<
             tally.turn(alloc, asked, &mut composer, true, steps)?;
             tally.turn(alloc, asked, &mut composer, false, steps)?;
         }
-        Phase::Anew => anew(alloc, asked, steps)?,
+        Phase::Anew => anew(rt, alloc, asked, steps)?,
     }
     Ok(tally)
 }
@@ -96,7 +108,7 @@ pub fn counted<G: Ledger>(rt: &HostRuntime, asked: &Asked, blank: Blank) -> io::
     requires { (blank.name ≡ G.name) × (blank.parts ≡ G.parts) × (0 < blank.parts) }
 {
     let mut steps = Steps::<G>::new(blank);
-    match run(rt.alloc(), asked, &mut steps) {
+    match run(rt, rt.alloc(), asked, &mut steps) {
         Ok(tally) => println!(rt; "came={} went={}", tally.came, tally.went),
         Err(memory) => println!(rt; "{memory}"),
     }

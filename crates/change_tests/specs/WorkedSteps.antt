@@ -1,33 +1,33 @@
--- The steps of changes, computed: at `+` of a monitor beside a router, and over hops.
-use Rattle.std.specs.Prelude.{◌≡◌, ℕ, suc, false, List, [], ◌∷◌, map}
-use Rattle.op_compose.specs.declared.op.Op.TheVariants.{Par}
+-- The steps of changes, computed: at `+` of a monitor beside a router, and over the ports of their virtual switch.
+use Rattle.std.specs.Prelude.{◌≡◌, ℕ, zero, suc, ◌+◌, ◌≤◌, false, true, List, [], ◌∷◌, map}
+use Rattle.policy_expr.specs.Policy.{Policy, member, parallel}
+use Rattle.policy_meaning.specs.Hops.{Fabric}
 use Rattle.policy_meaning.specs.LeafRules.{leaf_rules}
+use Rattle.policy_meaning.specs.Rules.{rules_of}
 use Rattle.policy_meaning.specs.WorkedRules.{four_ports}
 use Rattle.policy_meaning.specs.WorkedTables.{does, entry, from_net, table, to_net, to_port}
 use Rattle.policy_meaning.specs.declared.leaf.LeafEntry.{LeafEntry}
+use Rattle.policy_meaning.specs.declared.network.Place.{Place}
 use Rattle.policy_meaning.specs.declared.rule.Rule.{Rule}
 use Rattle.of10_actions.specs.declared.effects.Tail.TheVariants.{Nothing}
-use Rattle.rule_ancestry.specs.Holding.{Held}
-use Rattle.made_rules.specs.declared.made.Made.{Made}
-use Rattle.policy_meaning.specs.Hops.{Fabric}
-use Rattle.policy_meaning.specs.declared.network.Place.{Place}
-use Rattle.hop_rules.specs.Counts.{all_steps}
-use Rattle.hop_rules.specs.Tables.{coming}
-use Rattle.incr_compile.specs.Costs.{cost_of}
-use Rattle.incr_compile.specs.Trees.{TreeOf, branch, leaf}
+use Rattle.incr_compile.specs.Costs.{steps_of}
+use Rattle.hop_rules.specs.Counts.{change_steps}
 
--- rules under ids from this one on
-abbrev pub held_from : ℕ → List Rule → List (Held Made)
-held_from id [] = []
-held_from id (r ∷ rules) = record { id = id; item = record { rule = r; origins = [] } } ∷ held_from (suc id) rules
+-- a member of eight levels each
+abbrev pub eight : ℕ → ℕ
+eight i = 8
 
--- a member with these entries, beside its miss
-abbrev pub member_with : ℕ → List LeafEntry → TreeOf
-member_with i entries = leaf i 8 (held_from 0 (leaf_rules four_ports (table i false entries)))
+abbrev pub beside : Policy
+beside = parallel (member 0) (member 1)
 
--- a monitor beside a router
-abbrev pub beside : List LeafEntry → List LeafEntry → TreeOf
-beside mon rt = branch (record { op = Par; size = 8; made = []; lefts = []; rights = [] }) (member_with 0 mon) (member_with 1 rt)
+-- the rules of the monitor with these entries, and of the router with those, beside their misses
+abbrev pub rules_with : List LeafEntry → List LeafEntry → ℕ → List Rule
+rules_with monitor router zero = leaf_rules four_ports (table 0 false monitor)
+rules_with monitor router (suc i) = leaf_rules four_ports (table 1 true router)
+
+-- the steps at `+` where the monitor's entries change
+abbrev pub steps_beside : List LeafEntry → List LeafEntry → List LeafEntry → ℕ
+steps_beside before after router = steps_of eight (rules_with before router) (rules_with after router) beside
 
 -- the monitor looks at packets from a net
 abbrev pub looks : ℕ → List LeafEntry
@@ -48,18 +48,31 @@ three_nets =
 -- One entry of the monitor comes: one step for it, one for the router's miss and one for the entry that could meet
 -- it. When it goes no step is made.
 pub record StepsOfOneEntry : Type 0 where
-  pub comes : cost_of (beside [] sends) (beside (looks 0x0a000100) sends) ≡ 3
-  pub goes : cost_of (beside (looks 0x0a000100) sends) (beside [] sends) ≡ 0
+  pub comes : steps_beside [] (looks 0x0a000100) sends ≡ 3
+  pub goes : steps_beside (looks 0x0a000100) [] sends ≡ 0
   -- of the router's three nets one could meet it
-  pub meets_one : cost_of (beside [] three_nets) (beside (looks 0x0a000200) three_nets) ≡ 3
+  pub meets_one : steps_beside [] (looks 0x0a000200) three_nets ≡ 3
 
 -- the four outside ports of a virtual switch
 abbrev pub own_ports : List Place
 own_ports = map (λ p. record { v = 0; port = p }) four_ports
 
--- Two rules come to a virtual switch that no link leaves: two steps at each of four ports, whatever is known of other
--- places, and none where rules go.
+-- the virtual switch of both, which has no links
+abbrev pub lone_switch : List LeafEntry → List LeafEntry → Fabric
+lone_switch monitor router = record {
+  rules = λ v. rules_of eight (rules_with monitor router) beside;
+  sizes = λ v. 15;
+  links = λ v. [];
+}
+
+-- the steps at its ports, through at most four hops
+abbrev pub steps_at_ports : List LeafEntry → List LeafEntry → List LeafEntry → ℕ
+steps_at_ports before after router = change_steps (lone_switch before router) (lone_switch after router) [] own_ports 4
+
+-- Where one entry for all ports won't do: two rules come, so two steps are made at each of four ports; with those at
+-- `+` fewer than the 35 of a node for each port and hop. None are made where the entry goes.
 pub record StepsOverHops : Type 0 where
-  pub come : (f : Fabric) (a b : Rule) (came : ℕ → List Rule)
-      → all_steps f [] (coming 0 (a ∷ b ∷ [])) own_ports 0 (came ∷ came ∷ came ∷ []) came ≡ 8
-  pub go : (f : Fabric) (came : ℕ → List Rule) → all_steps f [] (coming 0 []) own_ports 0 (came ∷ came ∷ came ∷ []) came ≡ 0
+  pub comes : steps_at_ports [] (looks 0x0a000100) sends ≡ 8
+  pub goes : steps_at_ports (looks 0x0a000100) [] sends ≡ 0
+  pub meets_one : steps_at_ports [] (looks 0x0a000200) three_nets ≡ 8
+  pub both : steps_beside [] (looks 0x0a000100) sends + steps_at_ports [] (looks 0x0a000100) sends ≤ 35

@@ -16,6 +16,7 @@ use std::alloc::Global;
 use std::marker::Brand;
 use std::sync::ledger::{Blank, Ledger};
 use std::test::Fail;
+use std::thread::Threads;
 
 const PORTS: [u16; 4] = [1, 2, 8, 9];
 
@@ -39,14 +40,15 @@ fn empty_tables(alloc: Global, shape: Shape) -> Result<List<LeafTable>, Fail>
 }
 
 /// An expression of members without entries.
-fn empty<G: Ledger>(
+fn empty<R: Threads + Sync, G: Ledger>(
+    rt: &R,
     alloc: Global,
     shape: Shape,
     steps: &mut Steps<G>,
 ) -> Result<Composer, Fail> {
     let tables = empty_tables(alloc, shape)?;
     let ports = List::from_slice(alloc, &PORTS)?;
-    match Composer::build(alloc, shape, 8, &tables, &ports, steps)? {
+    match Composer::build(rt, alloc, shape, 8, &tables, &ports, steps)? {
         Some(composer) => Ok(composer),
         None => Err(Fail::from(Memory)),
     }
@@ -103,7 +105,8 @@ fn drawn(
 }
 
 /// Whether the rules, and what was told of them, are those from scratch after each change.
-fn folded<G: Ledger>(
+fn folded<R: Threads + Sync, G: Ledger>(
+    rt: &R,
     alloc: Global,
     shape: Shape,
     rounds: u32,
@@ -111,7 +114,7 @@ fn folded<G: Ledger>(
 ) -> Result<bool, Fail> {
     let mut draws = Draws { state: 19 };
     let mut tables = empty_tables(alloc, shape)?;
-    let mut composer = empty(alloc, shape, steps)?;
+    let mut composer = empty(rt, alloc, shape, steps)?;
     let mut seen = composer.rules()?;
     for _round in 0..rounds {
         let member = draws.next() as u32 % shape.members();
@@ -185,12 +188,13 @@ struct Outcome {
     is_taken_back: bool,
 }
 
-fn tried<G: Ledger>(
+fn tried<R: Threads + Sync, G: Ledger>(
+    rt: &R,
     alloc: Global,
     shape: Shape,
     steps: &mut Steps<G>,
 ) -> Result<Outcome, Fail> {
-    let mut composer = empty(alloc, shape, steps)?;
+    let mut composer = empty(rt, alloc, shape, steps)?;
     let mut serial = 0;
     for (m, level) in rights(shape).into_iter().flatten() {
         serial += 1;
@@ -223,17 +227,21 @@ struct Seen {
 
 const WORKED: [Shape; 3] = [Shape::Parallel, Shape::Sequential, Shape::Override];
 
-fn followed<G: Ledger>(alloc: Global, blank: Blank) -> Result<Seen, Fail>
+fn followed<R: Threads + Sync, G: Ledger>(
+    rt: &R,
+    alloc: Global,
+    blank: Blank,
+) -> Result<Seen, Fail>
     requires { (blank.name ≡ G.name) × (blank.parts ≡ G.parts) × (0 < blank.parts) }
 {
     let mut steps = Steps::<G>::new(blank);
     let mut is_followed = true;
     for (shape, rounds) in ROUNDS {
-        is_followed = is_followed && folded(alloc, shape, rounds, &mut steps)?;
+        is_followed = is_followed && folded(rt, alloc, shape, rounds, &mut steps)?;
     }
     let mut outcomes = Vec::new(alloc);
     for shape in WORKED {
-        outcomes.push(tried(alloc, shape, &mut steps)?)?;
+        outcomes.push(tried(rt, alloc, shape, &mut steps)?)?;
     }
     Ok(Seen {
         is_followed,
@@ -243,7 +251,7 @@ fn followed<G: Ledger>(alloc: Global, blank: Blank) -> Result<Seen, Fail>
 
 #[test]
 fn expressions_follow(rt: HostRuntime) -> Result<(), Fail> {
-    let seen = followed::<Brand>(rt.alloc(), Blank::new(1))?;
+    let seen = followed::<HostRuntime, Brand>(&rt, rt.alloc(), Blank::new(1))?;
     assert!(rt; seen.is_followed);
     // Levels of `+` are sums, those of `>>` eight times the left and the right, those of `|>` eight more.
     let wanted = [

@@ -9,7 +9,7 @@ ghost use Rattle.policy_meaning.specs.Order.{IsListing};
 ghost use Rattle.policy_meaning.specs.Rules.{rules_of};
 ghost use Rattle.policy_meaning.specs.declared.rule.Rule.{Rule as RuleOf};
 ghost use Rattle.incr_compile.specs.Compiling.{IsOf, IsOfTables, MemberChanges, policy_in, rules_at};
-ghost use Rattle.incr_compile.specs.Costs.{cost_of};
+ghost use Rattle.incr_compile.specs.Costs.{steps_from_scratch, steps_of};
 ghost use Rattle.incr_compile.specs.Trees.{tree_of};
 ghost use Rattle.fitting_changes.specs.Composers.{CanTake, FitsIn, have_size, policy_by};
 
@@ -22,6 +22,7 @@ use policy_meaning::{LeafTable, Rule, expression_size, tables_fit};
 use std::alloc::Global;
 use std::marker::Model;
 use std::sync::ledger::Ledger;
+use std::thread::Threads;
 
 /// A compiled expression of members that all have so many levels.
 #[derive(Drop)]
@@ -89,7 +90,8 @@ impl Composer {
     /// The expression of a shape over tables of these members, at a virtual switch of these ports; none where there
     /// are not as many tables as members, where they have not as many levels, or where those of the expression are
     /// too many.
-    pub fn build<G: Ledger>(
+    pub fn build<R: Threads + Sync, G: Ledger>(
+        rt: &R,
         alloc: Global,
         shape: Shape,
         size: u64,
@@ -100,6 +102,7 @@ impl Composer {
         requires { AllByRecursion IsSoundTable tables.now }
         ensures policy { IfOk result (λ made. IfSome made (λ c. policy_in (tree_of c) ≡ policy_by shape)) }
         ensures tables { IfOk result (λ made. IfSome made (λ c. IsOfTables tables.now ports.now (tree_of c))) }
+        ensures steps { steps.new ≤ steps.old + steps_from_scratch tables.now ports.now (policy_by shape) }
     {
         if tables.len() as u64 != u64::from(shape.members()) || !all_have_size(size, tables) {
             return Ok(None);
@@ -108,7 +111,7 @@ impl Composer {
         if !tables_fit(tables) || expression_size(tables, &expr) == u64::MAX {
             return Ok(None);
         }
-        let compiled = Compiled::build(alloc, &expr, tables, ports, steps)?;
+        let compiled = Compiled::build(rt, alloc, &expr, tables, ports, steps)?;
         Ok(Some(Composer {
             shape,
             size,
@@ -134,7 +137,9 @@ impl Composer {
             → IsOf sizes before (tree_of self.old) → OnOk result (IsOf sizes after (tree_of self.new)) }
         ensures told { IfOk result (λ told. Changed (rules_at (tree_of self.old)) (rules_at (tree_of self.new)) told.gone told.come) }
         ensures apart { IfOk result (λ told. Apart told.gone told.come) }
-        ensures steps { OnOk result (steps.new ≤ steps.old + cost_of (tree_of self.old) (tree_of self.new)) }
+        ensures steps { (sizes : ℕ → ℕ) → (before after : ℕ → ListOf RuleOf) → MemberChanges delta before after
+            → IsOf sizes before (tree_of self.old)
+            → steps.new ≤ steps.old + steps_of sizes before after (policy_in (tree_of self.old)) }
         ensures memory { OnErr result (self.new ≡ self.old) }
     {
         self.compiled.apply(delta, steps)
