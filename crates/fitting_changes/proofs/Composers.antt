@@ -18,7 +18,7 @@ use Rattle.incr_compile.specs.Trees.{TreeOf, branch, has_member, leaf}
 use Rattle.incr_compile.specs.declared.compiled.LeafDelta.{LeafDelta}
 use Rattle.fitting_changes.specs.declared.shape.Shape.{Shape}
 use Rattle.fitting_changes.specs.declared.shape.Shape.TheVariants.{Parallel, Sequential, Override, Mixed}
-use Rattle.fitting_changes.specs.Composers.{CanTake, FitsIn, IsComposed, count_of, have_size, policy_by}
+use Rattle.fitting_changes.specs.Composers.{CanTake, Fits, FitsIn, HasSize, IsComposed, Suits, count_of, policy_by}
 
 -- ---- one item more of which a fact holds
 
@@ -94,34 +94,34 @@ named-once shape p e = subst (λ (q : Policy). EachPair (λ i j. i ≢ j) (membe
 
 -- ---- what is built
 
-sized-table : (size i : ℕ) (ts : List LeafTable) → AllByRecursion (have_size size) ts → i < length ts → table_size (slice_get ts i) ≡ size
+sized-table : (size i : ℕ) (ts : List LeafTable) → AllByRecursion (HasSize size) ts → i < length ts → table_size (slice_get ts i) ≡ size
 sized-table size i [] a l = absurd (omega arith)
 sized-table size zero (t ∷ ts) a l = a.0
 sized-table size (suc i) (t ∷ ts) a l = sized-table size i ts a.1 (omega arith)
 
-pub built : (shape : Shape) (size : ℕ) (tables : List LeafTable) (ports : List ℕ) (p : Policy) (t : TreeOf) → AllByRecursion (have_size size) tables
-    → length tables ≡ count_of shape → IsOfTables tables ports t → policy_in t ≡ p → p ≡ policy_by shape → IsComposed shape size t
-built shape size tables ports p t a c o e f = record {
+pub built : (shape : Shape) (size : ℕ) (tables : List LeafTable) (ports : List ℕ) (p : Policy) (t : TreeOf) → Suits shape size tables
+    → IsOfTables tables ports t → policy_in t ≡ p → p ≡ policy_by shape → IsComposed shape size t
+built shape size tables ports p t s o e f = record {
   policy = e ∙ f;
   sizes = λ i. table_size (slice_get tables i);
   rules = λ i. table_rules ports (slice_get tables i);
   of = o;
-  each = λ i l. sized-table size i tables a (subst (λ (k : ℕ). i < k) (sym c) l);
+  each = λ i l. sized-table size i tables s.sizes (subst (λ (k : ℕ). i < k) (sym s.count) l);
 }
 
 -- ---- what it can take
 
-pub can-take : (shape : Shape) (size : ℕ) (t : TreeOf) (delta : LeafDelta) → IsComposed shape size t → delta.member < count_of shape
-    → AllByRecursion (FitsIn size) delta.come → CanTake delta t
-can-take shape size t delta c l a =
-    let there : has_member delta.member t ≡ true = named delta.member t ∙ ap (names delta.member) c.policy ∙ all-named shape delta.member l in
-    let levels : member_size delta.member t ≡ size = sized c.sizes c.rules delta.member t c.of there ∙ c.each delta.member l in
+pub can-take : (shape : Shape) (size : ℕ) (t : TreeOf) (delta : LeafDelta) → IsComposed shape size t → Fits shape size delta
+    → CanTake delta t
+can-take shape size t delta c f =
+    let there : has_member delta.member t ≡ true = named delta.member t ∙ ap (names delta.member) c.policy ∙ all-named shape delta.member f.member in
+    let levels : member_size delta.member t ≡ size = sized c.sizes c.rules delta.member t c.of there ∙ c.each delta.member f.member in
     record {
       member = there;
       come = record {
-        normal = all-map (FitsIn size) (λ (r : Rule). IsNormal r.m) delta.come (λ r f. f.normal) a;
+        normal = all-map (FitsIn size) (λ (r : Rule). IsNormal r.m) delta.come (λ r x. x.normal) f.come;
         below = subst (λ (k : ℕ). AllByRecursion (λ (r : Rule). r.level < k) delta.come) (sym levels)
-            (all-map (FitsIn size) (λ (r : Rule). r.level < size) delta.come (λ r f. f.below) a);
+            (all-map (FitsIn size) (λ (r : Rule). r.level < size) delta.come (λ r x. x.below) f.come);
       };
     }
 

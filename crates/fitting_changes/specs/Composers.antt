@@ -1,5 +1,6 @@
 -- Expressions of a few members of one number of levels, and what their compiled expressions can take.
-use Rattle.std.specs.Prelude.{◌≡◌, ℕ, true, ◌<◌, List}
+use Rattle.std.specs.Prelude.{◌≡◌, ℕ, true, ◌<◌, List, length}
+use Rattle.std.specs.List.{AllByRecursion}
 use Rattle.of10_match.specs.Normal.{IsNormal}
 use Rattle.policy_expr.specs.Policy.{Policy, member, parallel, sequential, override}
 use Rattle.policy_meaning.specs.declared.leaf.LeafTable.{LeafTable}
@@ -25,13 +26,23 @@ count_of Override = 2
 count_of Mixed = 4
 
 -- the table has so many levels
-abbrev pub have_size : ℕ → LeafTable → Type 0
-have_size size t = t.size ≡ size
+abbrev pub HasSize : ℕ → LeafTable → Type 0
+HasSize size t = t.size ≡ size
+
+-- there is a table for each member, and all have so many levels
+pub record Suits (shape : Shape) (size : ℕ) (tables : List LeafTable) : Type 0 where
+  pub count : length tables ≡ count_of shape
+  pub sizes : AllByRecursion (HasSize size) tables
 
 -- a rule has one of so many levels, and a normal match
 pub record FitsIn (size : ℕ) (r : Rule) : Type 0 where
   pub below : r.level < size
   pub normal : IsNormal r.m
+
+-- a change of a member's rules to rules that fit
+pub record Fits (shape : Shape) (size : ℕ) (delta : LeafDelta) : Type 0 where
+  pub member : delta.member < count_of shape
+  pub come : AllByRecursion (FitsIn size) delta.come
 
 -- a compiled expression of a shape whose members have so many levels
 pub record IsComposed (shape : Shape) (size : ℕ) (t : TreeOf) : Type 0 where

@@ -11,7 +11,7 @@ ghost use Rattle.policy_meaning.specs.declared.rule.Rule.{Rule as RuleOf};
 ghost use Rattle.incr_compile.specs.Compiling.{IsOf, IsOfTables, MemberChanges, policy_in, rules_at};
 ghost use Rattle.incr_compile.specs.Costs.{steps_from_scratch, steps_of};
 ghost use Rattle.incr_compile.specs.Trees.{tree_of};
-ghost use Rattle.fitting_changes.specs.Composers.{CanTake, FitsIn, have_size, policy_by};
+ghost use Rattle.fitting_changes.specs.Composers.{CanTake, Fits, FitsIn, HasSize, IsComposed, Suits, policy_by};
 
 use crate::shape::Shape;
 use cv_io::{List, Memory, Steps};
@@ -76,7 +76,7 @@ fn all_fit_in(size: u64, rules: &List<Rule>) -> bool
 
 /// Whether all tables have so many levels.
 fn all_have_size(size: u64, tables: &List<LeafTable>) -> bool
-    ensures { IsTrue result → AllByRecursion (have_size size) tables.now }
+    ensures { IsTrue result → AllByRecursion (HasSize size) tables.now }
 {
     for table in tables.as_slice() {
         if table.size != size {
@@ -84,6 +84,32 @@ fn all_have_size(size: u64, tables: &List<LeafTable>) -> bool
         }
     }
     true
+}
+
+/// Whether there is a table for each member of a shape, and all have so many levels.
+fn suits(shape: Shape, size: u64, tables: &List<LeafTable>) -> bool
+    ensures { IsTrue result → Suits shape size tables.now }
+{
+    tables.len() as u64 == u64::from(shape.members()) && all_have_size(size, tables)
+}
+
+/// Whether a change is one of a member's rules to rules that fit.
+fn fits(shape: Shape, size: u64, delta: &LeafDelta) -> bool
+    ensures { IsTrue result → Fits shape size delta.now }
+{
+    delta.member < shape.members() && all_fit_in(size, &delta.come)
+}
+
+/// A compiled expression, and what is known of its members.
+fn known(shape: Shape, size: u64, compiled: Compiled) -> Composer
+    requires { IsComposed shape size (tree_of compiled) }
+    ensures { result ≡ compiled }
+{
+    Composer {
+        shape,
+        size,
+        compiled,
+    }
 }
 
 impl Composer {
@@ -104,7 +130,7 @@ impl Composer {
         ensures tables { IfOk result (λ made. IfSome made (λ c. IsOfTables tables.now ports.now (tree_of c))) }
         ensures steps { steps.new ≤ steps.old + steps_from_scratch tables.now ports.now (policy_by shape) }
     {
-        if tables.len() as u64 != u64::from(shape.members()) || !all_have_size(size, tables) {
+        if !suits(shape, size, tables) {
             return Ok(None);
         }
         let expr = shape.expr(alloc)?;
@@ -112,18 +138,14 @@ impl Composer {
             return Ok(None);
         }
         let compiled = Compiled::build(rt, alloc, &expr, tables, ports, steps)?;
-        Ok(Some(Composer {
-            shape,
-            size,
-            compiled,
-        }))
+        Ok(Some(known(shape, size, compiled)))
     }
 
     /// Whether a change is one of a member's rules to rules that fit.
     pub fn can_take(&self, delta: &LeafDelta) -> bool
         ensures { IsTrue result → CanTake delta.now (tree_of self.now) }
     {
-        delta.member < self.shape.members() && all_fit_in(self.size, &delta.come)
+        fits(self.shape, self.size, delta)
     }
 
     /// Changes the rules of a member, and tells how the rules of the expression changed.
@@ -140,7 +162,7 @@ impl Composer {
         ensures steps { (sizes : ℕ → ℕ) → (before after : ℕ → ListOf RuleOf) → MemberChanges delta before after
             → IsOf sizes before (tree_of self.old)
             → steps.new ≤ steps.old + steps_of sizes before after (policy_in (tree_of self.old)) }
-        ensures memory { OnErr result (self.new ≡ self.old) }
+        ensures memory { OnErr result (tree_of self.new ≡ tree_of self.old) }
     {
         self.compiled.apply(delta, steps)
     }
