@@ -1,5 +1,5 @@
 -- The entries of a member, each at a rank and a level of its own, by its number.
-use Rattle.std.specs.Prelude.{◌≡◌, ℕ, ◌<◌, ◌+◌, List}
+use Rattle.std.specs.Prelude.{◌≡◌, ℕ, ◌<◌, ◌+◌, ◌^◌, List}
 use Rattle.std.specs.List.{AllByRecursion}
 use Rattle.of10_actions.specs.Effects.{BuildsUp}
 use Rattle.of10_match.specs.Normal.{IsNormal}
@@ -12,6 +12,7 @@ SIZE = 131072
 
 -- the entry of a number
 pub record IsEntry (number : ℕ) (e : LeafEntry) : Type 0 where
+  pub few : number < 2 ^ 16
   pub serial : e.serial ≡ 1 + number
   pub rank : e.rank ≡ 2 + number
   pub level : e.level ≡ 2 + number

@@ -1,7 +1,8 @@
 //! The entries of members, by their numbers.
-ghost use Rattle.std.specs.Prelude.{◌≡◌, ◌<◌, ◌+◌, ◌^◌, IfOk};
+ghost use Rattle.std.specs.Prelude.{◌≡◌, ◌<◌, ◌^◌, ◌∷◌, [], IfOk};
 ghost use Rattle.std.specs.List.{AllByRecursion};
 ghost use Rattle.of10_actions.specs.Effects.{BuildsUp};
+ghost use Rattle.of10_match.specs.Matching.{everything};
 ghost use Rattle.of10_match.specs.Normal.{IsNormal};
 ghost use Rattle.policy_meaning.specs.LeafFact.{IsSoundTable};
 ghost use Rattle.bench_compose.specs.Entries.{AreEntries, IsEntry};
@@ -18,9 +19,6 @@ use std::alloc::Global;
 
 /// How many levels a member has.
 pub const SIZE: u64 = 0x2_0000;
-
-/// The ports of the virtual switch.
-pub const PORTS: [u16; 4] = [1, 2, 3, 4];
 
 /// A match as it is written, of which the wildcards leave all out.
 const OPEN: OfpMatch = OfpMatch {
@@ -86,12 +84,13 @@ fn packets(kind: Kind, member: u32, number: u16) -> Match
 fn passing(alloc: Global, number: u16) -> Effects
     ensures { BuildsUp result }
 {
+    let outs = List::new(alloc);
     let rewrite = Rewrite {
         nw_dst: Some(address(number)),
         ..Rewrite::new()
     };
     Effects {
-        outs: List::new(alloc),
+        outs,
         tail: Tail::Pass(rewrite),
     }
 }
@@ -114,20 +113,46 @@ fn leaving(alloc: Global, number: u16) -> Result<Effects, Memory>
     })
 }
 
+/// The list of all headers.
+fn everywhere(alloc: Global) -> Result<List<Match>, Memory>
+    ensures { IfOk result (λ list. list ≡ everything ∷ []) }
+{
+    let mut list = List::new(alloc);
+    list.push(Match::everything())?;
+    Ok(list)
+}
+
+/// The list of two tables.
+fn two(alloc: Global, first: LeafTable, second: LeafTable) -> Result<List<LeafTable>, Memory>
+    ensures { IfOk result (λ list. list ≡ first ∷ second ∷ []) }
+{
+    let mut list = List::new(alloc);
+    list.push(first)?;
+    list.push(second)?;
+    Ok(list)
+}
+
 impl Asked {
+    /// What is done with the packets of the entry of a number.
+    fn effects(&self, alloc: Global, member: u32, number: u16) -> Result<Effects, Memory>
+        ensures { IfOk result BuildsUp }
+    {
+        if self.shape == Shape::Sequential && member == 0 {
+            return Ok(passing(alloc, number));
+        }
+        leaving(alloc, number)
+    }
+
     /// The entry of a number.
     fn entry(&self, alloc: Global, member: u32, number: u16) -> Result<LeafEntry, Memory>
         ensures { IfOk result (IsEntry number) }
     {
-        let effects = if self.shape == Shape::Sequential && member == 0 {
-            passing(alloc, number)
-        } else {
-            leaving(alloc, number)?
-        };
+        let effects = self.effects(alloc, member, number)?;
+        let m = packets(self.kind, member, number);
         Ok(LeafEntry {
             serial: 1 + u64::from(number),
             rank: 2 + u32::from(number),
-            m: packets(self.kind, member, number),
+            m,
             level: 2 + u64::from(number),
             effects,
         })
@@ -150,11 +175,13 @@ impl Asked {
         ensures { IfOk result IsSoundTable }
     {
         let entries = self.entries(alloc, member)?;
+        let region = everywhere(alloc)?;
+        let visible = List::from_slice(alloc, &[1, 2, 3, 4])?;
         Ok(LeafTable {
             member,
             size: SIZE,
-            region: List::from_slice(alloc, &[Match::everything()])?,
-            visible: List::from_slice(alloc, &PORTS)?,
+            region,
+            visible,
             misses: false,
             entries,
         })
@@ -164,9 +191,9 @@ impl Asked {
     pub fn tables(&self, alloc: Global) -> Result<List<LeafTable>, Memory>
         ensures { IfOk result (AllByRecursion IsSoundTable) }
     {
-        let mut tables = List::new(alloc);
-        tables.push(self.table(alloc, 0)?)?;
-        tables.push(self.table(alloc, 1)?)?;
+        let first = self.table(alloc, 0)?;
+        let second = self.table(alloc, 1)?;
+        let tables = two(alloc, first, second)?;
         Ok(tables)
     }
 

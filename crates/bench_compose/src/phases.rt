@@ -2,7 +2,7 @@
 ghost use Rattle.std.specs.Prelude.{◌≡◌, ◌<◌};
 
 use crate::asked::{Asked, Phase};
-use crate::members::{PORTS, SIZE};
+use crate::members::SIZE;
 use cv_io::{List, Memory, Steps};
 use fitting_changes::Composer;
 use std::alloc::Global;
@@ -25,7 +25,7 @@ fn composed<R: Threads + Sync, G: Ledger>(
     steps: &mut Steps<G>,
 ) -> Result<Composer, Memory> {
     let tables = asked.tables(alloc)?;
-    let ports = List::from_slice(alloc, &PORTS)?;
+    let ports = List::from_slice(alloc, &[1, 2, 3, 4])?;
     match Composer::build(rt, alloc, asked.shape, SIZE, &tables, &ports, steps)? {
         Some(composer) => Ok(composer),
         None => Err(Memory),

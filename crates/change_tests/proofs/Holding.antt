@@ -2,18 +2,19 @@
 use Rattle.std.proofs.Common.{◌≡◌, ℕ, zero, suc, ◌==◌, ◌*◌, ◌^◌, ◌<◌, ◌≤◌, Bool, false, List, [], ◌∷◌, ◌++◌, Some, length, refl, ap, subst, sym, ◌∙◌, arith}
 use Rattle.std.specs.Prelude.{IsPermutation, map, slice_get, slice_index_or}
 use Rattle.std.specs.List.{AllByRecursion, remove}
-use Rattle.std.proofs.lemmas.List.Sorted.{IsPermutation-refl, IsPermutation-remove, IsPermutation-to_front}
+use Rattle.std.proofs.lemmas.List.Sorted.{IsPermutation-refl, IsPermutation-remove, IsPermutation-to_front, IsPermutation-trans}
 use Rattle.std.proofs.lemmas.Nat.{mul-le}
 use Rattle.std.proofs.lemmas.Option.{get_or_from_slice_get, slice_get_within}
 use Rattle.list_change.specs.Changes.{Changed}
-use Rattle.of10_match.specs.Normal.{IsNormal}
 use Rattle.policy_meaning.specs.Hops.{Fabric, hop_size, peers_size}
 use Rattle.policy_meaning.specs.declared.network.Link.{Link}
 use Rattle.policy_meaning.specs.declared.rule.Rule.{Rule}
 use Rattle.virtual_topology.specs.declared.plan.TopologyPlan.{TopologyPlan}
 use Rattle.change_tests.specs.Holding.{IsHolding}
 use Rattle.hop_rules.specs.Tables.{IsHanded, MayCome, TableOf, empty_table, fabric, is_whole, rules_at}
-use Rattle.change_tests.proofs.Cancelling.{same-after}
+use Rattle.composed_tables.proofs.Cancelling.{same-after}
+use Rattle.fitting_changes.specs.Composers.{FitsIn}
+use Rattle.policy_meaning.proofs.Lists.{all-map}
 
 -- after a change of its rules
 pub holds-after : (t t' : TableOf) (v : ℕ) (gone come held held' : List Rule) → IsHolding t v held → IsHanded t t' v gone come
@@ -36,11 +37,6 @@ others-hold t t' v u gone come held e h i = record {
   parted = ap (λ (w : TableOf). is_whole w u) h.rest ∙ i.parted;
   rules = subst (λ (rs : List Rule). IsPermutation rs held) (sym (h.others u e)) i.rules;
 }
-
--- a rule of one of its levels may come
-pub one-may-come : (t : TableOf) (v : ℕ) (held : List Rule) (r : Rule) → IsHolding t v held → r.level < 8 → IsNormal r.m
-    → AllByRecursion (MayCome t v) (r ∷ [])
-one-may-come t v held r i l n = (record { below = subst (λ (k : ℕ). r.level < k) (sym i.size) l; normal = n }, tt)
 
 -- where sizes are at most 8, the levels over hops are at most as many as over virtual switches of 8 levels
 peers-within : (f : ℕ → ℕ) (s : ℕ) → 1 ≤ s → ((v : ℕ) → f v ≤ s) → (ls : List Link) → peers_size f ls ≤ s
@@ -86,24 +82,40 @@ none-held plan sizes whole t v e w h l =
     at (suc zero) l = record { kept = refl; there = omega arith; size = refl; parted = refl; rules = IsPermutation-refl [] }
     at (suc (suc v)) l = absurd (omega arith)
 
--- a rule comes to those that are held
-pub one-comes : (held held' gone come : List Rule) (r copied : Rule) → gone ≡ [] → come ≡ r ∷ [] → copied ≡ r → held' ≡ held ++ copied ∷ []
-    → Changed held held' gone come
-one-comes held held' gone come r copied g c s h = record {
-  kept = held;
-  was = subst (λ (z : List Rule). IsPermutation held (z ++ held)) (sym g) (IsPermutation-refl held);
-  is = subst (λ (z : List Rule). IsPermutation z (come ++ held)) (sym h)
-      (subst (λ (z : List Rule). IsPermutation (held ++ copied ∷ []) (z ++ held)) (sym c)
-      (subst (λ (x : Rule). IsPermutation (held ++ x ∷ []) (r ∷ held)) (sym s) (IsPermutation-to_front held r)));
-}
+-- ---- rules that go from those that are held, and that come to them
 
--- a rule goes from them
-pub one-goes : (held held' gone come : List Rule) (r : Rule) (place : ℕ) → slice_get held place ≡ Some r → held' ≡ remove held place → gone ≡ r ∷ []
-    → come ≡ [] → Changed held held' gone come
-one-goes held held' gone come r place i h g c = record {
-  kept = held';
-  was = subst (λ (z : List Rule). IsPermutation held (gone ++ z)) (sym h)
-      (subst (λ (z : List Rule). IsPermutation held (z ++ remove held place)) (sym g)
-      (IsPermutation-remove held place r (slice_get_within held place r i) (sym (get_or_from_slice_get held place r r i))));
-  is = subst (λ (z : List Rule). IsPermutation held' (z ++ held')) (sym c) (IsPermutation-refl held');
-}
+pub took-one : (held held' gone : List Rule) (r : Rule) (place : ℕ) → slice_get held place ≡ Some r → held' ≡ remove held place → gone ≡ r ∷ []
+    → IsPermutation held (gone ++ held')
+took-one held held' gone r place i h g =
+    subst (λ (z : List Rule). IsPermutation held (gone ++ z)) (sym h)
+    (subst (λ (z : List Rule). IsPermutation held (z ++ remove held place)) (sym g)
+    (IsPermutation-remove held place r (slice_get_within held place r i) (sym (get_or_from_slice_get held place r r i))))
+
+pub took-none : (held gone : List Rule) → gone ≡ [] → IsPermutation held (gone ++ held)
+took-none held gone g = subst (λ (z : List Rule). IsPermutation held (z ++ held)) (sym g) (IsPermutation-refl held)
+
+pub put-one : (held held' come : List Rule) (r copied : Rule) → come ≡ r ∷ [] → copied ≡ r → held' ≡ held ++ copied ∷ [] → IsPermutation held' (come ++ held)
+put-one held held' come r copied c s h =
+    subst (λ (z : List Rule). IsPermutation z (come ++ held)) (sym h)
+    (subst (λ (z : List Rule). IsPermutation (held ++ copied ∷ []) (z ++ held)) (sym c)
+    (subst (λ (x : Rule). IsPermutation (held ++ x ∷ []) (r ∷ held)) (sym s) (IsPermutation-to_front held r)))
+
+pub fits-one : (come : List Rule) (r : Rule) → come ≡ r ∷ [] → FitsIn 8 r → AllByRecursion (FitsIn 8) come
+fits-one come r c f = subst (AllByRecursion (FitsIn 8)) (sym c) (f, tt)
+
+pub fits-none : (come : List Rule) → come ≡ [] → AllByRecursion (FitsIn 8) come
+fits-none come c = subst (AllByRecursion (FitsIn 8)) (sym c) tt
+
+-- what went was among the rules of the virtual switch
+pub gone-there : (t : TableOf) (v : ℕ) (held mid gone : List Rule) → IsHolding t v held → IsPermutation held (gone ++ mid)
+    → (kept : List Rule) × IsPermutation (rules_at t v) (gone ++ kept)
+gone-there t v held mid gone i m = (mid, IsPermutation-trans (rules_at t v) held (gone ++ mid) i.rules m)
+
+-- what comes may come
+pub may-come : (t : TableOf) (v : ℕ) (held come : List Rule) → IsHolding t v held → AllByRecursion (FitsIn 8) come → AllByRecursion (MayCome t v) come
+may-come t v held come i a =
+    all-map (FitsIn 8) (MayCome t v) come (λ r f. record { below = subst (λ (k : ℕ). r.level < k) (sym i.size) f.below; normal = f.normal }) a
+
+-- what is held changed so
+pub is-change : (held mid held' gone come : List Rule) → IsPermutation held (gone ++ mid) → IsPermutation held' (come ++ mid) → Changed held held' gone come
+is-change held mid held' gone come m n = record { kept = mid; was = m; is = n }

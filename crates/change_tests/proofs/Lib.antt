@@ -1,3 +1,3 @@
-pub mod Cancelling
 pub mod Holding
+pub mod Tables
 pub mod WorkedRouted

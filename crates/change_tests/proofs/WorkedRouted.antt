@@ -25,8 +25,9 @@ use Rattle.incr_compile.specs.declared.compiled.LeafDelta.{LeafDelta}
 use Rattle.incr_compile.specs.declared.tree.Tree.{Tree}
 use Rattle.agreement.specs.declared.state.Setting.{Setting}
 use Rattle.virtual_topology.specs.declared.plan.TopologyPlan.{TopologyPlan}
+use Rattle.fitting_changes.specs.Composers.{FitsIn}
 use Rattle.composed_tables.specs.Composing.{ComposedOf, IsGood, IsOf}
-use Rattle.composed_tables.specs.Rules.{AreRulesOf, CanTake, IsFitting, IsOutside, IsReadyFor, IsTreeOf, RulesOf}
+use Rattle.composed_tables.specs.Rules.{AreRulesOf, CanTake, IsOutside, IsReadyFor, IsTreeOf, RulesOf}
 use Rattle.change_tests.specs.WorkedRouted.{routed_plan}
 
 pub some-tree : (trees : List Tree) → length trees ≡ 1 → 0 < length trees
@@ -108,14 +109,14 @@ module _ (whole : Bool) where
       none-lead (suc v) = tt
 
   -- its rules can take a change of the router's rules
-  pub can-take : (r : RulesOf) (delta : LeafDelta) → AreRulesOf (routed whole) r → delta.member ≡ 0 → AllByRecursion (IsFitting 8) delta.come → CanTake r 0 delta
+  pub can-take : (r : RulesOf) (delta : LeafDelta) → AreRulesOf (routed whole) r → delta.member ≡ 0 → AllByRecursion (FitsIn 8) delta.come → CanTake r 0 delta
   can-take r delta of e a = record {
     there = some-tree r.trees of.count;
     member = λ t at. subst (λ (i : ℕ). has_member i (tree_of t) ≡ true) (sym e) (known t at).has;
     come = λ t at. record {
-      normal = all-map (IsFitting 8) (λ (x : Rule). IsNormal x.m) delta.come (λ x f. f.normal) a;
+      normal = all-map (FitsIn 8) (λ (x : Rule). IsNormal x.m) delta.come (λ x f. f.normal) a;
       below = subst (λ (k : ℕ). AllByRecursion (λ (x : Rule). x.level < k) delta.come) (sym (subst (λ (i : ℕ). member_size i (tree_of t) ≡ 8) (sym e) (known t at).size))
-          (all-map (IsFitting 8) (λ (x : Rule). x.level < 8) delta.come (λ x f. f.below) a);
+          (all-map (FitsIn 8) (λ (x : Rule). x.level < 8) delta.come (λ x f. f.below) a);
     };
   }
     where
@@ -140,7 +141,7 @@ ready-of plan s i =
     (subst (IsReadyFor routed_plan) (sym i.setting) (is-ready i.whole (subst IsFittingSetting i.setting i.fits)))
 
 pub take-of : (plan : TopologyPlan) (s : Setting) → IsRouted plan s → (c : ComposedOf) → IsOf s c → (delta : LeafDelta) → delta.member ≡ 0
-    → AllByRecursion (IsFitting 8) delta.come → (r : RulesOf) → c.rules ≡ Some r → CanTake r 0 delta
+    → AllByRecursion (FitsIn 8) delta.come → (r : RulesOf) → c.rules ≡ Some r → CanTake r 0 delta
 take-of plan s i c o delta e a r at = can-take i.whole r delta (subst (λ (z : Setting). AreRulesOf z r) i.setting (o.rules r at)) e a
 
 -- it has one switch

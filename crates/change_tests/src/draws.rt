@@ -1,4 +1,8 @@
 //! Entries, and changes of entries by a fixed generator.
+ghost use Rattle.std.specs.Prelude.{IfOk};
+ghost use Rattle.policy_meaning.specs.LeafFact.{IsSoundTable};
+
+use crate::settings::alone;
 use cv_io::{Duplicate, Leaf, List};
 use of10_actions::{Dest, Effects, Out, Rewrite, Tail};
 use of10_match::{Match, Prefix};
@@ -50,21 +54,21 @@ pub(crate) fn to_net(addr: u32, len: u8) -> Match {
     }
 }
 
-/// A table of 8 levels without entries, of a member that may act on all headers and isn't told of misses.
-pub(crate) fn empty_table(
-    alloc: Global,
-    member: u32,
-    visible: &[u16],
-) -> Result<LeafTable, Fail> {
-    let mut region = List::new(alloc);
-    region.push(Match::everything())?;
+/// A table of 8 levels without entries, of a member that may act on all headers, sees ports 1, 2, 8 and 9, and isn't
+/// told of misses.
+pub(crate) fn empty_table(alloc: Global, member: u32) -> Result<LeafTable, Fail>
+    ensures { IfOk result IsSoundTable }
+{
+    let region = alone(alloc, Match::everything())?;
+    let visible = List::from_slice(alloc, &[1, 2, 8, 9])?;
+    let entries = List::new(alloc);
     Ok(LeafTable {
         member,
         size: 8,
         region,
-        visible: List::from_slice(alloc, visible)?,
+        visible,
         misses: false,
-        entries: List::new(alloc),
+        entries,
     })
 }
 

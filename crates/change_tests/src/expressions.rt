@@ -34,7 +34,8 @@ fn empty_tables(alloc: Global, shape: Shape) -> Result<List<LeafTable>, Fail>
 {
     let mut tables = List::new(alloc);
     for member in 0..shape.members() {
-        tables.push(empty_table(alloc, member, &PORTS)?)?;
+        let table = empty_table(alloc, member)?;
+        tables.push(table)?;
     }
     Ok(tables)
 }

@@ -1,11 +1,12 @@
 //! The rules of the ports of two virtual switches that links join, kept as their own rules change.
-ghost use Rattle.std.specs.Prelude.{◌≡◌, ◌==◌, ◌++◌, ◌∷◌, [], ℕ, IfOk, IsPermutation, List as ListOf, OnOk, false};
+ghost use Rattle.std.specs.Prelude.{◌≡◌, ◌==◌, ◌<◌, ◌++◌, ℕ, IfOk, IsPermutation, List as ListOf, OnOk, false, length};
 ghost use Rattle.std.specs.List.{AllByRecursion};
 ghost use Rattle.policy_meaning.specs.declared.rule.Rule.{Rule as RuleOf};
 ghost use Rattle.fitting_changes.specs.Composers.{FitsIn};
 ghost use Rattle.change_tests.specs.Holding.{IsHolding};
 
 use crate::draws::Change;
+use crate::settings::alone;
 use crate::topologies::topology;
 use cv_io::{Duplicate, List, Memory, Steps};
 use fitting_changes::fits_in;
@@ -36,42 +37,70 @@ impl Model for Net {
     ghost invariant = { λ n. IsHolding n.table 0 n.first × IsHolding n.table 1 n.second };
 }
 
-/// The list of one rule.
-fn alone(alloc: Global, rule: Rule) -> Result<List<Rule>, Memory>
-    ensures { IfOk result (λ rules. rules ≡ rule ∷ []) }
-{
-    let mut rules = List::new(alloc);
-    rules.push(rule)?;
-    Ok(rules)
-}
-
 /// The rule at a place goes.
-fn take(alloc: Global, held: &mut List<Rule>, place: Option<usize>) -> Result<List<Rule>, Memory>
+fn take_at(alloc: Global, held: &mut List<Rule>, place: usize) -> Result<List<Rule>, Fail>
+    requires { place < length held.old }
     ensures { IfOk result (λ gone. IsPermutation held.old (gone ++ held.new)) }
 {
-    match place {
-        Some(place) if place < held.len() => {
-            let rule = held.remove(place);
-            alone(alloc, rule)
-        }
-        Some(_) => Err(Memory),
-        None => Ok(List::new(alloc)),
-    }
+    let rule = held.remove(place);
+    let gone = alone(alloc, rule)?;
+    Ok(gone)
 }
 
-/// A rule comes, if it can.
-fn put(alloc: Global, held: &mut List<Rule>, rule: Option<Rule>) -> Result<List<Rule>, Memory>
+/// None goes.
+fn take_none(alloc: Global, held: &mut List<Rule>) -> List<Rule>
+    ensures { IsPermutation held.old (result ++ held.new) }
+{
+    let _held = held.len();
+    List::new(alloc)
+}
+
+/// The rule at a place goes, if it is there.
+fn take(alloc: Global, held: &mut List<Rule>, place: Option<usize>) -> Result<List<Rule>, Fail>
+    ensures { IfOk result (λ gone. IsPermutation held.old (gone ++ held.new)) }
+{
+    let Some(place) = place else {
+        return Ok(take_none(alloc, held));
+    };
+    if place >= held.len() {
+        return Err(Fail::from(Memory));
+    }
+    take_at(alloc, held, place)
+}
+
+/// A rule that fits comes.
+fn put_one(alloc: Global, held: &mut List<Rule>, rule: Rule) -> Result<List<Rule>, Fail>
+    requires { FitsIn 8 rule }
     ensures come { IfOk result (λ come. IsPermutation held.new (come ++ held.old)) }
     ensures fit { IfOk result (AllByRecursion (FitsIn 8)) }
 {
-    match rule {
-        Some(rule) if fits_in(8, &rule) => {
-            held.push(rule.copy()?)?;
-            alone(alloc, rule)
-        }
-        Some(_) => Err(Memory),
-        None => Ok(List::new(alloc)),
+    let copied = rule.copy()?;
+    held.push(copied)?;
+    let come = alone(alloc, rule)?;
+    Ok(come)
+}
+
+/// None comes.
+fn put_none(alloc: Global, held: &mut List<Rule>) -> List<Rule>
+    ensures come { IsPermutation held.new (result ++ held.old) }
+    ensures fit { AllByRecursion (FitsIn 8) result }
+{
+    let _held = held.len();
+    List::new(alloc)
+}
+
+/// A rule comes, if it fits.
+fn put(alloc: Global, held: &mut List<Rule>, rule: Option<Rule>) -> Result<List<Rule>, Fail>
+    ensures come { IfOk result (λ come. IsPermutation held.new (come ++ held.old)) }
+    ensures fit { IfOk result (AllByRecursion (FitsIn 8)) }
+{
+    let Some(rule) = rule else {
+        return Ok(put_none(alloc, held));
+    };
+    if !fits_in(8, &rule) {
+        return Err(Fail::from(Memory));
     }
+    put_one(alloc, held, rule)
 }
 
 /// The rules of a virtual switch change, and those of ports with them.
@@ -82,7 +111,7 @@ fn turn<G: Ledger>(
     held: &mut List<Rule>,
     change: Change,
     steps: &mut Steps<G>,
-) -> Result<List<PortDelta>, Memory>
+) -> Result<List<PortDelta>, Fail>
     requires { IsHolding table.old v held.old }
     ensures own { OnOk result (IsHolding table.new v held.new) }
     ensures others { OnOk result ((u : ℕ) → (rules : ListOf RuleOf) → (u == v) ≡ false → IsHolding table.old u rules
@@ -122,7 +151,7 @@ impl Net {
         v: u32,
         change: Change,
         steps: &mut Steps<G>,
-    ) -> Result<(Net, List<PortDelta>), Memory> {
+    ) -> Result<(Net, List<PortDelta>), Fail> {
         let Net {
             mut table,
             mut first,

@@ -1,21 +1,21 @@
 //! Changes of a router's table: what stands is what is installed from scratch, and what stood once it is taken
 //! back.
-ghost use Rattle.std.specs.Prelude.{◌≡◌, ◌<◌, Bool, IfOk, IsTrue};
+ghost use Rattle.std.specs.Prelude.{◌≡◌, ◌<◌, Bool, IfOk};
 ghost use Rattle.std.specs.List.{AllByRecursion};
 ghost use Rattle.agreement.specs.Worked.{routed};
-ghost use Rattle.of10_match.specs.Normal.{IsNormal};
-ghost use Rattle.composed_tables.specs.Rules.{IsFitting};
+ghost use Rattle.fitting_changes.specs.Composers.{FitsIn};
 ghost use Rattle.change_tests.specs.WorkedRouted.{routed_plan};
 
 use crate::settings::{alone, sends, setting, topology};
 use agreement::{Setting, entries_of};
 use composed_tables::Composed;
 use cv_io::{Duplicate, Leaf, List, Memory, Steps};
+use fitting_changes::fits_in;
 use incr_compile::LeafDelta;
 use install_plan::Written;
 use of10_match::{Match, Prefix};
 use op_compose::leaf;
-use policy_meaning::{LeafEntry, Rule};
+use policy_meaning::LeafEntry;
 use std::alloc::Global;
 use std::marker::Brand;
 use std::sync::ledger::{Blank, Ledger};
@@ -64,23 +64,9 @@ fn leaf_of(serial: u64) -> Leaf {
     }
 }
 
-/// Whether a match is normal.
-fn is_normal(m: &Match) -> bool
-    ensures { IsTrue result → IsNormal m.now }
-{
-    m.normal() == *m
-}
-
-/// Whether a rule has one of 8 levels, and a normal match.
-fn is_fitting(rule: &Rule) -> bool
-    ensures { IsTrue result → IsFitting 8 rule.now }
-{
-    rule.level < 8 && is_normal(&rule.m)
-}
-
 /// The rules that come by a vector.
 fn come(alloc: Global, vector: &Vector) -> Result<List<Rule>, Fail>
-    ensures { IfOk result (AllByRecursion (IsFitting 8)) }
+    ensures { IfOk result (AllByRecursion (FitsIn 8)) }
 {
     let Some((addr, port)) = vector.comes else {
         return Ok(List::new(alloc));
@@ -93,7 +79,7 @@ fn come(alloc: Global, vector: &Vector) -> Result<List<Rule>, Fail>
         sends(alloc, port)?,
         leaf_of(2),
     )?;
-    if !is_fitting(&rule) {
+    if !fits_in(8, &rule) {
         return Err(Fail::from(Memory));
     }
     alone(alloc, rule)
@@ -102,7 +88,7 @@ fn come(alloc: Global, vector: &Vector) -> Result<List<Rule>, Fail>
 /// What a vector changes of the router's rules.
 fn delta(alloc: Global, vector: &Vector) -> Result<LeafDelta, Fail>
     ensures member { IfOk result (λ delta. delta.member ≡ 0) }
-    ensures come { IfOk result (λ delta. AllByRecursion (IsFitting 8) delta.come) }
+    ensures come { IfOk result (λ delta. AllByRecursion (FitsIn 8) delta.come) }
 {
     let mut gone = List::new(alloc);
     if vector.goes {

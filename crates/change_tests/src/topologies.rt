@@ -98,7 +98,7 @@ pub(crate) fn empty_network(alloc: Global) -> Result<Network, Fail> {
     let mut tables = List::new(alloc);
     let mut switches = List::new(alloc);
     for (v, peer) in [(0, 1), (1, 0)] {
-        tables.push(empty_table(alloc, v, &[1, 2, 8, 9])?)?;
+        tables.push(empty_table(alloc, v)?)?;
         switches.push(virtual_switch(alloc, v, peer)?)?;
     }
     Ok(Network { tables, switches })
