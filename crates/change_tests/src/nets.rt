@@ -144,7 +144,49 @@ impl Net {
         })
     }
 
-    /// The net after a change of the rules of the first or the second virtual switch, and what changed at ports.
+    /// The net after a change of the rules of the first virtual switch, and what changed at ports.
+    fn turned_first<G: Ledger>(
+        self,
+        alloc: Global,
+        change: Change,
+        steps: &mut Steps<G>,
+    ) -> Result<(Net, List<PortDelta>), Fail> {
+        let Net {
+            mut table,
+            mut first,
+            second,
+        } = self;
+        let deltas = turn(alloc, &mut table, 0, &mut first, change, steps)?;
+        let net = Net {
+            table,
+            first,
+            second,
+        };
+        Ok((net, deltas))
+    }
+
+    /// The same of the second.
+    fn turned_second<G: Ledger>(
+        self,
+        alloc: Global,
+        change: Change,
+        steps: &mut Steps<G>,
+    ) -> Result<(Net, List<PortDelta>), Fail> {
+        let Net {
+            mut table,
+            first,
+            mut second,
+        } = self;
+        let deltas = turn(alloc, &mut table, 1, &mut second, change, steps)?;
+        let net = Net {
+            table,
+            first,
+            second,
+        };
+        Ok((net, deltas))
+    }
+
+    /// The same of either.
     pub(crate) fn turned<G: Ledger>(
         self,
         alloc: Global,
@@ -152,22 +194,11 @@ impl Net {
         change: Change,
         steps: &mut Steps<G>,
     ) -> Result<(Net, List<PortDelta>), Fail> {
-        let Net {
-            mut table,
-            mut first,
-            mut second,
-        } = self;
-        let deltas = if v == 0 {
-            turn(alloc, &mut table, 0, &mut first, change, steps)?
+        if v == 0 {
+            self.turned_first(alloc, change, steps)
         } else {
-            turn(alloc, &mut table, 1, &mut second, change, steps)?
-        };
-        let net = Net {
-            table,
-            first,
-            second,
-        };
-        Ok((net, deltas))
+            self.turned_second(alloc, change, steps)
+        }
     }
 
     /// The rules of a port, in their order.
