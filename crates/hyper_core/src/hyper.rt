@@ -39,6 +39,7 @@ pub struct Hyper {
 
 impl Model for Hyper {
     ghost use Rattle.machine_drafts.specs.Machines.{HasAll, MachineOf, holding_of, state_in_held};
+    ghost use Rattle.std.specs.Prelude.{is_some};
     ghost use Rattle.hyper_core.specs.Kept.{IsKept};
     ghost use Rattle.hyper_core.specs.Settled.{IsSettledState};
 
@@ -49,7 +50,7 @@ impl Model for Hyper {
 
     ghost coded = { Prim.hlevel (codes, policy_code) };
 
-    ghost view = { λ a. record { plan = a.setup; holding = holding_of a.held } };
+    ghost view = { λ a. record { plan = a.setup; holding = holding_of a.held; compiled = is_some a.composed } };
 
     // There is a member for each of the policy's, and a switch. What stands on switches is what the setting gives. The
     // state is sound as long as numbers are left, and the composed part that is kept is that of its setting.
@@ -91,6 +92,14 @@ impl Hyper {
 }
 
 impl Hyper {
+    /// Whether the composed part of what is held is kept, so that the next event composes only what descends from
+    /// its change.
+    pub fn is_compiled(&self) -> bool
+        ensures { result ≡ self.now.compiled }
+    {
+        self.composed.is_some()
+    }
+
     /// The policy. What is true of every policy is said here.
     pub fn policy(&self) -> &Policy
         ensures policy { result.now ≡ self.now.plan }

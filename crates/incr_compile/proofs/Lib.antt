@@ -15,4 +15,4 @@ mod Wholes
 mod Told
 mod Built
 mod Applied
-mod Spent
+pub mod Spent

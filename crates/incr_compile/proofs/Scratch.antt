@@ -23,7 +23,7 @@ use Rattle.made_rules.specs.declared.made.Made.{Made}
 use Rattle.made_rules.specs.declared.made.Origin.TheVariants.{Leaf as OfLeaf}
 use Rattle.incr_compile.specs.Compiling.{Asks, IsOf, MemberChanges, composed_by, is_apart_from, policy_in}
 use Rattle.incr_compile.specs.Compiling.{rules_after, rules_at, rules_held, same_leaf}
-use Rattle.incr_compile.specs.Nodes.{IsNode, NodeOf, whole_size}
+use Rattle.incr_compile.specs.Nodes.{NodeOf, made_by, whole_size}
 use Rattle.incr_compile.specs.Trees.{Changes, IsMemberRule, IsTree, TreeOf, branch, changed_by, leaf, made_in}
 use Rattle.incr_compile.specs.Trees.{tree_size}
 use Rattle.incr_compile.specs.Ways.{is_not_of, way, without_ids}
@@ -56,25 +56,29 @@ by-operator Seq sizes rules a b h = made-chains (size_of sizes b) (rules_of size
 by-operator Over sizes rules a b h = by-equation _ _ (made-shifts (size_of sizes b) (rules_of sizes rules a) (rules_of sizes rules b))
 by-operator Hop sizes rules a b h = absurd (h refl)
 
-node-rules : (n : NodeOf) (lefts rights : List (Held Made)) → IsNode n (rules_in lefts) (rules_in rights) → IsPermutation (rules_held n.made) (made (way n.op n.size) (rules_held lefts) (rules_held rights))
-node-rules n lefts rights h =
-    IsPermutation-trans _ _ _ (IsPermutation-map rule_of _ _ h.made_are)
+node-rules : (n : NodeOf) (held lefts rights : List (Held Made)) → IsPermutation (map item_of held) (made_by n (rules_in lefts) (rules_in rights)) → IsPermutation (rules_held held) (made (way n.op n.size) (rules_held lefts) (rules_held rights))
+node-rules n held lefts rights h =
+    IsPermutation-trans _ _ _ (IsPermutation-map rule_of _ _ h)
     (by-equation _ _ (rules-made n.op n.size (rules_in lefts) (rules_in rights)
     ∙ ap (λ z. made (way n.op n.size) z (without_ids (rules_in rights))) (without-held lefts) ∙ ap (λ z. made (way n.op n.size) (rules_held lefts) z) (without-held rights)))
+
+-- the rules that a node makes of operands from scratch are those from scratch
+pub over-scratch : (sizes : ℕ → ℕ) (rules : ℕ → List Rule) (n : NodeOf) (held lefts rights : List (Held Made)) (a z : Policy) → n.op ≢ Hop → n.size ≡ size_of sizes z → IsPermutation (map item_of held) (made_by n (rules_in lefts) (rules_in rights)) →
+    IsPermutation (rules_held lefts) (rules_of sizes rules a) → IsPermutation (rules_held rights) (rules_of sizes rules z) → IsPermutation (rules_held held) (rules_of sizes rules (composed_by n.op a z))
+over-scratch sizes rules n held lefts rights a z h same m p q =
+    let w = way n.op n.size in
+    IsPermutation-trans _ _ _ (node-rules n held lefts rights m)
+    (IsPermutation-trans _ _ _ (made-left w (rules_held lefts) (rules_of sizes rules a) (rules_held rights) p)
+    (IsPermutation-trans _ _ _ (made-right w (rules_of sizes rules a) (rules_held rights) (rules_of sizes rules z) q)
+    (IsPermutation-trans _ _ _ (by-equation _ _ (ap (λ (k : ℕ). made (way n.op k) (rules_of sizes rules a) (rules_of sizes rules z)) same))
+    (by-operator n.op sizes rules a z h))))
 
 -- the rules at the root are those from scratch
 pub from-scratch : (sizes : ℕ → ℕ) (rules : ℕ → List Rule) (t : TreeOf) → IsTree t → IsOf sizes rules t → IsPermutation (rules_at t) (rules_of sizes rules (policy_in t))
 from-scratch sizes rules (leaf i size made) t f = f.1
 from-scratch sizes rules (branch n l r) (tl, tr, b) f =
-    let w = way n.op n.size in
-    let a = policy_in l in
-    let z = policy_in r in
-    let same : n.size ≡ size_of sizes z = b.sizes.size ∙ size-is sizes rules r f.1 in
-    IsPermutation-trans _ _ _ (node-rules n (made_in l) (made_in r) b.node)
-    (IsPermutation-trans _ _ _ (made-left w (rules_at l) (rules_of sizes rules a) (rules_at r) (from-scratch sizes rules l tl f.0))
-    (IsPermutation-trans _ _ _ (made-right w (rules_of sizes rules a) (rules_at r) (rules_of sizes rules z) (from-scratch sizes rules r tr f.1))
-    (IsPermutation-trans _ _ _ (by-equation _ _ (ap (λ (k : ℕ). made (way n.op k) (rules_of sizes rules a) (rules_of sizes rules z)) same))
-    (by-operator n.op sizes rules a z b.operator))))
+    over-scratch sizes rules n n.made (made_in l) (made_in r) (policy_in l) (policy_in r) b.operator (b.sizes.size ∙ size-is sizes rules r f.1) b.node.made_are
+    (from-scratch sizes rules l tl f.0) (from-scratch sizes rules r tr f.1)
 
 -- ---- one member's rules change
 pub same-policy : (asked : MemberChange) (t u : TreeOf) → Changes asked t u → policy_in u ≡ policy_in t
@@ -108,7 +112,7 @@ kept-rules leaves size (h ∷ hs) a =
     at true ms = refl
     at false ms = refl
 
-changed-rules : (delta : LeafDelta) (asked : MemberChange) (size : ℕ) (before after : List (Held Made)) → Asks delta asked → AllByRecursion (λ (h : Held Made). IsMemberRule size h.item) before →
+pub changed-rules : (delta : LeafDelta) (asked : MemberChange) (size : ℕ) (before after : List (Held Made)) → Asks delta asked → AllByRecursion (λ (h : Held Made). IsMemberRule size h.item) before →
     IsPermutation (map item_of after) (changed_by asked (map item_of before)) → IsPermutation (rules_held after) (rules_after delta (rules_held before))
 changed-rules delta asked size before after k a p =
     IsPermutation-trans _ _ _ (IsPermutation-map rule_of _ _ p)
@@ -117,7 +121,7 @@ changed-rules delta asked size before after k a p =
     ∙ ap (λ z. delta.come ++ map rule_of (filter (is_not_of z) (map item_of before))) k.gone
     ∙ ap (λ z. delta.come ++ z) (kept-rules delta.gone size before a)))
 
-permuted-after : (delta : LeafDelta) (xs ys : List Rule) → IsPermutation xs ys → IsPermutation (rules_after delta xs) (rules_after delta ys)
+pub permuted-after : (delta : LeafDelta) (xs ys : List Rule) → IsPermutation xs ys → IsPermutation (rules_after delta xs) (rules_after delta ys)
 permuted-after delta xs ys p = IsPermutation-append_right delta.come _ _ (permuted-filter (is_apart_from delta.gone) xs ys p)
 
 pub changed-of : (delta : LeafDelta) (asked : MemberChange) (sizes : ℕ → ℕ) (rules rules' : ℕ → List Rule) → Asks delta asked → MemberChanges delta rules rules' →

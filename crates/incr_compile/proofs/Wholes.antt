@@ -1,11 +1,12 @@
 -- A node made of operands that are whole.
-use Rattle.std.proofs.Common.{◌≡◌, ℕ, ◌<◌, ◌^◌, ◌==◌, List, [], ◌∷◌, ◌++◌, length, map, refl, sym, ap, subst, ◌∙◌}
+use Rattle.std.proofs.Common.{◌≡◌, ℕ, ◌+◌, ◌<◌, ◌≤◌, ◌^◌, ◌==◌, List, [], ◌∷◌, ◌++◌, length, map, refl, sym, ap, subst, ◌∙◌}
 use Rattle.std.proofs.Common.{arith}
-use Rattle.std.specs.Prelude.{IsPermutation, filter_map}
+use Rattle.std.specs.Prelude.{IsPermutation, count_by, filter_map}
 use Rattle.std.specs.List.{All, AllByRecursion, IsDistinct}
 use Rattle.std.proofs.lemmas.Grind.{common_steps}
 use Rattle.std.proofs.lemmas.List.{append-nil}
 use Rattle.std.proofs.lemmas.List.Elements.{All-from_recursion}
+use Rattle.std.proofs.lemmas.List.Sums.{sum_by-cons}
 use Rattle.std.proofs.lemmas.List.Sorted.{IsPermutation-append, IsPermutation-map, IsPermutation-refl}
 use Rattle.std.proofs.lemmas.List.Sorted.{IsPermutation-sym, IsPermutation-trans}
 use Rattle.list_change.specs.Pairing.{by_left, by_right, made}
@@ -18,10 +19,10 @@ use Rattle.op_compose.specs.declared.op.Side.TheVariants.{Left, Right}
 use Rattle.policy_meaning.specs.declared.rule.Rule.{Rule}
 use Rattle.policy_meaning.proofs.Lists.{all-map}
 use Rattle.rule_ancestry.specs.Holding.{Held, held_as, id_of, item_of}
-use Rattle.made_rules.specs.Rules.{rules_in}
+use Rattle.made_rules.specs.Rules.{rule_held, rules_in}
 use Rattle.made_rules.specs.declared.made.Made.{Made}
-use Rattle.made_rules.proofs.Ids.{Rising, one-each}
-use Rattle.incr_compile.specs.Candidates.{asked, reach, shown}
+use Rattle.made_rules.proofs.Ids.{Rising, one-each as once-each}
+use Rattle.incr_compile.specs.Candidates.{asked, could_meet, left_cost, reach, right_cost, shown}
 use Rattle.incr_compile.specs.Nodes.{AreFit, CanJoin, IsFit, IsNode, NodeOf, SizesFit}
 use Rattle.incr_compile.specs.Showing.{AreClear}
 use Rattle.incr_compile.specs.Sound.{AreSound, IsSound}
@@ -32,7 +33,7 @@ pub all-clear : (ids : List ℕ) (items : List Item) → items ≡ [] → AreCle
 all-clear ids items e = subst (λ z. AreClear ids z) (sym e) tt
 
 pub all-once : (store : List (Held Made)) (ids : List ℕ) → Rising store → ids ≡ map id_of store → IsDistinct ◌==◌ ids
-all-once store ids up e = subst (λ z. IsDistinct ◌==◌ z) (sym e) (one-each store store up (IsPermutation-refl store))
+all-once store ids up e = subst (λ z. IsDistinct ◌==◌ z) (sym e) (once-each store store up (IsPermutation-refl store))
 
 pub all-held : {R : Type 0} (store : List (Held R)) → IsPermutation store (store ++ [])
 all-held store = by-equation _ _ (sym (append-nil store))
@@ -120,3 +121,52 @@ whole-node n op size fresh lefts rights o s m f l r = record {
     rights_are = by-equation _ _ (r ∙ ap (λ z. filter_map (shown (asked z)) (rules_in rights)) (sym o));
   };
 }
+
+-- ---- steps
+one-more : {X : Type 0} (x : X) (xs : List X) → length (x ∷ xs) ≡ 1 + length xs
+one-more x xs = grind (arith, common_steps)
+
+alone-ones : (op : Op) (rights : List (Held Made)) → right_cost op [] (rules_in rights) ≡ length rights
+alone-ones op [] = refl
+alone-ones op (h ∷ rights) =
+    sum_by-cons (λ (b : Held Rule). 1 + count_by (λ (a : Held Rule). could_meet op a.item b.item) []) (rule_held h) (rules_in rights)
+    ∙ (ap (λ (k : ℕ). 1 + k) (alone-ones op rights) ∙ sym (one-more h rights))
+
+-- with no rules of the left, one step for each
+pub alone-spent : (op : Op) (left right : List (Held Made)) (come : List (Held Rule)) (old new : ℕ) → left ≡ [] → come ≡ rules_in right → new ≤ old + right_cost op (rules_in left) come → new ≤ old + length right
+alone-spent op left right come old new e f p =
+    subst (λ (k : ℕ). new ≤ old + k) (ap (λ (z : List (Held Made)). right_cost op (rules_in z) come) e ∙ ap (right_cost op []) f ∙ alone-ones op right) p
+
+one-each : (op : Op) (lefts : List (Held Rule)) (rights : List (Held Made)) → length rights ≤ right_cost op lefts (rules_in rights)
+one-each op lefts [] = omega arith
+one-each op lefts (h ∷ rights) =
+    let e = sum_by-cons (λ (b : Held Rule). 1 + count_by (λ (a : Held Rule). could_meet op a.item b.item) lefts) (rule_held h) (rules_in rights) in
+    at (length rights) (right_cost op lefts (rules_in rights)) (count_by (λ (a : Held Rule). could_meet op a.item h.item.rule) lefts) (length (h ∷ rights)) _ (one-each op lefts rights) (one-more h rights) e
+  where
+    at : (n c k m t : ℕ) → n ≤ c → m ≡ 1 + n → t ≡ (1 + k) + c → m ≤ t
+    at n c k m t p e f = omega arith
+
+-- the steps of whole operands, and where there was no memory after those of the left
+pub both-spent : (op : Op) (come : List (Held Rule)) (lefts rights : List (Held Made)) (s0 s1 s2 : ℕ) → come ≡ rules_in lefts → s1 ≤ s0 + left_cost op (rules_in rights) come → s2 ≤ s1 + length rights →
+    s2 ≤ s0 + (left_cost op (rules_in rights) (rules_in lefts) + right_cost op (rules_in lefts) (rules_in rights))
+both-spent op come lefts rights s0 s1 s2 e p q =
+    at (left_cost op (rules_in rights) (rules_in lefts)) (right_cost op (rules_in lefts) (rules_in rights)) (length rights)
+    (subst (λ (z : List (Held Rule)). s1 ≤ s0 + left_cost op (rules_in rights) z) e p) q (one-each op (rules_in lefts) rights)
+  where
+    at : (a b n : ℕ) → s1 ≤ s0 + a → s2 ≤ s1 + n → n ≤ b → s2 ≤ s0 + (a + b)
+    at a b n p q r = omega arith
+
+pub lefts-spent : (op : Op) (come : List (Held Rule)) (lefts rights : List (Held Made)) (s0 s1 : ℕ) → come ≡ rules_in lefts → s1 ≤ s0 + left_cost op (rules_in rights) come →
+    s1 ≤ s0 + (left_cost op (rules_in rights) (rules_in lefts) + right_cost op (rules_in lefts) (rules_in rights))
+lefts-spent op come lefts rights s0 s1 e p =
+    at (left_cost op (rules_in rights) (rules_in lefts)) (right_cost op (rules_in lefts) (rules_in rights)) (subst (λ (z : List (Held Rule)). s1 ≤ s0 + left_cost op (rules_in rights) z) e p)
+  where
+    at : (a b : ℕ) → s1 ≤ s0 + a → s1 ≤ s0 + (a + b)
+    at a b p = omega arith
+
+-- the same where the operands are written otherwise
+pub spent-at : (op : Op) (xs us ys vs : List (Held Made)) (s0 s1 : ℕ) → xs ≡ us → ys ≡ vs → s1 ≤ s0 + (left_cost op (rules_in ys) (rules_in xs) + right_cost op (rules_in xs) (rules_in ys)) →
+    s1 ≤ s0 + (left_cost op (rules_in vs) (rules_in us) + right_cost op (rules_in us) (rules_in vs))
+spent-at op xs us ys vs s0 s1 e f p =
+    subst (λ (z : List (Held Made)). s1 ≤ s0 + (left_cost op (rules_in z) (rules_in us) + right_cost op (rules_in us) (rules_in z))) f
+    (subst (λ (z : List (Held Made)). s1 ≤ s0 + (left_cost op (rules_in ys) (rules_in z) + right_cost op (rules_in z) (rules_in ys))) e p)

@@ -1,22 +1,42 @@
--- The steps of a change, by the trees before and after.
-use Rattle.std.specs.Prelude.{ℕ, ◌+◌, List, filter, map}
+-- The steps of a change, by the rules of the members before and after it.
+use Rattle.std.specs.Prelude.{ℕ, ◌+◌, List, [], count_by, slice_get, sum_by}
+use Rattle.list_change.specs.Coming.{came}
+use Rattle.made_rules.specs.Coming.{is_rule}
+use Rattle.op_compose.specs.declared.op.Op.{Op}
+use Rattle.op_compose.specs.declared.op.Op.TheVariants.{Par, Seq, Over}
+use Rattle.policy_expr.specs.Policy.{Policy, member, parallel, sequential, override}
+use Rattle.policy_meaning.specs.Networks.{table_rules, table_size}
+use Rattle.policy_meaning.specs.Rules.{rules_of}
+use Rattle.policy_meaning.specs.declared.leaf.LeafTable.{LeafTable}
 use Rattle.policy_meaning.specs.declared.rule.Rule.{Rule}
-use Rattle.rule_ancestry.specs.Holding.{Held, id_of, is_outside}
-use Rattle.made_rules.specs.Rules.{rules_in}
-use Rattle.made_rules.specs.declared.made.Made.{Made}
-use Rattle.incr_compile.specs.Candidates.{left_cost, right_cost}
-use Rattle.incr_compile.specs.Trees.{TreeOf, branch, leaf, made_in}
+use Rattle.incr_compile.specs.Candidates.{could_meet}
 
--- the rules whose ids weren't there before
-abbrev pub new_in : List (Held Made) → List (Held Made) → List (Held Rule)
-new_in before now = filter (is_outside (map id_of before)) (rules_in now)
+-- one step for each rule that comes to the left, and one for each rule of the right that it could meet
+abbrev pub left_steps : Op → List Rule → List Rule → ℕ
+left_steps op rights come = sum_by (λ (a : Rule). 1 + count_by (could_meet op a) rights) come
 
--- at each operator a step for each rule that came to an operand, and one for each rule of the other that it could meet
-abbrev pub cost_of : TreeOf → TreeOf → ℕ
-cost_of (branch n l r) (branch m l' r') =
-    (cost_of l l' + cost_of r r')
-    + (left_cost n.op (rules_in (made_in r)) (new_in (made_in l) (made_in l'))
-    + right_cost n.op (rules_in (made_in l)) (new_in (made_in r) (made_in r')))
-cost_of (leaf i s before) (leaf j t now) = 0
-cost_of (leaf i s before) (branch m l' r') = 0
-cost_of (branch n l r) (leaf j t now) = 0
+-- the same for rules that come to the right
+abbrev pub right_steps : Op → List Rule → List Rule → ℕ
+right_steps op lefts come = sum_by (λ (b : Rule). 1 + count_by (λ (a : Rule). could_meet op a b) lefts) come
+
+-- from the rules of the members before to those after
+module _ (sizes : ℕ → ℕ) (before after : ℕ → List Rule) where
+  -- the rules that an expression has more often than before
+  abbrev pub come_to : Policy → List Rule
+  come_to e = came is_rule (rules_of sizes before e) (rules_of sizes after e)
+
+  -- the steps at an operator over two expressions
+  abbrev pub steps_at : Op → Policy → Policy → ℕ
+  steps_at op a b = left_steps op (rules_of sizes after b) (come_to a) + right_steps op (rules_of sizes after a) (come_to b)
+
+  -- the steps at all operators of an expression
+  abbrev pub steps_of : Policy → ℕ
+  steps_of (member i) = 0
+  steps_of (parallel a b) = steps_of a + steps_of b + steps_at Par a b
+  steps_of (sequential a b) = steps_of a + steps_of b + steps_at Seq a b
+  steps_of (override a b) = steps_of a + steps_of b + steps_at Over a b
+
+-- those from scratch, where each rule comes
+abbrev pub steps_from_scratch : List LeafTable → List ℕ → Policy → ℕ
+steps_from_scratch tables ports e =
+    steps_of (λ i. table_size (slice_get tables i)) (λ i. []) (λ i. table_rules ports (slice_get tables i)) e

@@ -1,12 +1,15 @@
 //! The tree of an expression over members' tables, from scratch.
-ghost use Rattle.std.specs.Prelude.{◌≡◌, ◌<◌, ◌^◌, All, IfOk, slice_get};
+ghost use Rattle.std.specs.Prelude.{◌≡◌, ◌+◌, ◌<◌, ◌≤◌, ◌^◌, All, IfOk, slice_get};
 ghost use Rattle.std.specs.List.{AllByRecursion};
 ghost use Rattle.policy_expr.specs.Policy.{member as member_of, policy_of};
 ghost use Rattle.policy_meaning.specs.Fitting.{IsFittingTable, levels_of};
 ghost use Rattle.policy_meaning.specs.LeafFact.{IsSoundTable};
 ghost use Rattle.policy_meaning.specs.Networks.{table_rules, table_size};
+ghost use Rattle.made_rules.specs.Rules.{rules_in};
+ghost use Rattle.incr_compile.specs.Candidates.{left_cost, right_cost};
 ghost use Rattle.incr_compile.specs.Compiling.{CanBeOver, IsBuilt, IsOver};
-ghost use Rattle.incr_compile.specs.Trees.{tree_of};
+ghost use Rattle.incr_compile.specs.Costs.{steps_from_scratch};
+ghost use Rattle.incr_compile.specs.Trees.{made_in, tree_of};
 
 use crate::member::member_rules;
 use crate::node::Node;
@@ -18,6 +21,7 @@ use policy_meaning::{LeafTable, Rule, expression_size};
 use rule_ancestry::Store;
 use std::alloc::Global;
 use std::sync::ledger::Ledger;
+use std::thread::Threads;
 
 /// How many levels the rules of a member have; one without a table has one.
 fn member_size(tables: &List<LeafTable>, member: u32) -> u64
@@ -67,7 +71,8 @@ fn member_tree(
 }
 
 /// The tree of an operator over two trees.
-fn operator_tree<G: Ledger>(
+fn operator_tree<R: Threads + Sync, G: Ledger>(
+    rt: &R,
     alloc: Global,
     op: Op,
     size: u64,
@@ -76,17 +81,20 @@ fn operator_tree<G: Ledger>(
     steps: &mut Steps<G>,
 ) -> Result<Tree, Memory>
     requires { CanBeOver op size (tree_of left) (tree_of right) }
-    ensures { IfOk result (λ tree. IsOver op (tree_of left) (tree_of right) (tree_of tree)) }
+    ensures over { IfOk result (λ tree. IsOver op (tree_of left) (tree_of right) (tree_of tree)) }
+    ensures steps { steps.new ≤ steps.old + (left_cost op (rules_in (made_in (tree_of right))) (rules_in (made_in (tree_of left)))
+        + right_cost op (rules_in (made_in (tree_of left))) (rules_in (made_in (tree_of right)))) }
 {
     Ok(Tree::Operator {
-        node: Node::of(alloc, op, size, left.made(), right.made(), steps)?,
+        node: Node::of(rt, alloc, op, size, left.made(), right.made(), steps)?,
         left: Box::new(alloc, left)?,
         right: Box::new(alloc, right)?,
     })
 }
 
 /// The tree of an expression over these tables.
-pub(crate) fn build_tree<G: Ledger>(
+pub(crate) fn build_tree<R: Threads + Sync, G: Ledger>(
+    rt: &R,
     alloc: Global,
     tables: &List<LeafTable>,
     ports: &List<u16>,
@@ -96,27 +104,28 @@ pub(crate) fn build_tree<G: Ledger>(
     requires tables { All IsFittingTable tables.now }
     requires sound { AllByRecursion IsSoundTable tables.now }
     requires size { levels_of tables.now (policy_of expr.now) < 2 ^ 64 }
-    ensures { IfOk result (λ tree. IsBuilt tables.now ports.now (policy_of expr.now) (tree_of tree)) }
+    ensures built { IfOk result (λ tree. IsBuilt tables.now ports.now (policy_of expr.now) (tree_of tree)) }
+    ensures steps { steps.new ≤ steps.old + steps_from_scratch tables.now ports.now (policy_of expr.now) }
 {
     match expr {
         Expr::Member { index } => member_tree(alloc, tables, ports, *index),
         Expr::Par { left, right } => {
-            let first = build_tree(alloc, tables, ports, left, steps)?;
-            let second = build_tree(alloc, tables, ports, right, steps)?;
+            let first = build_tree(rt, alloc, tables, ports, left, steps)?;
+            let second = build_tree(rt, alloc, tables, ports, right, steps)?;
             let size = expression_size(tables, right);
-            operator_tree(alloc, Op::Par, size, first, second, steps)
+            operator_tree(rt, alloc, Op::Par, size, first, second, steps)
         }
         Expr::Seq { left, right } => {
-            let first = build_tree(alloc, tables, ports, left, steps)?;
-            let second = build_tree(alloc, tables, ports, right, steps)?;
+            let first = build_tree(rt, alloc, tables, ports, left, steps)?;
+            let second = build_tree(rt, alloc, tables, ports, right, steps)?;
             let size = expression_size(tables, right);
-            operator_tree(alloc, Op::Seq, size, first, second, steps)
+            operator_tree(rt, alloc, Op::Seq, size, first, second, steps)
         }
         Expr::Over { left, right } => {
-            let first = build_tree(alloc, tables, ports, left, steps)?;
-            let second = build_tree(alloc, tables, ports, right, steps)?;
+            let first = build_tree(rt, alloc, tables, ports, left, steps)?;
+            let second = build_tree(rt, alloc, tables, ports, right, steps)?;
             let size = expression_size(tables, right);
-            operator_tree(alloc, Op::Over, size, first, second, steps)
+            operator_tree(rt, alloc, Op::Over, size, first, second, steps)
         }
     }
 }

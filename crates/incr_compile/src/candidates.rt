@@ -53,7 +53,7 @@ fn places(alloc: Global, ids: &[u64]) -> Result<Vec<usize>, Memory>
 }
 
 /// The ids in an index whose matches overlap; none where nothing is asked.
-fn meeting(alloc: Global, index: &Index, m: Option<Match>) -> Result<Vec<usize>, Memory>
+pub(crate) fn meeting(alloc: Global, index: &Index, m: Option<Match>) -> Result<Vec<usize>, Memory>
     ensures { IfOk result (λ ids. IsPermutation (overlapping m index.now.items) ids.items) }
 {
     match m {

@@ -10,6 +10,7 @@ use policy_meaning::{LeafTable, Rule, listed};
 use std::alloc::Global;
 use std::marker::Model;
 use std::sync::ledger::Ledger;
+use std::thread::Threads;
 
 /// A change of a member's rules: all rules of some leaves go, and some rules come.
 #[derive(Debug, Drop)]
@@ -52,11 +53,12 @@ impl Compiled {
     ghost use Rattle.policy_meaning.specs.Rules.{rules_of};
     ghost use Rattle.policy_meaning.specs.declared.rule.Rule.{Rule};
     ghost use Rattle.incr_compile.specs.Compiling.{IsMemberDelta, IsOf, IsOfTables, MemberChanges, policy_in, rules_at};
-    ghost use Rattle.incr_compile.specs.Costs.{cost_of};
+    ghost use Rattle.incr_compile.specs.Costs.{steps_from_scratch, steps_of};
     ghost use Rattle.incr_compile.specs.Trees.{has_member, tree_of};
 
     /// The rules of an expression over these tables, from scratch.
-    pub fn build<G: Ledger>(
+    pub fn build<R: Threads + Sync, G: Ledger>(
+        rt: &R,
         alloc: Global,
         expr: &Expr,
         tables: &List<LeafTable>,
@@ -69,10 +71,11 @@ impl Compiled {
         requires once { EachPair (λ i j. i ≢ j) (members_of (policy_of expr.now)) }
         ensures policy { IfOk result (λ compiled. policy_in (tree_of compiled) ≡ policy_of expr.now) }
         ensures tables { IfOk result (λ compiled. IsOfTables tables.now ports.now (tree_of compiled)) }
+        ensures steps { steps.new ≤ steps.old + steps_from_scratch tables.now ports.now (policy_of expr.now) }
     {
         Ok(Compiled {
             alloc,
-            tree: build_tree(alloc, tables, ports, expr, steps)?,
+            tree: build_tree(rt, alloc, tables, ports, expr, steps)?,
         })
     }
 
@@ -91,7 +94,9 @@ impl Compiled {
         // What is told is what changed, and no rule is in both lists.
         ensures told { IfOk result (λ told. Changed (rules_at (tree_of self.old)) (rules_at (tree_of self.new)) told.gone told.come) }
         ensures apart { IfOk result (λ told. Apart told.gone told.come) }
-        ensures steps { OnOk result (steps.new ≤ steps.old + cost_of (tree_of self.old) (tree_of self.new)) }
+        // Whatever the result is, the steps are those for the rules that come.
+        ensures steps { (sizes : ℕ → ℕ) → (before after : ℕ → List Rule) → MemberChanges delta before after
+            → IsOf sizes before (tree_of self.old) → steps.new ≤ steps.old + steps_of sizes before after (policy_in (tree_of self.old)) }
         ensures memory { OnErr result (tree_of self.new ≡ tree_of self.old) }
     {
         let asked = asked_of(self.alloc, delta)?;

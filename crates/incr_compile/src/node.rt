@@ -9,6 +9,7 @@ ghost use Rattle.made_rules.specs.Rules.{rules_in};
 ghost use Rattle.incr_compile.specs.Nodes.{AreFit, CanJoin, IsCarried, IsNode, LeftChanges, RightChanges, made_by, node_of};
 ghost use Rattle.incr_compile.specs.Ways.{held_way, left_origin, right_origin};
 
+use crate::found::{found_rights, made_of_found};
 use crate::joining::{left_rule, right_rule};
 use crate::making::{made_by_left, made_by_right};
 use crate::showing::{show_all, show_change};
@@ -19,6 +20,7 @@ use op_compose::{Op, Side};
 use rule_ancestry::Store;
 use std::alloc::Global;
 use std::sync::ledger::Ledger;
+use std::thread::Threads;
 
 /// A change of an operand that is ready, and not yet settled.
 #[derive(Drop)]
@@ -64,7 +66,8 @@ fn right_origins(alloc: Global, ids: &[usize]) -> Result<Vec<Origin>, Memory>
 }
 
 /// What the operands make.
-fn made_of_all<G: Ledger>(
+fn made_of_all<R: Threads + Sync, G: Ledger>(
+    rt: &R,
     alloc: Global,
     op: Op,
     size: u64,
@@ -75,11 +78,13 @@ fn made_of_all<G: Ledger>(
 ) -> Result<Vec<Made>, Memory>
     requires can { CanJoin op size left.now right.now }
     requires shown { IsPermutation rights.now.items (filter_map (shown (asked op)) (rules_in right.now)) }
-    ensures { IfOk result (λ fresh. IsPermutation fresh.items (made (held_way op size) (rules_in left.now) (rules_in right.now))) }
+    ensures made { IfOk result (λ fresh. IsPermutation fresh.items (made (held_way op size) (rules_in left.now) (rules_in right.now))) }
+    ensures steps { steps.new ≤ steps.old + (left_cost op (rules_in right.now) (rules_in left.now) + right_cost op (rules_in left.now) (rules_in right.now)) }
 {
     let ids = left.ids()?;
     let come = olds(alloc, left, &ids)?;
-    let mut fresh = made_by_left(alloc, op, size, &come, rights, right, steps)?;
+    let found = found_rights(rt, alloc, op, &come, rights)?;
+    let mut fresh = made_of_found(alloc, op, size, &come, &found, right, steps)?;
     let mut alone = made_alone(alloc, op, size, right, steps)?;
     fresh.append(&mut alone)?;
     Ok(fresh)
@@ -94,7 +99,8 @@ fn made_alone<G: Ledger>(
     steps: &mut Steps<G>,
 ) -> Result<Vec<Made>, Memory>
     requires { (levels : ℕ) × AreFit levels (rules_in right.now) × (levels < 2 ^ 64) }
-    ensures { IfOk result (λ fresh. IsPermutation fresh.items (filter_map (held_way op size).other (rules_in right.now))) }
+    ensures made { IfOk result (λ fresh. IsPermutation fresh.items (filter_map (held_way op size).other (rules_in right.now))) }
+    ensures steps { steps.new ≤ steps.old + length right.now }
 {
     let ids = right.ids()?;
     let come = olds(alloc, right, &ids)?;
@@ -119,7 +125,8 @@ impl Node {
     }
 
     /// The node of operands that are whole.
-    pub fn of<G: Ledger>(
+    pub fn of<R: Threads + Sync, G: Ledger>(
+        rt: &R,
         alloc: Global,
         op: Op,
         size: u64,
@@ -131,12 +138,13 @@ impl Node {
         ensures node { IfOk result (λ node. IsNode (node_of node) (rules_in left.now) (rules_in right.now)) }
         ensures op { IfOk result (λ node. node.op ≡ op) }
         ensures size { IfOk result (λ node. node.size ≡ size) }
+        ensures steps { steps.new ≤ steps.old + (left_cost op (rules_in right.now) (rules_in left.now) + right_cost op (rules_in left.now) (rules_in right.now)) }
     {
         let mut lefts = Index::new(alloc);
         show_all(&mut lefts, op, Side::Left, left)?;
         let mut rights = Index::new(alloc);
         show_all(&mut rights, op, Side::Right, right)?;
-        let fresh = made_of_all(alloc, op, size, left, right, &rights, steps)?;
+        let fresh = made_of_all(rt, alloc, op, size, left, right, &rights, steps)?;
         let mut made = Store::new(alloc);
         made.add_all(fresh)?;
         Ok(Node {

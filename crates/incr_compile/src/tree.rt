@@ -1,14 +1,17 @@
 //! A tree of operators over the rules of members.
-ghost use Rattle.std.specs.Prelude.{◌≡◌, ◌+◌, ◌≤◌, IfOk, IsPermutation, List, OnErr, OnOk, Some, length, map};
+ghost use Rattle.std.specs.Prelude.{◌≡◌, ◌+◌, ◌≤◌, ℕ, IfOk, IsPermutation, List, OnErr, OnOk, Some, length, map};
 ghost use Rattle.op_compose.specs.declared.op.Side.TheVariants.{Left, Right};
+ghost use Rattle.policy_meaning.specs.declared.rule.Rule.{Rule};
 ghost use Rattle.rule_ancestry.specs.Holding.{Held, item_of};
 ghost use Rattle.made_rules.specs.Changing.{IsReady};
 ghost use Rattle.made_rules.specs.Rules.{rules_in};
 ghost use Rattle.made_rules.specs.declared.made.Made.{Made};
 ghost use Rattle.incr_compile.specs.Candidates.{left_cost, right_cost};
-ghost use Rattle.incr_compile.specs.Costs.{cost_of, new_in};
+ghost use Rattle.incr_compile.specs.Compiling.{Asks, IsOf, MemberChanges, policy_in};
+ghost use Rattle.incr_compile.specs.Costs.{steps_of};
 ghost use Rattle.incr_compile.specs.Nodes.{IsCarried, LeftChanges, RightChanges, made_by, node_of};
 ghost use Rattle.incr_compile.specs.Trees.{CanCarryLeft, CanCarryRight, CanChange, IsReadyIn, IsSettled, IsUnderWay, TreeOf, has_member, made_in, tree_of};
+ghost use Rattle.incr_compile.specs.declared.compiled.LeafDelta.{LeafDelta};
 ghost use Rattle.incr_compile.specs.declared.tree.MemberChange.{MemberChange};
 
 use crate::node::{Below, Node};
@@ -61,8 +64,8 @@ fn carry_left<G: Ledger>(
     ensures rest { node_of node.new ≡ record (node_of node.old) { made = node.new.made } }
     ensures left { OnOk result (left.new ≡ left.old) }
     ensures steps { (before mid : List (Held Made))
-        → LeftChanges (node_of node.old) before (made_in (tree_of left.old)) mid (made_in (tree_of right.now)) below
-        → OnOk result (steps.new ≤ steps.old + left_cost node.old.op (rules_in (made_in (tree_of right.now))) (new_in before (made_in (tree_of left.old)))) }
+        → (l : LeftChanges (node_of node.old) before (made_in (tree_of left.old)) mid (made_in (tree_of right.now)) below)
+        → steps.new ≤ steps.old + left_cost node.old.op (rules_in (made_in (tree_of right.now))) (rules_in l.ready.coming) }
     ensures memory { OnErr result (node.new.made ≡ node.old.made) }
     ensures undone { (asked : MemberChange) → (before : TreeOf) → (mid : List (Held Made))
         → IsReadyIn asked before left.old below mid → OnErr result (tree_of left.new ≡ before) }
@@ -103,8 +106,8 @@ fn carry_right<G: Ledger>(
     ensures rest { node_of node.new ≡ record (node_of node.old) { made = node.new.made } }
     ensures right { OnOk result (right.new ≡ right.old) }
     ensures steps { (before mid : List (Held Made))
-        → RightChanges (node_of node.old) before (made_in (tree_of right.old)) mid (made_in (tree_of left.now)) below
-        → OnOk result (steps.new ≤ steps.old + right_cost node.old.op (rules_in (made_in (tree_of left.now))) (new_in before (made_in (tree_of right.old)))) }
+        → (l : RightChanges (node_of node.old) before (made_in (tree_of right.old)) mid (made_in (tree_of left.now)) below)
+        → steps.new ≤ steps.old + right_cost node.old.op (rules_in (made_in (tree_of left.now))) (rules_in l.ready.coming) }
     ensures memory { OnErr result (node.new.made ≡ node.old.made) }
     ensures undone { (asked : MemberChange) → (before : TreeOf) → (mid : List (Held Made))
         → IsReadyIn asked before right.old below mid → OnErr result (tree_of right.new ≡ before) }
@@ -157,7 +160,9 @@ impl Tree {
         requires { CanChange asked (tree_of self.old) }
         ensures ready { IfOk result (λ change. (after : List (Held Made))
             × IsReadyIn asked (tree_of self.old) self.new change after) }
-        ensures steps { OnOk result (steps.new ≤ steps.old + cost_of (tree_of self.old) (tree_of self.new)) }
+        ensures steps { (delta : LeafDelta) → (sizes : ℕ → ℕ) → (before after : ℕ → List Rule)
+            → Asks delta asked → MemberChanges delta before after → IsOf sizes before (tree_of self.old)
+            → steps.new ≤ steps.old + steps_of sizes before after (policy_in (tree_of self.old)) }
         ensures memory { OnErr result (tree_of self.new ≡ tree_of self.old) }
     {
         match self {
@@ -184,9 +189,6 @@ impl Tree {
         ensures settled { (asked : MemberChange) → (before : TreeOf) → (after : List (Held Made))
             → CanChange asked before → IsReadyIn asked before self.old change after
             → IsSettled asked before (tree_of self.new) after }
-        ensures cost { (asked : MemberChange) → (before : TreeOf) → (after : List (Held Made))
-            → CanChange asked before → IsReadyIn asked before self.old change after
-            → cost_of before (tree_of self.old) ≤ cost_of before (tree_of self.new) }
         ensures left { (before : List (Held Made)) → (lost : _) → (fresh : List Made)
             → (r : IsReady before (made_in (tree_of self.old)) lost fresh change)
             → result.items ≡ map item_of r.going }

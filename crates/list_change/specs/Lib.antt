@@ -1,3 +1,4 @@
 pub mod Pairing
 pub mod Changes
+pub mod Coming
 pub mod Netting

@@ -1,5 +1,5 @@
 -- What is in both lists of a change, by an order of items.
-use Rattle.std.specs.Prelude.{◌≡◌, List, ◌++◌, false, Contains, IsPermutation, IsSortedBy, map}
+use Rattle.std.specs.Prelude.{◌≡◌, List, ◌++◌, Contains, IsPermutation, IsSortedBy, map}
 use Rattle.std.specs.Ordering.{is_lt}
 use Rattle.std.specs.declared.cmp.Ordering.{Ordering}
 use Rattle.std.specs.declared.cmp.Ordering.TheVariants.{Equal}

@@ -1,6 +1,7 @@
 //! Laws of changes, of what two operands make, and of permutations.
-ghost use Rattle.std.specs.Prelude.{◌≡◌, ◌++◌, Bool, true, false, List, Option, Some, None, IsPermutation, filter, filter_map, flat_map};
-ghost use Rattle.list_change.specs.Changes.{Changed};
+ghost use Rattle.std.specs.Prelude.{◌≡◌, ◌++◌, [], Bool, true, false, List, Option, Some, None, IsPermutation, filter, filter_map, flat_map};
+ghost use Rattle.list_change.specs.Changes.{Apart, Changed};
+ghost use Rattle.list_change.specs.Coming.{TellsEqual, came};
 ghost use Rattle.list_change.specs.Pairing.{Way, by_left, by_one, by_right, made, pairs};
 
 /// A change of an operand is a change of what both operands make.
@@ -30,4 +31,12 @@ pub fn parts_go<A, B, C>()
 pub fn candidates_suffice<A, B, C>()
     ensures passed { (g : B → Option C) → (could : B → Bool) → ((b : B) → could b ≡ false → g b ≡ None) → (ys : List B) → filter_map g ys ≡ filter_map g (filter could ys) }
     ensures each { (w : Way A B C) → (ys : List B) → (xs : List A) → IsPermutation (by_left w xs ys) (flat_map (by_one w ys) xs) }
+{}
+
+/// What came of a change is what the list after it has more often than the one before, in any order.
+pub fn what_came<A>()
+    ensures come { (same : A → A → Bool) → TellsEqual same → (before after gone come : List A) → Changed before after gone come → Apart gone come → IsPermutation (came same before after) come }
+    ensures ordered { (same : A → A → Bool) → TellsEqual same → (before others after rest : List A) → IsPermutation before others → IsPermutation after rest → IsPermutation (came same before after) (came same others rest) }
+    ensures none { (same : A → A → Bool) → TellsEqual same → (xs : List A) → came same xs xs ≡ [] }
+    ensures all { (same : A → A → Bool) → (xs : List A) → came same [] xs ≡ xs }
 {}

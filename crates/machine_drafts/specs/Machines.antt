@@ -1,5 +1,5 @@
 -- What a machine holds, as contracts see it.
-use Rattle.std.specs.Prelude.{◌≡◌, ℕ, ◌≤◌, List, length, map}
+use Rattle.std.specs.Prelude.{◌≡◌, ℕ, ◌≤◌, Bool, List, length, map}
 use Rattle.install_plan.specs.declared.written.Written.{Written}
 use Rattle.policy_expr.specs.Policy.{Policy, policy_of}
 use Rattle.policy_file.specs.Policies.{PolicyOf}
@@ -77,10 +77,11 @@ bases_of now h = record {
 abbrev pub at_moment : ℕ → State → State
 at_moment now s = record s { moment = now }
 
--- a machine: its policy, and what it holds
+-- a machine: its policy, what it holds, and whether the composed part of that is kept
 pub record MachineOf : Type 0 where
   pub plan : PolicyOf
   pub holding : HoldingOf
+  pub compiled : Bool
 
 -- the state of a machine
 abbrev pub state_of : MachineOf → State

@@ -1,3 +1,4 @@
 pub mod Rules
 pub mod Parting
 pub mod Changing
+pub mod Coming

@@ -5,6 +5,7 @@
 #![tactic(auto)]
 
 pub mod change;
+pub mod laws;
 pub mod made;
 pub mod named;
 pub mod old;

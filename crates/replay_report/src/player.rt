@@ -6,7 +6,7 @@ ghost use Rattle.script_text.specs.Reading.{line_in};
 
 use crate::kind::{Kind, kind_of};
 use crate::lines::play;
-use crate::sessions::Named;
+use crate::sessions::{Named, sessions};
 use crate::streams::Stream;
 use crate::telling::Stage;
 use cv_io::{List, Memory};
@@ -71,8 +71,9 @@ impl Player {
         ensures begins { IfOk result (λ player. progress_of player ≡ start policy) }
         ensures report { IfOk result (λ player. reported player ≡ []) }
     {
-        let stage = Stage::open(alloc, policy)?;
-        let streams = streams(alloc, stage.names.as_slice())?;
+        let names = sessions(alloc, &policy)?;
+        let streams = streams(alloc, names.as_slice())?;
+        let stage = Stage::open(alloc, policy, names)?;
         Ok(Player {
             form,
             stage,

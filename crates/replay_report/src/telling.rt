@@ -9,7 +9,7 @@ ghost use Rattle.replay_report.specs.Takings.{TakesFirst, as_line, audit_lines, 
 ghost use Rattle.replay_report.specs.Takings.{taken_in, takes_all, waits_for};
 
 use crate::explaining::say_findings;
-use crate::sessions::{Named, find_virtual, sessions};
+use crate::sessions::{Named, find_virtual};
 use cv_io::{Bytes, List, Memory, Session, Text, Who};
 use events::{Event, Reply};
 use explain_text::{answer, find_entrance};
@@ -113,14 +113,15 @@ pub struct Stage {
 }
 
 impl Stage {
-    /// The machine of a policy, as it opens.
-    pub(crate) fn open(alloc: Global, policy: Policy) -> Result<Stage, Memory>
+    /// The machine of a policy, as it opens, with the names of the policy's sessions.
+    pub(crate) fn open(alloc: Global, policy: Policy, names: List<Named>) -> Result<Stage, Memory>
+        requires { names ≡ sessions_of policy }
         ensures plan { IfOk result (λ stage. stage.machine.plan ≡ policy) }
         ensures opening { IfOk result (λ stage. state_of stage.machine ≡ opening policy) }
+        ensures names { IfOk result (λ stage. stage.names ≡ names) }
         ensures report { IfOk result (λ stage. stage.report ≡ []) }
     {
         let machine = Hyper::open(alloc, policy)?;
-        let names = sessions(alloc, machine.policy())?;
         Ok(Stage {
             alloc,
             machine,

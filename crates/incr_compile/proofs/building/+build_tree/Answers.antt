@@ -6,6 +6,7 @@ use Rattle.policy_meaning.specs.Fitting.{levels_of}
 use Rattle.policy_meaning.proofs.LevelsBelow.{operators, parallel-parts, sequential-parts}
 use Rattle.incr_compile.specs.Trees.{tree_of}
 use Rattle.incr_compile.proofs.Built.{built-can}
+use Rattle.incr_compile.proofs.Spent.{built-spent, first-stopped, second-stopped}
 use Rattle.incr_compile.proofs.building.+build_tree.Goals as goal
 
 pub build_tree-requires : goal.build_tree-requires
@@ -31,7 +32,7 @@ operator_tree-requires g t c =
     let right : levels_of c.args.tables.now (policy_of c.in-Par.right.value) < 2 ^ 64 = (parallel-parts c.args.tables.now c.requires.tables (policy_of c.in-Par.left.value) (policy_of c.in-Par.right.value) fit).1 in
     let whole' = subst (λ z. levels_of c.args.tables.now (parallel (policy_of c.in-Par.left.value) (policy_of z)) < 2 ^ 64) (sym c.deref-in-Par.ensures) fit in
     built-can c.args.tables.now c.args.ports.now Par (policy_of c.deref.result.now) (policy_of c.deref-in-Par.result.now) (tree_of c.in_ok-first-in-Par.first) (tree_of c.in_ok-second-in-Par.second) c.expression_size-size.result (λ e. absurd (cc))
-    c.in_ok-first-in-Par.ensures c.in_ok-second-in-Par.ensures
+    c.in_ok-first-in-Par.ensures.built c.in_ok-second-in-Par.ensures.built
     (subst (λ z. levels_of c.args.tables.now (parallel (policy_of z) (policy_of c.deref-in-Par.result.now)) < 2 ^ 64) (sym c.deref.ensures) whole')
     (subst (λ z. levels_of c.args.tables.now (policy_of z) < 2 ^ 64) (sym c.deref-in-Par.ensures) right)
     (c.expression_size-size.ensures ∙ ap (λ z. capped (levels_of c.args.tables.now (policy_of z))) (c.deref-in-Par-2.ensures ∙ sym c.deref-in-Par.ensures))
@@ -59,7 +60,7 @@ operator_tree-requires-in-Seq g t c =
     let right : levels_of c.args.tables.now (policy_of c.in-Seq.right.value) < 2 ^ 64 = (sequential-parts c.args.tables.now c.requires.tables (policy_of c.in-Seq.left.value) (policy_of c.in-Seq.right.value) fit).1 in
     let whole' = subst (λ z. levels_of c.args.tables.now (sequential (policy_of c.in-Seq.left.value) (policy_of z)) < 2 ^ 64) (sym c.deref-in-Seq-2.ensures) fit in
     built-can c.args.tables.now c.args.ports.now Seq (policy_of c.deref-in-Seq.result.now) (policy_of c.deref-in-Seq-2.result.now) (tree_of c.in_ok-first-in-Seq.first) (tree_of c.in_ok-second-in-Seq.second) c.expression_size-size-in-Seq.result (λ e. absurd (cc))
-    c.in_ok-first-in-Seq.ensures c.in_ok-second-in-Seq.ensures
+    c.in_ok-first-in-Seq.ensures.built c.in_ok-second-in-Seq.ensures.built
     (subst (λ z. levels_of c.args.tables.now (sequential (policy_of z) (policy_of c.deref-in-Seq-2.result.now)) < 2 ^ 64) (sym c.deref-in-Seq.ensures) whole')
     (subst (λ z. levels_of c.args.tables.now (policy_of z) < 2 ^ 64) (sym c.deref-in-Seq-2.ensures) right)
     (c.expression_size-size-in-Seq.ensures ∙ ap (λ z. capped (levels_of c.args.tables.now (policy_of z))) (c.deref-in-Seq-3.ensures ∙ sym c.deref-in-Seq-2.ensures))
@@ -71,7 +72,64 @@ operator_tree-requires-in-Over g t c =
     let right : levels_of c.args.tables.now (policy_of c.in-Over.right.value) < 2 ^ 64 = (omega arith) in
     let whole' = subst (λ z. levels_of c.args.tables.now (override (policy_of c.in-Over.left.value) (policy_of z)) < 2 ^ 64) (sym c.deref-in-Over-2.ensures) fit in
     built-can c.args.tables.now c.args.ports.now Over (policy_of c.deref-in-Over.result.now) (policy_of c.deref-in-Over-2.result.now) (tree_of c.in_ok-first-in-Over.first) (tree_of c.in_ok-second-in-Over.second) c.expression_size-size-in-Over.result (λ e. absurd (cc))
-    c.in_ok-first-in-Over.ensures c.in_ok-second-in-Over.ensures
+    c.in_ok-first-in-Over.ensures.built c.in_ok-second-in-Over.ensures.built
     (subst (λ z. levels_of c.args.tables.now (override (policy_of z) (policy_of c.deref-in-Over-2.result.now)) < 2 ^ 64) (sym c.deref-in-Over.ensures) whole')
     (subst (λ z. levels_of c.args.tables.now (policy_of z) < 2 ^ 64) (sym c.deref-in-Over-2.ensures) right)
     (c.expression_size-size-in-Over.ensures ∙ ap (λ z. capped (levels_of c.args.tables.now (policy_of z))) (c.deref-in-Over-3.ensures ∙ sym c.deref-in-Over-2.ensures))
+
+pub returns-in_err-first-in-Par-clause-steps : goal.returns-in_err-first-in-Par-clause-steps
+returns-in_err-first-in-Par-clause-steps g t c =
+    first-stopped c.args.tables.now c.args.ports.now Par (policy_of c.deref.result.now) (policy_of c.in-Par.right.value) (λ e. absurd (cc)) (policy_of c.args.expr.now)
+    (ap policy_of c.in-Par.is ∙ ap (λ z. parallel (policy_of z) (policy_of c.in-Par.right.value)) (sym c.deref.ensures))
+    c.args.steps.now c.build_tree.new.steps c.build_tree.ensures.steps
+
+pub returns-in_err-second-in-Par-clause-steps : goal.returns-in_err-second-in-Par-clause-steps
+returns-in_err-second-in-Par-clause-steps g t c =
+    second-stopped c.args.tables.now c.args.ports.now Par (policy_of c.deref.result.now) (policy_of c.deref-in-Par.result.now) (λ e. absurd (cc)) (policy_of c.args.expr.now)
+    (ap policy_of c.in-Par.is ∙ ap (λ z. parallel (policy_of z) (policy_of c.in-Par.right.value)) (sym c.deref.ensures) ∙ ap (λ z. parallel (policy_of c.deref.result.now) (policy_of z)) (sym c.deref-in-Par.ensures))
+    c.args.steps.now c.build_tree.new.steps c.build_tree-in-Par.new.steps c.build_tree.ensures.steps c.build_tree-in-Par.ensures.steps
+
+pub returns-in_ok-second-in-Par-clause-steps : goal.returns-in_ok-second-in-Par-clause-steps
+returns-in_ok-second-in-Par-clause-steps g t c =
+    built-spent c.args.tables.now c.args.ports.now Par (policy_of c.deref.result.now) (policy_of c.deref-in-Par.result.now) (λ e. absurd (cc)) (policy_of c.args.expr.now)
+    (ap policy_of c.in-Par.is ∙ ap (λ z. parallel (policy_of z) (policy_of c.in-Par.right.value)) (sym c.deref.ensures) ∙ ap (λ z. parallel (policy_of c.deref.result.now) (policy_of z)) (sym c.deref-in-Par.ensures))
+    (tree_of c.in_ok-first-in-Par.first) (tree_of c.in_ok-second-in-Par.second) c.in_ok-first-in-Par.ensures.built c.in_ok-second-in-Par.ensures.built
+    c.args.steps.now c.build_tree.new.steps c.build_tree-in-Par.new.steps c.operator_tree.new.steps c.build_tree.ensures.steps c.build_tree-in-Par.ensures.steps c.operator_tree.ensures.steps
+
+pub returns-in_err-first-in-Seq-clause-steps : goal.returns-in_err-first-in-Seq-clause-steps
+returns-in_err-first-in-Seq-clause-steps g t c =
+    first-stopped c.args.tables.now c.args.ports.now Seq (policy_of c.deref-in-Seq.result.now) (policy_of c.in-Seq.right.value) (λ e. absurd (cc)) (policy_of c.args.expr.now)
+    (ap policy_of c.in-Seq.is ∙ ap (λ z. sequential (policy_of z) (policy_of c.in-Seq.right.value)) (sym c.deref-in-Seq.ensures))
+    c.args.steps.now c.build_tree-in-Seq.new.steps c.build_tree-in-Seq.ensures.steps
+
+pub returns-in_err-second-in-Seq-clause-steps : goal.returns-in_err-second-in-Seq-clause-steps
+returns-in_err-second-in-Seq-clause-steps g t c =
+    second-stopped c.args.tables.now c.args.ports.now Seq (policy_of c.deref-in-Seq.result.now) (policy_of c.deref-in-Seq-2.result.now) (λ e. absurd (cc)) (policy_of c.args.expr.now)
+    (ap policy_of c.in-Seq.is ∙ ap (λ z. sequential (policy_of z) (policy_of c.in-Seq.right.value)) (sym c.deref-in-Seq.ensures) ∙ ap (λ z. sequential (policy_of c.deref-in-Seq.result.now) (policy_of z)) (sym c.deref-in-Seq-2.ensures))
+    c.args.steps.now c.build_tree-in-Seq.new.steps c.build_tree-in-Seq-2.new.steps c.build_tree-in-Seq.ensures.steps c.build_tree-in-Seq-2.ensures.steps
+
+pub returns-in_ok-second-in-Seq-clause-steps : goal.returns-in_ok-second-in-Seq-clause-steps
+returns-in_ok-second-in-Seq-clause-steps g t c =
+    built-spent c.args.tables.now c.args.ports.now Seq (policy_of c.deref-in-Seq.result.now) (policy_of c.deref-in-Seq-2.result.now) (λ e. absurd (cc)) (policy_of c.args.expr.now)
+    (ap policy_of c.in-Seq.is ∙ ap (λ z. sequential (policy_of z) (policy_of c.in-Seq.right.value)) (sym c.deref-in-Seq.ensures) ∙ ap (λ z. sequential (policy_of c.deref-in-Seq.result.now) (policy_of z)) (sym c.deref-in-Seq-2.ensures))
+    (tree_of c.in_ok-first-in-Seq.first) (tree_of c.in_ok-second-in-Seq.second) c.in_ok-first-in-Seq.ensures.built c.in_ok-second-in-Seq.ensures.built
+    c.args.steps.now c.build_tree-in-Seq.new.steps c.build_tree-in-Seq-2.new.steps c.operator_tree-in-Seq.new.steps c.build_tree-in-Seq.ensures.steps c.build_tree-in-Seq-2.ensures.steps c.operator_tree-in-Seq.ensures.steps
+
+pub returns-in_err-first-in-Over-clause-steps : goal.returns-in_err-first-in-Over-clause-steps
+returns-in_err-first-in-Over-clause-steps g t c =
+    first-stopped c.args.tables.now c.args.ports.now Over (policy_of c.deref-in-Over.result.now) (policy_of c.in-Over.right.value) (λ e. absurd (cc)) (policy_of c.args.expr.now)
+    (ap policy_of c.in-Over.is ∙ ap (λ z. override (policy_of z) (policy_of c.in-Over.right.value)) (sym c.deref-in-Over.ensures))
+    c.args.steps.now c.build_tree-in-Over.new.steps c.build_tree-in-Over.ensures.steps
+
+pub returns-in_err-second-in-Over-clause-steps : goal.returns-in_err-second-in-Over-clause-steps
+returns-in_err-second-in-Over-clause-steps g t c =
+    second-stopped c.args.tables.now c.args.ports.now Over (policy_of c.deref-in-Over.result.now) (policy_of c.deref-in-Over-2.result.now) (λ e. absurd (cc)) (policy_of c.args.expr.now)
+    (ap policy_of c.in-Over.is ∙ ap (λ z. override (policy_of z) (policy_of c.in-Over.right.value)) (sym c.deref-in-Over.ensures) ∙ ap (λ z. override (policy_of c.deref-in-Over.result.now) (policy_of z)) (sym c.deref-in-Over-2.ensures))
+    c.args.steps.now c.build_tree-in-Over.new.steps c.build_tree-in-Over-2.new.steps c.build_tree-in-Over.ensures.steps c.build_tree-in-Over-2.ensures.steps
+
+pub returns-in_ok-second-in-Over-clause-steps : goal.returns-in_ok-second-in-Over-clause-steps
+returns-in_ok-second-in-Over-clause-steps g t c =
+    built-spent c.args.tables.now c.args.ports.now Over (policy_of c.deref-in-Over.result.now) (policy_of c.deref-in-Over-2.result.now) (λ e. absurd (cc)) (policy_of c.args.expr.now)
+    (ap policy_of c.in-Over.is ∙ ap (λ z. override (policy_of z) (policy_of c.in-Over.right.value)) (sym c.deref-in-Over.ensures) ∙ ap (λ z. override (policy_of c.deref-in-Over.result.now) (policy_of z)) (sym c.deref-in-Over-2.ensures))
+    (tree_of c.in_ok-first-in-Over.first) (tree_of c.in_ok-second-in-Over.second) c.in_ok-first-in-Over.ensures.built c.in_ok-second-in-Over.ensures.built
+    c.args.steps.now c.build_tree-in-Over.new.steps c.build_tree-in-Over-2.new.steps c.operator_tree-in-Over.new.steps c.build_tree-in-Over.ensures.steps c.build_tree-in-Over-2.ensures.steps c.operator_tree-in-Over.ensures.steps

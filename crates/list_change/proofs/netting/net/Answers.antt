@@ -1,5 +1,4 @@
 use Rattle.std.proofs.Common.{rules, ◌≡◌, ◌⊎◌, [], inl, inr, sym}
-use Rattle.std.specs.Ordering.{is_lt}
 use Rattle.std.proofs.lemmas.List.Sorted.{answers_always}
 use Rattle.list_change.proofs.Parted.{all-parted, lt, none-parted, one-empty, weak}
 use Rattle.list_change.proofs.netting.net.Given.{Over}

@@ -6,11 +6,10 @@ use Rattle.made_rules.specs.Changing.{IsReady}
 use Rattle.made_rules.specs.Rules.{rule_of}
 use Rattle.made_rules.specs.declared.made.Made.{Made}
 use Rattle.incr_compile.specs.Compiling.{IsMemberDelta, IsOf, policy_in, rules_at, rules_held}
-use Rattle.incr_compile.specs.Costs.{cost_of}
+use Rattle.incr_compile.specs.Costs.{steps_of}
 use Rattle.incr_compile.specs.Trees.{has_member, tree_of}
 use Rattle.incr_compile.proofs.Applied.{applied-apart, applied-members, applied-policy, applied-told, applied-tree}
 use Rattle.incr_compile.proofs.Applied.{leaving, under-way}
-use Rattle.incr_compile.proofs.Spent.{spent-all}
 use Rattle.incr_compile.proofs.Told.{can-change}
 use Rattle.incr_compile.proofs.compiled.Compiled.apply.Goals as goal
 
@@ -79,11 +78,17 @@ returns-in-Ok-clause-apart g c =
     (λ b lost fresh r. c.from_vec-in-Ok.ensures ∙ c.in-Ok.ensures.come b lost fresh r))
     c.from_vec.result (c.from_vec.ensures ∙ c.rules_in_room.ensures ∙ ap (λ z. z ++ map rule_of c.settle-gone.result.items) c.in-Ok.ensures.empty)
 
+pub returns-in_err-change-clause-steps : goal.returns-in_err-change-clause-steps
+returns-in_err-change-clause-steps g c sizes before after m o =
+    subst (λ z. c.ready.new.steps ≤ c.args.steps.now + steps_of sizes before after (policy_in (tree_of z))) c.self.view_is
+    (c.ready.ensures.steps c.args.delta sizes before after c.in_ok-asked.ensures.asks m (subst (λ z. IsOf sizes before (tree_of z)) (sym c.self.view_is) o))
+
 pub returns-in-Ok-clause-steps : goal.returns-in-Ok-clause-steps
-returns-in-Ok-clause-steps g c =
-    let can = (can-change c.args.delta c.in_ok-asked.asked (tree_of c.self.inside.tree) c.self.invariant.0 c.self.invariant.1 (subst (λ z. has_member c.args.delta.member (tree_of z) ≡ true) (sym c.self.view_is) c.requires.member)
-    (subst (λ z. IsMemberDelta c.args.delta (tree_of z)) (sym c.self.view_is) c.requires.come) c.in_ok-asked.ensures.asks c.in_ok-asked.ensures.found) in
-    let f = c.in_ok-change.ensures.ready in
-    subst (λ z. c.ready.new.steps ≤ c.args.steps.now + cost_of (tree_of z) (tree_of c.settle-gone.new.self)) c.self.view_is
-    (spent-all c.args.steps.now c.ready.new.steps (cost_of (tree_of c.self.inside.tree) (tree_of c.ready.new.self)) (cost_of (tree_of c.self.inside.tree) (tree_of c.settle-gone.new.self)) c.in_ok-change.ensures.steps
-    (c.settle-gone.ensures.cost c.in_ok-asked.asked (tree_of c.self.inside.tree) f.0 can f.1))
+returns-in-Ok-clause-steps g c sizes before after m o =
+    subst (λ z. c.ready.new.steps ≤ c.args.steps.now + steps_of sizes before after (policy_in (tree_of z))) c.self.view_is
+    (c.ready.ensures.steps c.args.delta sizes before after c.in_ok-asked.ensures.asks m (subst (λ z. IsOf sizes before (tree_of z)) (sym c.self.view_is) o))
+
+pub returns-in-Err-clause-steps : goal.returns-in-Err-clause-steps
+returns-in-Err-clause-steps g c sizes before after m o =
+    subst (λ z. c.ready.new.steps ≤ c.args.steps.now + steps_of sizes before after (policy_in (tree_of z))) c.self.view_is
+    (c.ready.ensures.steps c.args.delta sizes before after c.in_ok-asked.ensures.asks m (subst (λ z. IsOf sizes before (tree_of z)) (sym c.self.view_is) o))

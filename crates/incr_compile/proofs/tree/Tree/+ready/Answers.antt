@@ -1,14 +1,14 @@
-use Rattle.std.proofs.Common.{◌+◌, ◌≤◌, ap, refl, subst, sym, ◌∙◌, List}
+use Rattle.std.proofs.Common.{◌+◌, ◌≤◌, ap, arith, refl, subst, sym, ◌∙◌, List}
 use Rattle.std.proofs.lemmas.Result.{IfOk-weaker}
 use Rattle.rule_ancestry.specs.Holding.{Held}
 use Rattle.made_rules.specs.Rules.{rules_in}
 use Rattle.made_rules.specs.declared.made.Made.{Made}
-use Rattle.incr_compile.specs.Candidates.{left_cost, right_cost}
-use Rattle.incr_compile.specs.Costs.{cost_of, new_in}
+use Rattle.incr_compile.specs.Compiling.{IsOf, policy_in}
+use Rattle.incr_compile.specs.Costs.{steps_of}
 use Rattle.incr_compile.specs.Nodes.{IsCarried, made_by, node_of}
 use Rattle.incr_compile.specs.Trees.{CanChange, branch, IsReadyIn, has_member, made_in, tree_of}
 use Rattle.incr_compile.proofs.Carrying.{found-held}
-use Rattle.incr_compile.proofs.Spent.{both-ok, spent-by-left, spent-by-right}
+use Rattle.incr_compile.proofs.Spent.{left-spent, left-stopped, right-spent, right-stopped}
 use Rattle.incr_compile.proofs.TreeSteps.{all-ok, at-tree, carry-left-can, carry-right-can, left-changes-at}
 use Rattle.incr_compile.proofs.TreeSteps.{right-changes-at, ready-left-all, ready-member, ready-right-all}
 use Rattle.incr_compile.proofs.tree.Tree.+ready.Goals as goal
@@ -64,28 +64,54 @@ returns-in_ok-below-in-Operator-2-clause-ready g t c =
     (subst (λ z. (after : List (Held Made)) × IsCarried c.in-Operator.node.made c.carry_right.new.node.made after change (made_by (node_of c.in-Operator.node) (rules_in (made_in (tree_of z))) (rules_in c.in_ok-below-in-Operator-2.ensures.ready.0))) c.deref-else-has.ensures x) in
     (y.0, at-tree c.args.asked _ _ _ change y.0 (ap tree_of c.in-Operator.is) y.1))
 
+pub returns-in_err-lost-in-Member-clause-steps : goal.returns-in_err-lost-in-Member-clause-steps
+returns-in_err-lost-in-Member-clause-steps g t c delta sizes before after k m o = omega arith
+
+pub returns-in_ok-lost-in-Member-clause-steps : goal.returns-in_ok-lost-in-Member-clause-steps
+returns-in_ok-lost-in-Member-clause-steps g t c delta sizes before after k m o = omega arith
+
+pub returns-in_err-below-in-Operator-clause-steps : goal.returns-in_err-below-in-Operator-clause-steps
+returns-in_err-below-in-Operator-clause-steps g t c delta sizes before after k m o =
+    let can = subst (λ z. CanChange c.args.asked (tree_of z)) c.in-Operator.is c.requires in
+    let parts = subst (λ z. IsOf sizes before (tree_of z)) c.in-Operator.is o in
+    subst (λ z. c.ready-then-has.new.steps ≤ c.args.steps.now + steps_of sizes before after (policy_in (tree_of z))) (sym c.in-Operator.is)
+    (left-stopped delta c.args.asked sizes before after k m (node_of c.in-Operator.node) (tree_of c.in-Operator.left.value) (tree_of c.in-Operator.right.value) can parts (tree_of c.deref_mut.result.now) (ap tree_of c.deref_mut.ensures.value) c.args.steps.now c.ready-then-has.new.steps
+    (c.ready-then-has.ensures.steps delta sizes before after k m (subst (λ z. IsOf sizes before (tree_of z)) (sym c.deref_mut.ensures.value) parts.0)))
+
 pub returns-in_ok-below-in-Operator-clause-steps : goal.returns-in_ok-below-in-Operator-clause-steps
-returns-in_ok-below-in-Operator-clause-steps g t c =
-    let k = left-changes-at c.args.asked (node_of c.in-Operator.node) (tree_of c.in-Operator.left.value) (tree_of c.in-Operator.right.value) (tree_of c.deref-then-has.result.now) c.deref_mut.result.now c.deref_mut-then-has.result.now c.in_ok-below-in-Operator.below (subst (λ z. CanChange c.args.asked (tree_of z)) c.in-Operator.is c.requires)
-    (ap tree_of c.deref_mut.ensures.value) (ap tree_of c.deref-then-has.ensures) c.in_ok-below-in-Operator.ensures.ready.0
-    (subst (λ z. IsReadyIn c.args.asked (tree_of c.deref_mut.result.now) z c.in_ok-below-in-Operator.below c.in_ok-below-in-Operator.ensures.ready.0) (sym c.deref_mut-then-has.ensures.value) c.in_ok-below-in-Operator.ensures.ready.1) in
-    both-ok c.carry_left.result _ _ _ (c.carry_left.ensures.steps (made_in (tree_of c.in-Operator.left.value)) c.in_ok-below-in-Operator.ensures.ready.0 k) c.carry_left.ensures.left
-    (λ spent same.
-    subst (λ z. c.carry_left.new.steps ≤ c.args.steps.now + cost_of (tree_of z) (branch (node_of c.carry_left.new.node) (tree_of c.carry_left.new.left) (tree_of c.in-Operator.right.value))) (sym c.in-Operator.is)
-    (spent-by-left (node_of c.in-Operator.node) (node_of c.carry_left.new.node) (tree_of c.in-Operator.left.value) (tree_of c.in-Operator.right.value) (tree_of c.carry_left.new.left) (tree_of c.in-Operator.right.value) c.args.steps.now c.ready-then-has.new.steps c.carry_left.new.steps
-    (subst (λ z. c.ready-then-has.new.steps ≤ c.args.steps.now + cost_of (tree_of c.in-Operator.left.value) (tree_of z)) (sym (same ∙ c.deref_mut-then-has.ensures.value)) (subst (λ z. c.ready-then-has.new.steps ≤ c.args.steps.now + cost_of (tree_of z) (tree_of c.ready-then-has.new.self)) c.deref_mut.ensures.value c.in_ok-below-in-Operator.ensures.steps))
-    (subst (λ z. c.carry_left.new.steps ≤ c.ready-then-has.new.steps + left_cost c.in-Operator.node.op (rules_in (made_in (tree_of c.in-Operator.right.value))) (new_in (made_in (tree_of c.in-Operator.left.value)) (made_in (tree_of z)))) (sym same)
-    (subst (λ z. c.carry_left.new.steps ≤ c.ready-then-has.new.steps + left_cost c.in-Operator.node.op (rules_in (made_in (tree_of z))) (new_in (made_in (tree_of c.in-Operator.left.value)) (made_in (tree_of c.deref_mut-then-has.result.now)))) c.deref-then-has.ensures spent))))
+returns-in_ok-below-in-Operator-clause-steps g t c delta sizes before after k m o =
+    let can = subst (λ z. CanChange c.args.asked (tree_of z)) c.in-Operator.is c.requires in
+    let parts = subst (λ z. IsOf sizes before (tree_of z)) c.in-Operator.is o in
+    let mid = c.in_ok-below-in-Operator.ensures.ready.0 in
+    let ready = subst (λ z. IsReadyIn c.args.asked (tree_of c.deref_mut.result.now) z c.in_ok-below-in-Operator.below mid) (sym c.deref_mut-then-has.ensures.value) c.in_ok-below-in-Operator.ensures.ready.1 in
+    let changes = left-changes-at c.args.asked (node_of c.in-Operator.node) (tree_of c.in-Operator.left.value) (tree_of c.in-Operator.right.value) (tree_of c.deref-then-has.result.now) c.deref_mut.result.now c.deref_mut-then-has.result.now c.in_ok-below-in-Operator.below can
+    (ap tree_of c.deref_mut.ensures.value) (ap tree_of c.deref-then-has.ensures) mid ready in
+    subst (λ z. c.carry_left.new.steps ≤ c.args.steps.now + steps_of sizes before after (policy_in (tree_of z))) (sym c.in-Operator.is)
+    (left-spent delta c.args.asked sizes before after k m (node_of c.in-Operator.node) (tree_of c.in-Operator.left.value) (tree_of c.in-Operator.right.value) can parts (tree_of c.deref-then-has.result.now) c.deref_mut.result.now c.deref_mut-then-has.result.now c.in_ok-below-in-Operator.below
+    (sym (c.has.ensures ∙ ap (λ z. has_member c.args.asked.member (tree_of z)) c.deref-in-Operator.ensures) ∙ c.if-has.true) (ap tree_of c.deref_mut.ensures.value) (ap tree_of c.deref-then-has.ensures) mid ready changes
+    c.args.steps.now c.ready-then-has.new.steps c.carry_left.new.steps
+    (c.ready-then-has.ensures.steps delta sizes before after k m (subst (λ z. IsOf sizes before (tree_of z)) (sym c.deref_mut.ensures.value) parts.0))
+    (c.carry_left.ensures.steps (made_in (tree_of c.in-Operator.left.value)) mid changes))
+
+pub returns-in_err-below-in-Operator-2-clause-steps : goal.returns-in_err-below-in-Operator-2-clause-steps
+returns-in_err-below-in-Operator-2-clause-steps g t c delta sizes before after k m o =
+    let can = subst (λ z. CanChange c.args.asked (tree_of z)) c.in-Operator.is c.requires in
+    let parts = subst (λ z. IsOf sizes before (tree_of z)) c.in-Operator.is o in
+    subst (λ z. c.ready-else-has.new.steps ≤ c.args.steps.now + steps_of sizes before after (policy_in (tree_of z))) (sym c.in-Operator.is)
+    (right-stopped delta c.args.asked sizes before after k m (node_of c.in-Operator.node) (tree_of c.in-Operator.left.value) (tree_of c.in-Operator.right.value) can parts (tree_of c.deref_mut-else-has.result.now) (ap tree_of c.deref_mut-else-has.ensures.value) c.args.steps.now c.ready-else-has.new.steps
+    (c.ready-else-has.ensures.steps delta sizes before after k m (subst (λ z. IsOf sizes before (tree_of z)) (sym c.deref_mut-else-has.ensures.value) parts.1)))
 
 pub returns-in_ok-below-in-Operator-2-clause-steps : goal.returns-in_ok-below-in-Operator-2-clause-steps
-returns-in_ok-below-in-Operator-2-clause-steps g t c =
-    let k = right-changes-at c.args.asked (node_of c.in-Operator.node) (tree_of c.in-Operator.left.value) (tree_of c.in-Operator.right.value) (tree_of c.deref-else-has.result.now) c.deref_mut-else-has.result.now c.deref_mut-else-has-2.result.now c.in_ok-below-in-Operator-2.below (subst (λ z. CanChange c.args.asked (tree_of z)) c.in-Operator.is c.requires)
-    (ap tree_of c.deref_mut-else-has.ensures.value) (ap tree_of c.deref-else-has.ensures) c.in_ok-below-in-Operator-2.ensures.ready.0
-    (subst (λ z. IsReadyIn c.args.asked (tree_of c.deref_mut-else-has.result.now) z c.in_ok-below-in-Operator-2.below c.in_ok-below-in-Operator-2.ensures.ready.0) (sym c.deref_mut-else-has-2.ensures.value) c.in_ok-below-in-Operator-2.ensures.ready.1) in
-    both-ok c.carry_right.result _ _ _ (c.carry_right.ensures.steps (made_in (tree_of c.in-Operator.right.value)) c.in_ok-below-in-Operator-2.ensures.ready.0 k) c.carry_right.ensures.right
-    (λ spent same.
-    subst (λ z. c.carry_right.new.steps ≤ c.args.steps.now + cost_of (tree_of z) (branch (node_of c.carry_right.new.node) (tree_of c.in-Operator.left.value) (tree_of c.carry_right.new.right))) (sym c.in-Operator.is)
-    (spent-by-right (node_of c.in-Operator.node) (node_of c.carry_right.new.node) (tree_of c.in-Operator.left.value) (tree_of c.in-Operator.right.value) (tree_of c.in-Operator.left.value) (tree_of c.carry_right.new.right) c.args.steps.now c.ready-else-has.new.steps c.carry_right.new.steps
-    (subst (λ z. c.ready-else-has.new.steps ≤ c.args.steps.now + cost_of (tree_of c.in-Operator.right.value) (tree_of z)) (sym (same ∙ c.deref_mut-else-has-2.ensures.value)) (subst (λ z. c.ready-else-has.new.steps ≤ c.args.steps.now + cost_of (tree_of z) (tree_of c.ready-else-has.new.self)) c.deref_mut-else-has.ensures.value c.in_ok-below-in-Operator-2.ensures.steps))
-    (subst (λ z. c.carry_right.new.steps ≤ c.ready-else-has.new.steps + right_cost c.in-Operator.node.op (rules_in (made_in (tree_of c.in-Operator.left.value))) (new_in (made_in (tree_of c.in-Operator.right.value)) (made_in (tree_of z)))) (sym same)
-    (subst (λ z. c.carry_right.new.steps ≤ c.ready-else-has.new.steps + right_cost c.in-Operator.node.op (rules_in (made_in (tree_of z))) (new_in (made_in (tree_of c.in-Operator.right.value)) (made_in (tree_of c.deref_mut-else-has-2.result.now)))) c.deref-else-has.ensures spent))))
+returns-in_ok-below-in-Operator-2-clause-steps g t c delta sizes before after k m o =
+    let can = subst (λ z. CanChange c.args.asked (tree_of z)) c.in-Operator.is c.requires in
+    let parts = subst (λ z. IsOf sizes before (tree_of z)) c.in-Operator.is o in
+    let mid = c.in_ok-below-in-Operator-2.ensures.ready.0 in
+    let ready = subst (λ z. IsReadyIn c.args.asked (tree_of c.deref_mut-else-has.result.now) z c.in_ok-below-in-Operator-2.below mid) (sym c.deref_mut-else-has-2.ensures.value) c.in_ok-below-in-Operator-2.ensures.ready.1 in
+    let changes = right-changes-at c.args.asked (node_of c.in-Operator.node) (tree_of c.in-Operator.left.value) (tree_of c.in-Operator.right.value) (tree_of c.deref-else-has.result.now) c.deref_mut-else-has.result.now c.deref_mut-else-has-2.result.now c.in_ok-below-in-Operator-2.below can
+    (ap tree_of c.deref_mut-else-has.ensures.value) (ap tree_of c.deref-else-has.ensures) mid ready in
+    subst (λ z. c.carry_right.new.steps ≤ c.args.steps.now + steps_of sizes before after (policy_in (tree_of z))) (sym c.in-Operator.is)
+    (right-spent delta c.args.asked sizes before after k m (node_of c.in-Operator.node) (tree_of c.in-Operator.left.value) (tree_of c.in-Operator.right.value) can parts (tree_of c.deref-else-has.result.now) c.deref_mut-else-has.result.now c.deref_mut-else-has-2.result.now c.in_ok-below-in-Operator-2.below
+    (sym (c.has.ensures ∙ ap (λ z. has_member c.args.asked.member (tree_of z)) c.deref-in-Operator.ensures) ∙ c.if-has.false) (ap tree_of c.deref_mut-else-has.ensures.value) (ap tree_of c.deref-else-has.ensures) mid ready changes
+    c.args.steps.now c.ready-else-has.new.steps c.carry_right.new.steps
+    (c.ready-else-has.ensures.steps delta sizes before after k m (subst (λ z. IsOf sizes before (tree_of z)) (sym c.deref_mut-else-has.ensures.value) parts.1))
+    (c.carry_right.ensures.steps (made_in (tree_of c.in-Operator.right.value)) mid changes))

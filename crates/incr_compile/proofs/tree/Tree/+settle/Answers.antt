@@ -5,10 +5,8 @@ use Rattle.made_rules.specs.Changing.{IsReady}
 use Rattle.made_rules.specs.Rules.{rules_in}
 use Rattle.made_rules.specs.declared.made.Made.{Made}
 use Rattle.incr_compile.specs.Candidates.{asked as asks, reach, shown}
-use Rattle.incr_compile.specs.Costs.{cost_of}
 use Rattle.incr_compile.specs.Nodes.{node_of}
 use Rattle.incr_compile.specs.Trees.{branch, leaf, IsReadyIn, IsUnderWay, made_in, tree_of}
-use Rattle.incr_compile.proofs.Spent.{member-cost, settled-cost-left, settled-cost-right}
 use Rattle.incr_compile.proofs.TreeSteps.{left-smaller, right-smaller, left-at, left-by, none-below, read-at}
 use Rattle.incr_compile.proofs.TreeSteps.{right-by, settled-left-by, settled-member, settled-right-by, under-wide}
 use Rattle.incr_compile.proofs.tree.Tree.+settle.Goals as goal
@@ -98,32 +96,3 @@ returns-in-None-clause-settled t c asked before after can f =
 
 pub returns-in-None-clause-left : goal.returns-in-None-clause-left
 returns-in-None-clause-left t c = left-at c.args.self.now _ c.args.change c.settle-in-None.result.items c.in-Operator.is c.settle-in-None.ensures.left
-
-pub returns-in-Member-clause-cost : goal.returns-in-Member-clause-cost
-returns-in-Member-clause-cost t c asked before after can f =
-    subst (λ z. cost_of before (tree_of z) ≤ cost_of before (leaf c.in-Member.member c.in-Member.size c.settle.new.store)) (sym c.in-Member.is)
-    (member-cost before c.in-Member.member c.in-Member.size c.in-Member.member c.in-Member.size c.in-Member.made c.settle.new.store)
-
-pub returns-in-Left-clause-cost : goal.returns-in-Left-clause-cost
-returns-in-Left-clause-cost t c asked before after can f =
-    subst (λ z. cost_of before (tree_of z) ≤ cost_of before (branch (node_of c.settle_left-gone.new.self) (tree_of c.settle-in-Left.new.self) (tree_of c.in-Operator.right.value))) (sym c.in-Operator.is)
-    (settled-cost-left c.in-Operator.node c.in-Operator.left.value c.in-Operator.right.value c.in-Some.field-0.side c.in-Some.field-0.change c.args.change (sym c.take.ensures.value ∙ c.in-Some.is) asked before after _ _
-    (node_of c.settle_left-gone.new.self) (tree_of c.settle-in-Left.new.self) can (subst (λ z. IsReadyIn asked before z c.args.change after) c.in-Operator.is f) c.in-Left.is
-    (λ a b m k g.
-    let h = subst (λ z. IsReadyIn a b z c.in-Some.field-0.change m) (sym c.deref_mut.ensures.value) g in
-    let done = c.settle-in-Left.ensures.settled a b m k h in
-    (subst (λ z. cost_of b (tree_of z) ≤ cost_of b (tree_of c.settle-in-Left.new.self)) c.deref_mut.ensures.value (c.settle-in-Left.ensures.cost a b m k h), done.root)))
-
-pub returns-in-Right-clause-cost : goal.returns-in-Right-clause-cost
-returns-in-Right-clause-cost t c asked before after can f =
-    subst (λ z. cost_of before (tree_of z) ≤ cost_of before (branch (node_of c.settle_right-gone.new.self) (tree_of c.in-Operator.left.value) (tree_of c.settle-in-Right.new.self))) (sym c.in-Operator.is)
-    (settled-cost-right c.in-Operator.node c.in-Operator.left.value c.in-Operator.right.value c.in-Some.field-0.side c.in-Some.field-0.change c.args.change (sym c.take.ensures.value ∙ c.in-Some.is) asked before after _ _
-    (node_of c.settle_right-gone.new.self) (tree_of c.settle-in-Right.new.self) can (subst (λ z. IsReadyIn asked before z c.args.change after) c.in-Operator.is f) c.in-Right.is
-    (λ a b m k g.
-    let h = subst (λ z. IsReadyIn a b z c.in-Some.field-0.change m) (sym c.deref_mut-in-Right.ensures.value) g in
-    let done = c.settle-in-Right.ensures.settled a b m k h in
-    (subst (λ z. cost_of b (tree_of z) ≤ cost_of b (tree_of c.settle-in-Right.new.self)) c.deref_mut-in-Right.ensures.value (c.settle-in-Right.ensures.cost a b m k h), done.root)))
-
-pub returns-in-None-clause-cost : goal.returns-in-None-clause-cost
-returns-in-None-clause-cost t c asked before after can f =
-    absurd (none-below asked before c.in-Operator.node c.in-Operator.left.value c.in-Operator.right.value _ _ c.args.change after (subst (λ z. IsReadyIn asked before z c.args.change after) c.in-Operator.is f) (sym c.take.ensures.value ∙ c.in-None.is))
