@@ -207,7 +207,10 @@ impl Asked {
         let mut come = List::new(alloc);
         if comes {
             let LeafEntry {
-                m, level, effects, ..
+                m,
+                level,
+                effects,
+                ..
             } = self.entry(alloc, 0, number)?;
             come.push(leaf(alloc, m, level, true, effects, leaf_of)?)?;
         } else {

@@ -204,7 +204,13 @@ fn tried<R: Threads + Sync, G: Ledger>(
     }
     let before = composer.rules()?;
     let (m, tail) = left(shape);
-    let came = turn(alloc, &mut composer, 0, comes(alloc, 0, 1, m, 4, tail)?, steps)?;
+    let came = turn(
+        alloc,
+        &mut composer,
+        0,
+        comes(alloc, 0, 1, m, 4, tail)?,
+        steps,
+    )?;
     let levels = levels(alloc, &composer.rules()?)?;
     let goes = Change {
         serial: 1,
@@ -228,11 +234,7 @@ struct Seen {
 
 const WORKED: [Shape; 3] = [Shape::Parallel, Shape::Sequential, Shape::Override];
 
-fn followed<R: Threads + Sync, G: Ledger>(
-    rt: &R,
-    alloc: Global,
-    blank: Blank,
-) -> Result<Seen, Fail>
+fn followed<R: Threads + Sync, G: Ledger>(rt: &R, alloc: Global, blank: Blank) -> Result<Seen, Fail>
     requires { (blank.name ≡ G.name) × (blank.parts ≡ G.parts) × (0 < blank.parts) }
 {
     let mut steps = Steps::<G>::new(blank);

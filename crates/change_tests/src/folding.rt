@@ -5,7 +5,11 @@ use std::alloc::Global;
 use std::test::Fail;
 
 /// Whether each rule that went was there, and didn't come too. It is there no longer, and those that came are.
-pub(crate) fn follows(seen: &mut List<Rule>, gone: &[Rule], come: List<Rule>) -> Result<bool, Fail> {
+pub(crate) fn follows(
+    seen: &mut List<Rule>,
+    gone: &[Rule],
+    come: List<Rule>,
+) -> Result<bool, Fail> {
     if gone.iter().any(|rule| come.as_slice().contains(rule)) {
         return Ok(false);
     }

@@ -88,7 +88,10 @@ fn all_follow(tolds: &mut [Told], deltas: List<PortDelta>) -> Result<bool, Fail>
             gone,
             come,
         } = delta;
-        match tolds.iter_mut().find(|told| told.place == Place { v, port }) {
+        match tolds
+            .iter_mut()
+            .find(|told| told.place == Place { v, port })
+        {
             Some(told) => {
                 if !follows(&mut told.rules, gone.as_slice(), come)? {
                     return Ok(false);
@@ -101,12 +104,7 @@ fn all_follow(tolds: &mut [Told], deltas: List<PortDelta>) -> Result<bool, Fail>
 }
 
 /// Whether the rules of all ports, and what was told of them, are those from scratch.
-fn are_scratch(
-    alloc: Global,
-    net: &Net,
-    tolds: &[Told],
-    network: &Network,
-) -> Result<bool, Fail> {
+fn are_scratch(alloc: Global, net: &Net, tolds: &[Told], network: &Network) -> Result<bool, Fail> {
     for told in tolds {
         let wanted = scratch(alloc, network, told.place)?;
         if net.rules(told.place)? != wanted || !are(&told.rules, &wanted)? {
