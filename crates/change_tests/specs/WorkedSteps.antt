@@ -1,5 +1,9 @@
--- The steps of changes, computed: at `+` of a monitor beside a router, and over the ports of their virtual switch.
-use Rattle.std.specs.Prelude.{◌≡◌, ℕ, zero, suc, ◌+◌, ◌≤◌, false, true, List, [], ◌∷◌, map}
+-- The steps of changes, computed: at `+` of a monitor beside a router, over the ports of their virtual switch, and of
+-- both together.
+use Rattle.std.specs.Prelude.{◌≡◌, ℕ, zero, suc, ◌≤◌, Bool, false, true, List, [], ◌∷◌, map}
+use Rattle.agreement.specs.Worked.{routed}
+use Rattle.agreement.specs.declared.state.Setting.{Setting}
+use Rattle.composed_tables.specs.Steps.{setting_steps}
 use Rattle.policy_expr.specs.Policy.{Policy, member, parallel}
 use Rattle.policy_meaning.specs.Hops.{Fabric}
 use Rattle.policy_meaning.specs.LeafRules.{leaf_rules}
@@ -12,6 +16,7 @@ use Rattle.policy_meaning.specs.declared.rule.Rule.{Rule}
 use Rattle.of10_actions.specs.declared.effects.Tail.TheVariants.{Nothing}
 use Rattle.incr_compile.specs.Costs.{steps_of}
 use Rattle.hop_rules.specs.Counts.{change_steps}
+use Rattle.change_tests.specs.WorkedRouted.{routed_plan}
 
 -- a member of eight levels each
 abbrev pub eight : ℕ → ℕ
@@ -69,10 +74,30 @@ lone_switch monitor router = record {
 abbrev pub steps_at_ports : List LeafEntry → List LeafEntry → List LeafEntry → ℕ
 steps_at_ports before after router = change_steps (lone_switch before router) (lone_switch after router) [] own_ports 4
 
--- Where one entry for all ports won't do: two rules come, so two steps are made at each of four ports; with those at
--- `+` fewer than the 35 of a node for each port and hop. None are made where the entry goes.
+-- Two rules come, so two steps are made at each of four ports. None are made where the entry goes.
 pub record StepsOverHops : Type 0 where
   pub comes : steps_at_ports [] (looks 0x0a000100) sends ≡ 8
   pub goes : steps_at_ports (looks 0x0a000100) [] sends ≡ 0
   pub meets_one : steps_at_ports [] (looks 0x0a000200) three_nets ≡ 8
-  pub both : steps_beside [] (looks 0x0a000100) sends + steps_at_ports [] (looks 0x0a000100) sends ≤ 35
+
+-- the setting of both, of which one entry stands for all ports, or not
+abbrev pub setting_with : Bool → List LeafEntry → List LeafEntry → Setting
+setting_with whole monitor router = record (routed whole) {
+  network = record {
+    tables = table 0 false monitor ∷ table 1 true router ∷ [];
+    switches = record { expr = beside; outside = four_ports; links = []; spread = false; whole = whole } ∷ [];
+  };
+}
+
+-- the steps where the monitor's entries change
+abbrev pub steps_of_setting : Bool → List LeafEntry → List LeafEntry → ℕ
+steps_of_setting whole before after = setting_steps routed_plan (setting_with whole before sends) (setting_with whole after sends)
+
+-- Where one entry stands for all ports, no step is made but at `+`; else fewer than the 35 of a node for each port and
+-- each of four hops. None are made where the entry goes.
+pub record StepsOfSettings : Type 0 where
+  pub comes_to_whole : steps_of_setting true [] (looks 0x0a000100) ≡ 3
+  pub goes_from_whole : steps_of_setting true (looks 0x0a000100) [] ≡ 0
+  pub comes : steps_of_setting false [] (looks 0x0a000100) ≡ 11
+  pub goes : steps_of_setting false (looks 0x0a000100) [] ≡ 0
+  pub few : steps_of_setting false [] (looks 0x0a000100) ≤ 35

@@ -3,7 +3,7 @@
 //! crates that they test, so that these are proved once.
 #![tactic(auto)]
 
-ghost use Rattle.change_tests.specs.WorkedSteps.{StepsOfOneEntry, StepsOverHops};
+ghost use Rattle.change_tests.specs.WorkedSteps.{StepsOfOneEntry, StepsOfSettings, StepsOverHops};
 
 #[cfg(test)]
 mod draws;
@@ -22,8 +22,9 @@ mod switches;
 #[cfg(test)]
 mod topologies;
 
-/// The steps at `+` of one entry that comes and of one that goes, and those over hops.
+/// The steps at `+` of one entry that comes and of one that goes, those over hops, and those of both together.
 pub fn worked_steps()
     ensures at_plus { StepsOfOneEntry }
     ensures over_hops { StepsOverHops }
+    ensures together { StepsOfSettings }
 {}

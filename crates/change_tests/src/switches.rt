@@ -20,6 +20,7 @@ use std::alloc::Global;
 use std::marker::Brand;
 use std::sync::ledger::{Blank, Ledger};
 use std::test::Fail;
+use std::thread::Threads;
 use switch_meaning::installed;
 use virtual_topology::Topology;
 
@@ -138,7 +139,8 @@ fn is_scratch(alloc: Global, setting: &Setting, standing: &List<Written>) -> Res
 }
 
 /// Whether what stands follows a vector's change, and is as before once it is taken back.
-fn follows<G: Ledger>(
+fn follows<R: Threads + Sync, G: Ledger>(
+    rt: &R,
     alloc: Global,
     topology: &Topology,
     setting: &Setting,
@@ -151,7 +153,7 @@ fn follows<G: Ledger>(
     if !setting.fits() {
         return Ok(false);
     }
-    let mut composed = Composed::build(alloc, topology, setting, steps)?;
+    let mut composed = Composed::build(rt, alloc, topology, setting, steps)?;
     let before = composed.standing(0)?;
     let delta = delta(alloc, vector)?;
     let after = changed(alloc, setting, vector)?;
@@ -160,13 +162,17 @@ fn follows<G: Ledger>(
     let batch = composed.whole(0, 20)?;
     composed.undo();
     let undone = composed.standing(0)?;
-    composed.restore(topology, setting, steps)?;
+    composed.restore(rt, topology, setting, steps)?;
     let stands = is_scratch(alloc, &after, &applied)? && is_scratch(alloc, &after, &batch.adds)?;
     Ok(stands && undone == before && composed.is_compiled())
 }
 
 /// Whether all changes are followed, one entry standing for all ports or one for each.
-fn all_follow<G: Ledger>(alloc: Global, blank: Blank) -> Result<bool, Fail>
+fn all_follow<R: Threads + Sync, G: Ledger>(
+    rt: &R,
+    alloc: Global,
+    blank: Blank,
+) -> Result<bool, Fail>
     requires { (blank.name ≡ G.name) × (blank.parts ≡ G.parts) × (0 < blank.parts) }
 {
     let mut steps = Steps::<G>::new(blank);
@@ -174,7 +180,7 @@ fn all_follow<G: Ledger>(alloc: Global, blank: Blank) -> Result<bool, Fail>
     for whole in [false, true] {
         let setting = setting(alloc, whole)?;
         for vector in VECTORS {
-            if !follows(alloc, &topology, &setting, &vector, &mut steps)? {
+            if !follows(rt, alloc, &topology, &setting, &vector, &mut steps)? {
                 return Ok(false);
             }
         }
@@ -184,6 +190,6 @@ fn all_follow<G: Ledger>(alloc: Global, blank: Blank) -> Result<bool, Fail>
 
 #[test]
 fn what_stands_follows(rt: HostRuntime) -> Result<(), Fail> {
-    assert!(rt; all_follow::<Brand>(rt.alloc(), Blank::new(1))?);
+    assert!(rt; all_follow::<HostRuntime, Brand>(&rt, rt.alloc(), Blank::new(1))?);
     Ok(())
 }
