@@ -74,12 +74,19 @@ fn all_fit_in(size: u64, rules: &List<Rule>) -> bool
     true
 }
 
+/// Whether a table has so many levels.
+fn has_size(size: u64, table: &LeafTable) -> bool
+    ensures { IsTrue result → HasSize size table.now }
+{
+    table.size == size
+}
+
 /// Whether all tables have so many levels.
 fn all_have_size(size: u64, tables: &List<LeafTable>) -> bool
     ensures { IsTrue result → AllByRecursion (HasSize size) tables.now }
 {
     for table in tables.as_slice() {
-        if table.size != size {
+        if !has_size(size, table) {
             return false;
         }
     }
