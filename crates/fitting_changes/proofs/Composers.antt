@@ -25,8 +25,12 @@ use Rattle.fitting_changes.specs.Composers.{CanTake, Fits, FitsIn, HasSize, IsCo
 module _ {A : Type 0} (P : A → Type 0) where
   pub one-more : (xs : List A) (i : ℕ) (x : A) → i < length xs → x ≡ get_or xs i x → P x → AllByRecursion P (take i xs) → AllByRecursion P (take (i + 1) xs)
   one-more [] i x lt e p a = absurd (omega arith)
-  one-more (y ∷ ys) zero x lt e p a = (subst P e p, tt)
-  one-more (y ∷ ys) (suc i) x lt e p a = (a.0, one-more ys i x (omega arith) e p a.1)
+  one-more (y ∷ ys) zero x lt e p a =
+      let one : 0 + 1 ≡ suc 0 = omega arith in
+      subst (λ (n : ℕ). AllByRecursion P (take n (y ∷ ys))) (sym one) (subst P e p, tt)
+  one-more (y ∷ ys) (suc i) x lt e p a =
+      let next : suc i + 1 ≡ suc (i + 1) = omega arith in
+      subst (λ (n : ℕ). AllByRecursion P (take n (y ∷ ys))) (sym next) (a.0, one-more ys i x (omega arith) e p a.1)
 
 -- ---- the members of a tree are those that its expression names
 
