@@ -92,10 +92,6 @@ all-at R (z ∷ xs) [] i x y a below e f = absurd a
 all-at R (z ∷ xs) (w ∷ ys) zero x y a below e f = subst (λ u. R u y) (sym e) (subst (λ v. R z v) (sym f) a.0)
 all-at R (z ∷ xs) (w ∷ ys) (suc i) x y a below e f = all-at R xs ys i x y a.1 (omega arith) e f
 
--- the same where the lists are written otherwise
-pub found-at : {A B : Type 0} (R : A → B → Type 0) (xs us : List A) (ys vs : List B) → us ≡ xs → vs ≡ ys → AllZip R xs ys → AllZip R us vs
-found-at R xs us ys vs e f a = subst (λ u. AllZip R u vs) (sym e) (subst (λ v. AllZip R xs v) (sym f) a)
-
 -- where each was found
 pub all-ok : {A B E : Type 0} (P Q : A → B → Type 0) → ((a : A) (b : B) → P a b → Q a b) → (xs : List A) (ys : List B) → AllZip (λ a (r : Result B E). IfOk r (P a)) xs (map Ok ys) → AllZip Q xs ys
 all-ok P Q h [] [] z = tt
