@@ -56,7 +56,7 @@ pub spent-all : {X : Type 0} (f : X → ℕ) (xs : List X) (v s0 s1 : ℕ) → s
 spent-all f xs v s0 s1 far = let le = sum_by-take-le f xs v in omega (arith, le, far)
 
 -- ---- a table in which a virtual switch has other rules
-put : List (List Rule) → ℕ → List Rule → List (List Rule)
+pub put : List (List Rule) → ℕ → List Rule → List (List Rule)
 put [] zero r = r ∷ []
 put [] (suc n) r = [] ∷ put [] n r
 put (x ∷ xs) zero r = r ∷ xs
@@ -146,7 +146,7 @@ module _ (v : ℕ) (delta : LeafDelta) (s s' : Setting) (c : Changes v delta s s
         (changed.changed t.item u.item t.is u.is).apart
 
     module _ (parted : is_whole r.hops v ≡ false) where
-      kept : (kept : List Rule) × IsPermutation (rules_kept r.hops v) (told.gone ++ kept)
+      pub kept : (kept : List Rule) × IsPermutation (rules_kept r.hops v) (told.gone ++ kept)
       kept = gone-there v delta r trees told tied changed parted there
 
       -- a table that the change makes of this one
@@ -156,7 +156,7 @@ module _ (v : ℕ) (delta : LeafDelta) (s s' : Setting) (c : Changes v delta s s
       pub handed : IsHanded r.hops table-after v told.gone told.come
       handed = handed-with r.hops v told.gone told.come kept.0 (told.come ++ kept.0) kept.1 refl
 
-      abbrev rules-now : RulesOf
+      abbrev pub rules-now : RulesOf
       rules-now = record { trees = trees; sizes = r.sizes; whole = r.whole; hops = table-after }
 
       tied-now : AreTied rules-now

@@ -20,7 +20,7 @@ loop-v-init g c =
     }
 
 pub add_tree-requires-clause-there : goal.add_tree-requires-clause-there
-add_tree-requires-clause-there g c =
+add_tree-requires-clause-there g c ks lives =
     let test = c.loop-v-test.true in
     let items = c.as_slice-switches.result.now in
     let lt : c.loop-v.v < length items = omega arith in

@@ -116,8 +116,8 @@ returns-in_err-told-clause-steps g c before after of ch =
     (tree-within c.args.v c.args.delta before after ch r (subst (AreRulesOf before) (sym c.self.view_is) of) can.there c.args.steps.now c.change_tree.new.steps
     (tree-spent c.args.v c.args.delta before after ch r (subst (AreRulesOf before) (sym c.self.view_is) of) can.there c.args.steps.now c.change_tree.new.steps c.change_tree.ensures.steps))
 
-pub returns-then-whole_at-in_err-all-clause-steps : goal.returns-then-whole_at-in_err-all-clause-steps
-returns-then-whole_at-in_err-all-clause-steps g c before after of ch =
+pub returns-in_err-all-clause-steps : goal.returns-in_err-all-clause-steps
+returns-in_err-all-clause-steps g c before after of ch =
     let i = c.self.inside in
     let r : RulesOf = record { trees = i.trees; sizes = i.sizes; whole = i.whole; hops = i.hops } in
     let can : CanTake r c.args.v c.args.delta = subst (λ (z : RulesOf). CanTake z c.args.v c.args.delta) (sym c.self.view_is) c.requires.can in

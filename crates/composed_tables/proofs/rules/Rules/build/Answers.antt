@@ -1,4 +1,4 @@
-use Rattle.std.proofs.Common.{ℕ, Bool, List, length, ap, subst, arith}
+use Rattle.std.proofs.Common.{ℕ, Bool, List, length, ap, subst, ◌∙◌, arith}
 use Rattle.std.proofs.lemmas.List.{length-map}
 use Rattle.alg_priority.specs.Levels.{capped}
 use Rattle.hop_rules.specs.Tables.{TableOf}
