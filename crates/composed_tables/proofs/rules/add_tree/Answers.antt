@@ -19,12 +19,12 @@ spent tables x ports e s0 s1 p q le =
     subst (λ (z : Policy). s1 ≤ s0 + steps_from_scratch tables (ports_of x) z) q (subst (λ (z : List ℕ). s1 ≤ s0 + steps_from_scratch tables z e) p le)
 
 pub build-requires-clause-size : goal.build-requires-clause-size
-build-requires-clause-size g c =
+build-requires-clause-size g c ks lives =
     subst (λ (e : Policy). levels_of c.args.network.now.tables e < 2 ^ 64) (sym (ap (λ (z : SwitchOf). z.expr) c.x.view_is))
     (c.requires.can.size c.args.v c.args.x.now c.requires.there)
 
 pub build-requires-clause-once : goal.build-requires-clause-once
-build-requires-clause-once g c =
+build-requires-clause-once g c ks lives =
     subst (λ (e : Policy). EachPair (λ (i j : ℕ). i ≢ j) (members_of e)) (sym (ap (λ (z : SwitchOf). z.expr) c.x.view_is))
     (c.requires.can.once c.args.v c.args.x.now c.requires.there)
 
