@@ -93,15 +93,15 @@ all-at R (z ∷ xs) (w ∷ ys) zero x y a below e f = subst (λ u. R u y) (sym e
 all-at R (z ∷ xs) (w ∷ ys) (suc i) x y a below e f = all-at R xs ys i x y a.1 (omega arith) e f
 
 -- where each was found
-pub all-ok : {A B E : Type 0} (P Q : A → B → Type 0) → ((a : A) (b : B) → P a b → Q a b) → (xs : List A) (ys : List B) → AllZip (λ a (r : Result B E). IfOk r (P a)) xs (map Ok ys) → AllZip Q xs ys
-all-ok P Q h [] [] z = tt
-all-ok P Q h [] (y ∷ ys) z = absurd z
-all-ok P Q h (x ∷ xs) [] z = absurd z
-all-ok P Q h (x ∷ xs) (y ∷ ys) z = (h x y z.0, all-ok P Q h xs ys z.1)
+pub all-ok : {A B : Type 0} (E : Type 0) (P Q : A → B → Type 0) → ((a : A) (b : B) → P a b → Q a b) → (xs : List A) (ys : List B) → AllZip (λ a (r : Result B E). IfOk r (P a)) xs (map Ok ys) → AllZip Q xs ys
+all-ok E P Q h [] [] z = tt
+all-ok E P Q h [] (y ∷ ys) z = absurd z
+all-ok E P Q h (x ∷ xs) [] z = absurd z
+all-ok E P Q h (x ∷ xs) (y ∷ ys) z = (h x y z.0, all-ok E P Q h xs ys z.1)
 
 -- where all were found, each was
 pub found-each : {A B E V : Type 0} (items : V → List B) (P Q : A → B → Type 0) → ((a : A) (b : B) → P a b → Q a b) → (xs : List A) (rs : List (Result B E)) (v : Result V E) → AllZip (λ a (r : Result B E). IfOk r (P a)) xs rs →
     MatchResult v (λ c. (ys : List B) × (rs ≡ map Ok ys) × (items c ≡ ys)) (λ e. Contains rs (Err e)) → IfOk v (λ c. AllZip Q xs (items c))
 found-each items P Q h xs rs (Ok c) z m =
-    subst (λ ys. AllZip Q xs ys) (sym m.2) (all-ok P Q h xs m.0 (subst (λ r. AllZip (λ a (r : Result _ _). IfOk r (P a)) xs r) m.1 z))
+    subst (λ ys. AllZip Q xs ys) (sym m.2) (all-ok _ P Q h xs m.0 (subst (λ r. AllZip (λ a (r : Result _ _). IfOk r (P a)) xs r) m.1 z))
 found-each items P Q h xs rs (Err e) z m = tt
