@@ -43,6 +43,16 @@ told-turns before after tolds turns e t k lt = (
       (subst (λ (u : Turn). IsTold (held_at before k) (held_at after k) u (told_at tolds k).left) (sym (turn-of tolds k)) (t.each k lt)),
 )
 
+-- ---- sums of steps
+less-by : (a b c d e : ℕ) → a ≤ b + c → c ≤ d → d ≡ e → a ≤ b + e
+less-by a b c d e p q r = omega arith
+
+less-more : (a b c d : ℕ) → a ≤ b + c → a ≤ b + (c + d)
+less-more a b c d p = omega arith
+
+less-both : (a b c d e : ℕ) → a ≤ b + c → e ≤ a + d → e ≤ b + (c + d)
+less-both a b c d e p q = omega arith
+
 -- the sizes are the same whatever the rules
 sizes-as : (f : Fabric) (rules : ℕ → List Rule) (n : ℕ) (stands : List Stand) → AllByRecursion (λ (s : Stand). s.size ≡ peers_size (hop_size f n) (f.links s.at.v)) stands →
     AllByRecursion (λ (s : Stand). s.size ≡ peers_size (hop_size (record f { rules = rules }) n) (f.links s.at.v)) stands
@@ -83,12 +93,12 @@ module _ (f : Fabric) (rules : ℕ → List Rule) (es : List LinkEnd) (n : ℕ) 
   pub level-cost : (l : Level) (s0 s1 : ℕ) → IsMade f n old before l → ((xs : List GivenOf) → IsEvent xs new e → s1 ≤ s0 + sum_by (node_cost new below e turns) l.stands) →
       s1 ≤ s0 + row_steps now es (came_to new e) n (peers_came f now es n) (map (λ (s : Stand). s.at) l.stands)
   level-cost l s0 s1 m t =
-      let h = t old b.event in
-      let s = level-steps now es new b.now n below b.row e turns l.stands (there-as old new b.event.count l.stands m.there) in
+      let places = map (λ (s : Stand). s.at) l.stands in
       let there = came_below now es new b.now n below b.row e turns in
-      let o = row-order now es n (came_to new e) (came_to new e) there (peers_came f now es n) (λ v. IsPermutation-refl _)
-      (peers-are f now es n there (came-there f now es n before below turns b.row_was b.row b.told)) (map (λ (s : Stand). s.at) l.stands) in
-      omega arith
+      less-by s1 s0 (sum_by (node_cost new below e turns) l.stands) (row_steps now es (came_to new e) n there places) (row_steps now es (came_to new e) n (peers_came f now es n) places) (t old b.event)
+      (level-steps now es new b.now n below b.row e turns l.stands (there-as old new b.event.count l.stands m.there))
+      (row-order now es n (came_to new e) (came_to new e) there (peers_came f now es n) (λ v. IsPermutation-refl _)
+      (peers-are f now es n there (came-there f now es n before below turns b.row_was b.row b.told)) places)
 
   -- the last level
   pub top-was : levels ≡ [] → IsMade f n old before top
@@ -116,11 +126,15 @@ module _ (f : Fabric) (rules : ℕ → List Rule) (es : List LinkEnd) (n : ℕ) 
         (level-cost f rules es n old new before below (l ∷ ls) top e turns b l s0 s1 b.made.0.0 t)
 
     pub ended-cost : (outside : List Place) → s1 ≤ s0 + steps_from f (record f { rules = rules }) es (came_to new e) outside n (suc (length ls))
-    ended-cost outside = let h = between-cost in omega arith
+    ended-cost outside =
+        let now = record f { rules = rules } in
+        less-more s1 s0 (row_steps now es (came_to new e) n (peers_came f now es n) (map (λ (x : LinkEnd). x.peer) es)) (steps_from f now es (came_to new e) outside (suc n) (length ls)) between-cost
 
     pub climbed-cost : (outside : List Place) (s2 : ℕ) → s2 ≤ s1 + steps_from f (record f { rules = rules }) es (came_to new e) outside (suc n) (length ls) →
         s2 ≤ s0 + steps_from f (record f { rules = rules }) es (came_to new e) outside n (suc (length ls))
-    climbed-cost outside s2 more = let h = between-cost in omega arith
+    climbed-cost outside s2 more =
+        let now = record f { rules = rules } in
+        less-both s1 s0 (row_steps now es (came_to new e) n (peers_came f now es n) (map (λ (x : LinkEnd). x.peer) es)) (steps_from f now es (came_to new e) outside (suc n) (length ls)) s2 between-cost more
 
 -- the next level is then the one below
 module _ (f : Fabric) (rules : ℕ → List Rule) (es : List LinkEnd) (n : ℕ) (old new : List GivenOf) (before below : List NodeOf) (l : Level) (ls : List Level) (top : Level) (e : Event) (turns : List Turn)

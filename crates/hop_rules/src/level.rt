@@ -1,5 +1,5 @@
 //! The nodes of one number of hops, and how they change.
-ghost use Rattle.std.specs.Prelude.{◌≡◌, ◌==◌, ◌+◌, ◌<◌, ◌≤◌, ℕ, IfOk, List, OnOk, length, sum_by};
+ghost use Rattle.std.specs.Prelude.{◌≡◌, ◌==◌, ◌+◌, ◌<◌, ◌≤◌, IfOk, List, OnOk, length, sum_by};
 ghost use Rattle.std.specs.List.{AllByRecursion};
 ghost use Rattle.hop_rules.specs.Handed.{GivenOf};
 ghost use Rattle.hop_rules.specs.Levels.{AreTurnedAt, AreTurnedNodes, IsEvent, IsMadeAt, IsReadyAt, IsTurned, node_cost};

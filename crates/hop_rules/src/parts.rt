@@ -1,5 +1,5 @@
 //! The rules of virtual switches and the nodes made of them, for each number of hops.
-ghost use Rattle.std.specs.Prelude.{◌≡◌, ◌+◌, ◌≤◌, ◌<◌, ◌==◌, ℕ, false, IfOk, List, OnErr, OnOk, length, map};
+ghost use Rattle.std.specs.Prelude.{◌≡◌, ◌+◌, ◌≤◌, ◌<◌, ◌==◌, ℕ, false, IfOk, List, OnOk, length, map};
 ghost use Rattle.std.specs.List.{AllByRecursion};
 ghost use Rattle.list_change.specs.Changes.{Apart};
 ghost use Rattle.policy_meaning.specs.Hops.{Fabric};
