@@ -11,7 +11,7 @@ pub of-requires : goal.of-requires
 of-requires g c = (
   search sendable,
   subst (λ z. CanJoin c.args.op c.args.size z c.made-2.result.now) (sym c.made.ensures)
-  (subst (λ z. CanJoin c.args.op c.args.size (made_in (tree_of c.args.left)) z) (sym c.made-2.ensures) (over-can c.args.op c.args.size (tree_of c.args.left) (tree_of c.args.right) c.requires)),
+      (subst (λ z. CanJoin c.args.op c.args.size (made_in (tree_of c.args.left)) z) (sym c.made-2.ensures) (over-can c.args.op c.args.size (tree_of c.args.left) (tree_of c.args.right) c.requires)),
 )
 
 pub returns-clause-over : goal.returns-clause-over
