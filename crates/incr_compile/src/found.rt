@@ -1,6 +1,6 @@
 //! What whole operands make. The rules that each left one could meet are found in parallel. What they make
 //! is made one after the other, so that it is the same for every number of threads.
-ghost use Rattle.std.specs.Prelude.{◌≡◌, ◌+◌, ◌<◌, ◌≤◌, ◌^◌, ◌++◌, ◌∷◌, [], All, IfOk, List, OnOk, IsPermutation, count_by, filter, filter_map, map};
+ghost use Rattle.std.specs.Prelude.{◌+◌, ◌<◌, ◌≤◌, ◌^◌, ◌++◌, ◌∷◌, [], All, IfOk, List, OnOk, IsPermutation, count_by, filter, filter_map, map};
 ghost use Rattle.std.specs.List.{AllZip};
 ghost use Rattle.list_change.specs.Pairing.{by_left};
 ghost use Rattle.op_compose.specs.Composition.{alone_level, joined_level};

@@ -1,6 +1,6 @@
 //! What a rule that comes makes with rules of the other operand.
 ghost use Rattle.std.specs.Prelude.{◌≡◌, ◌+◌, ◌<◌, ◌≤◌, ◌^◌, ◌++◌, ◌∷◌, [], All, IfOk, OnOk, IsTrue, ◌↔◌, List, option_map, option_to_list, filter_map, length};
-ghost use Rattle.list_change.specs.Pairing.{by_left, by_right, pairs};
+ghost use Rattle.list_change.specs.Pairing.{by_left, by_right};
 ghost use Rattle.op_compose.specs.Composition.{Joins, alone_level, joined, joined_level};
 ghost use Rattle.op_compose.specs.declared.op.Side.TheVariants.{Left, Right};
 ghost use Rattle.policy_meaning.specs.declared.rule.Rule.{Rule};

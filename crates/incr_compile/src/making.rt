@@ -1,5 +1,5 @@
 //! What rules that come to an operand make with those of the other that they could meet.
-ghost use Rattle.std.specs.Prelude.{◌≡◌, ◌+◌, ◌<◌, ◌≤◌, ◌^◌, ◌++◌, ◌∷◌, [], All, IfOk, OnOk, IsPermutation, count_by, filter_map};
+ghost use Rattle.std.specs.Prelude.{◌+◌, ◌<◌, ◌≤◌, ◌^◌, ◌++◌, ◌∷◌, [], All, IfOk, OnOk, IsPermutation, count_by, filter_map};
 ghost use Rattle.list_change.specs.Pairing.{by_left, by_right};
 ghost use Rattle.op_compose.specs.Composition.{alone_level, joined_level};
 ghost use Rattle.op_compose.specs.declared.op.Side.TheVariants.{Left, Right};

@@ -1,5 +1,5 @@
 //! A tree of operators over the rules of members.
-ghost use Rattle.std.specs.Prelude.{◌≡◌, ◌+◌, ◌≤◌, ℕ, IfOk, IsPermutation, List, OnErr, OnOk, Some, length, map};
+ghost use Rattle.std.specs.Prelude.{◌≡◌, ◌+◌, ◌≤◌, ℕ, IfOk, List, OnErr, OnOk, Some, length, map};
 ghost use Rattle.op_compose.specs.declared.op.Side.TheVariants.{Left, Right};
 ghost use Rattle.policy_meaning.specs.declared.rule.Rule.{Rule};
 ghost use Rattle.rule_ancestry.specs.Holding.{Held, item_of};

@@ -1,3 +1,4 @@
+use denote.Param.Send.{sendable}
 use Rattle.std.proofs.Common.{rules, ◌≡◌, ◌<◌, ◌^◌, ap, arith, subst, sym, ◌∙◌}
 use Rattle.alg_priority.specs.Levels.{capped}
 use Rattle.op_compose.specs.declared.op.Op.TheVariants.{Par, Seq, Over}
@@ -15,7 +16,7 @@ build_tree-requires g t c κs within =
     let fit : levels_of c.args.tables.now (parallel (policy_of c.in-Par.left.value) (policy_of c.in-Par.right.value)) < 2 ^ 64 = subst (λ z. levels_of c.args.tables.now z < 2 ^ 64) whole c.requires.size in
     let smaller : operators (policy_of c.deref.result.now) < operators (policy_of c.args.expr.now) = subst (λ z. operators (policy_of c.deref.result.now) < operators z) (sym whole)
     (subst (λ z. operators (policy_of z) < operators (parallel (policy_of c.in-Par.left.value) (policy_of c.in-Par.right.value))) (sym c.deref.ensures) (omega arith)) in
-    (search rules, (within, (c.requires.tables, (c.requires.sound, subst (λ z. levels_of c.args.tables.now (policy_of z) < 2 ^ 64) (sym c.deref.ensures) (parallel-parts c.args.tables.now c.requires.tables (policy_of c.in-Par.left.value) (policy_of c.in-Par.right.value) fit).0))))
+    (search rules, (within.0, (within.1, (search sendable, (c.requires.tables, (c.requires.sound, subst (λ z. levels_of c.args.tables.now (policy_of z) < 2 ^ 64) (sym c.deref.ensures) (parallel-parts c.args.tables.now c.requires.tables (policy_of c.in-Par.left.value) (policy_of c.in-Par.right.value) fit).0))))))
 
 pub build_tree-requires-in-Par : goal.build_tree-requires-in-Par
 build_tree-requires-in-Par g t c κs within =
@@ -23,19 +24,21 @@ build_tree-requires-in-Par g t c κs within =
     let fit : levels_of c.args.tables.now (parallel (policy_of c.in-Par.left.value) (policy_of c.in-Par.right.value)) < 2 ^ 64 = subst (λ z. levels_of c.args.tables.now z < 2 ^ 64) whole c.requires.size in
     let smaller : operators (policy_of c.deref-in-Par.result.now) < operators (policy_of c.args.expr.now) = subst (λ z. operators (policy_of c.deref-in-Par.result.now) < operators z) (sym whole)
     (subst (λ z. operators (policy_of z) < operators (parallel (policy_of c.in-Par.left.value) (policy_of c.in-Par.right.value))) (sym c.deref-in-Par.ensures) (omega arith)) in
-    (search rules, (within, (c.requires.tables, (c.requires.sound, subst (λ z. levels_of c.args.tables.now (policy_of z) < 2 ^ 64) (sym c.deref-in-Par.ensures) (parallel-parts c.args.tables.now c.requires.tables (policy_of c.in-Par.left.value) (policy_of c.in-Par.right.value) fit).1))))
+    (search rules, (within.0, (within.1, (search sendable, (c.requires.tables, (c.requires.sound, subst (λ z. levels_of c.args.tables.now (policy_of z) < 2 ^ 64) (sym c.deref-in-Par.ensures) (parallel-parts c.args.tables.now c.requires.tables (policy_of c.in-Par.left.value) (policy_of c.in-Par.right.value) fit).1))))))
 
 pub operator_tree-requires : goal.operator_tree-requires
 operator_tree-requires g t c =
     let whole : policy_of c.args.expr.now ≡ parallel (policy_of c.in-Par.left.value) (policy_of c.in-Par.right.value) = ap policy_of c.in-Par.is in
     let fit : levels_of c.args.tables.now (parallel (policy_of c.in-Par.left.value) (policy_of c.in-Par.right.value)) < 2 ^ 64 = subst (λ z. levels_of c.args.tables.now z < 2 ^ 64) whole c.requires.size in
     let right : levels_of c.args.tables.now (policy_of c.in-Par.right.value) < 2 ^ 64 = (parallel-parts c.args.tables.now c.requires.tables (policy_of c.in-Par.left.value) (policy_of c.in-Par.right.value) fit).1 in
-    let whole' = subst (λ z. levels_of c.args.tables.now (parallel (policy_of c.in-Par.left.value) (policy_of z)) < 2 ^ 64) (sym c.deref-in-Par.ensures) fit in
-    built-can c.args.tables.now c.args.ports.now Par (policy_of c.deref.result.now) (policy_of c.deref-in-Par.result.now) (tree_of c.in_ok-first-in-Par.first) (tree_of c.in_ok-second-in-Par.second) c.expression_size-size.result (λ e. absurd (cc))
-    c.in_ok-first-in-Par.ensures.built c.in_ok-second-in-Par.ensures.built
-    (subst (λ z. levels_of c.args.tables.now (parallel (policy_of z) (policy_of c.deref-in-Par.result.now)) < 2 ^ 64) (sym c.deref.ensures) whole')
-    (subst (λ z. levels_of c.args.tables.now (policy_of z) < 2 ^ 64) (sym c.deref-in-Par.ensures) right)
-    (c.expression_size-size.ensures ∙ ap (λ z. capped (levels_of c.args.tables.now (policy_of z))) (c.deref-in-Par-2.ensures ∙ sym c.deref-in-Par.ensures))
+    let whole' = subst (λ z. levels_of c.args.tables.now (parallel (policy_of c.in-Par.left.value) (policy_of z)) < 2 ^ 64) (sym c.deref-in-Par.ensures) fit in (
+      search sendable,
+      built-can c.args.tables.now c.args.ports.now Par (policy_of c.deref.result.now) (policy_of c.deref-in-Par.result.now) (tree_of c.in_ok-first-in-Par.first) (tree_of c.in_ok-second-in-Par.second) c.expression_size-size.result (λ e. absurd (cc))
+          c.in_ok-first-in-Par.ensures.built c.in_ok-second-in-Par.ensures.built
+          (subst (λ z. levels_of c.args.tables.now (parallel (policy_of z) (policy_of c.deref-in-Par.result.now)) < 2 ^ 64) (sym c.deref.ensures) whole')
+          (subst (λ z. levels_of c.args.tables.now (policy_of z) < 2 ^ 64) (sym c.deref-in-Par.ensures) right)
+          (c.expression_size-size.ensures ∙ ap (λ z. capped (levels_of c.args.tables.now (policy_of z))) (c.deref-in-Par-2.ensures ∙ sym c.deref-in-Par.ensures)),
+    )
 
 pub build_tree-requires-in-Seq : goal.build_tree-requires-in-Seq
 build_tree-requires-in-Seq g t c κs within =
@@ -43,7 +46,7 @@ build_tree-requires-in-Seq g t c κs within =
     let fit : levels_of c.args.tables.now (sequential (policy_of c.in-Seq.left.value) (policy_of c.in-Seq.right.value)) < 2 ^ 64 = subst (λ z. levels_of c.args.tables.now z < 2 ^ 64) whole c.requires.size in
     let smaller : operators (policy_of c.deref-in-Seq.result.now) < operators (policy_of c.args.expr.now) = subst (λ z. operators (policy_of c.deref-in-Seq.result.now) < operators z) (sym whole)
     (subst (λ z. operators (policy_of z) < operators (sequential (policy_of c.in-Seq.left.value) (policy_of c.in-Seq.right.value))) (sym c.deref-in-Seq.ensures) (omega arith)) in
-    (search rules, (within, (c.requires.tables, (c.requires.sound, subst (λ z. levels_of c.args.tables.now (policy_of z) < 2 ^ 64) (sym c.deref-in-Seq.ensures) (sequential-parts c.args.tables.now c.requires.tables (policy_of c.in-Seq.left.value) (policy_of c.in-Seq.right.value) fit).0))))
+    (search rules, (within.0, (within.1, (search sendable, (c.requires.tables, (c.requires.sound, subst (λ z. levels_of c.args.tables.now (policy_of z) < 2 ^ 64) (sym c.deref-in-Seq.ensures) (sequential-parts c.args.tables.now c.requires.tables (policy_of c.in-Seq.left.value) (policy_of c.in-Seq.right.value) fit).0))))))
 
 pub build_tree-requires-in-Seq-2 : goal.build_tree-requires-in-Seq-2
 build_tree-requires-in-Seq-2 g t c κs within =
@@ -51,31 +54,35 @@ build_tree-requires-in-Seq-2 g t c κs within =
     let fit : levels_of c.args.tables.now (sequential (policy_of c.in-Seq.left.value) (policy_of c.in-Seq.right.value)) < 2 ^ 64 = subst (λ z. levels_of c.args.tables.now z < 2 ^ 64) whole c.requires.size in
     let smaller : operators (policy_of c.deref-in-Seq-2.result.now) < operators (policy_of c.args.expr.now) = subst (λ z. operators (policy_of c.deref-in-Seq-2.result.now) < operators z) (sym whole)
     (subst (λ z. operators (policy_of z) < operators (sequential (policy_of c.in-Seq.left.value) (policy_of c.in-Seq.right.value))) (sym c.deref-in-Seq-2.ensures) (omega arith)) in
-    (search rules, (within, (c.requires.tables, (c.requires.sound, subst (λ z. levels_of c.args.tables.now (policy_of z) < 2 ^ 64) (sym c.deref-in-Seq-2.ensures) (sequential-parts c.args.tables.now c.requires.tables (policy_of c.in-Seq.left.value) (policy_of c.in-Seq.right.value) fit).1))))
+    (search rules, (within.0, (within.1, (search sendable, (c.requires.tables, (c.requires.sound, subst (λ z. levels_of c.args.tables.now (policy_of z) < 2 ^ 64) (sym c.deref-in-Seq-2.ensures) (sequential-parts c.args.tables.now c.requires.tables (policy_of c.in-Seq.left.value) (policy_of c.in-Seq.right.value) fit).1))))))
 
 pub operator_tree-requires-in-Seq : goal.operator_tree-requires-in-Seq
 operator_tree-requires-in-Seq g t c =
     let whole : policy_of c.args.expr.now ≡ sequential (policy_of c.in-Seq.left.value) (policy_of c.in-Seq.right.value) = ap policy_of c.in-Seq.is in
     let fit : levels_of c.args.tables.now (sequential (policy_of c.in-Seq.left.value) (policy_of c.in-Seq.right.value)) < 2 ^ 64 = subst (λ z. levels_of c.args.tables.now z < 2 ^ 64) whole c.requires.size in
     let right : levels_of c.args.tables.now (policy_of c.in-Seq.right.value) < 2 ^ 64 = (sequential-parts c.args.tables.now c.requires.tables (policy_of c.in-Seq.left.value) (policy_of c.in-Seq.right.value) fit).1 in
-    let whole' = subst (λ z. levels_of c.args.tables.now (sequential (policy_of c.in-Seq.left.value) (policy_of z)) < 2 ^ 64) (sym c.deref-in-Seq-2.ensures) fit in
-    built-can c.args.tables.now c.args.ports.now Seq (policy_of c.deref-in-Seq.result.now) (policy_of c.deref-in-Seq-2.result.now) (tree_of c.in_ok-first-in-Seq.first) (tree_of c.in_ok-second-in-Seq.second) c.expression_size-size-in-Seq.result (λ e. absurd (cc))
-    c.in_ok-first-in-Seq.ensures.built c.in_ok-second-in-Seq.ensures.built
-    (subst (λ z. levels_of c.args.tables.now (sequential (policy_of z) (policy_of c.deref-in-Seq-2.result.now)) < 2 ^ 64) (sym c.deref-in-Seq.ensures) whole')
-    (subst (λ z. levels_of c.args.tables.now (policy_of z) < 2 ^ 64) (sym c.deref-in-Seq-2.ensures) right)
-    (c.expression_size-size-in-Seq.ensures ∙ ap (λ z. capped (levels_of c.args.tables.now (policy_of z))) (c.deref-in-Seq-3.ensures ∙ sym c.deref-in-Seq-2.ensures))
+    let whole' = subst (λ z. levels_of c.args.tables.now (sequential (policy_of c.in-Seq.left.value) (policy_of z)) < 2 ^ 64) (sym c.deref-in-Seq-2.ensures) fit in (
+      search sendable,
+      built-can c.args.tables.now c.args.ports.now Seq (policy_of c.deref-in-Seq.result.now) (policy_of c.deref-in-Seq-2.result.now) (tree_of c.in_ok-first-in-Seq.first) (tree_of c.in_ok-second-in-Seq.second) c.expression_size-size-in-Seq.result (λ e. absurd (cc))
+          c.in_ok-first-in-Seq.ensures.built c.in_ok-second-in-Seq.ensures.built
+          (subst (λ z. levels_of c.args.tables.now (sequential (policy_of z) (policy_of c.deref-in-Seq-2.result.now)) < 2 ^ 64) (sym c.deref-in-Seq.ensures) whole')
+          (subst (λ z. levels_of c.args.tables.now (policy_of z) < 2 ^ 64) (sym c.deref-in-Seq-2.ensures) right)
+          (c.expression_size-size-in-Seq.ensures ∙ ap (λ z. capped (levels_of c.args.tables.now (policy_of z))) (c.deref-in-Seq-3.ensures ∙ sym c.deref-in-Seq-2.ensures)),
+    )
 
 pub operator_tree-requires-in-Over : goal.operator_tree-requires-in-Over
 operator_tree-requires-in-Over g t c =
     let whole : policy_of c.args.expr.now ≡ override (policy_of c.in-Over.left.value) (policy_of c.in-Over.right.value) = ap policy_of c.in-Over.is in
     let fit : levels_of c.args.tables.now (override (policy_of c.in-Over.left.value) (policy_of c.in-Over.right.value)) < 2 ^ 64 = subst (λ z. levels_of c.args.tables.now z < 2 ^ 64) whole c.requires.size in
     let right : levels_of c.args.tables.now (policy_of c.in-Over.right.value) < 2 ^ 64 = (omega arith) in
-    let whole' = subst (λ z. levels_of c.args.tables.now (override (policy_of c.in-Over.left.value) (policy_of z)) < 2 ^ 64) (sym c.deref-in-Over-2.ensures) fit in
-    built-can c.args.tables.now c.args.ports.now Over (policy_of c.deref-in-Over.result.now) (policy_of c.deref-in-Over-2.result.now) (tree_of c.in_ok-first-in-Over.first) (tree_of c.in_ok-second-in-Over.second) c.expression_size-size-in-Over.result (λ e. absurd (cc))
-    c.in_ok-first-in-Over.ensures.built c.in_ok-second-in-Over.ensures.built
-    (subst (λ z. levels_of c.args.tables.now (override (policy_of z) (policy_of c.deref-in-Over-2.result.now)) < 2 ^ 64) (sym c.deref-in-Over.ensures) whole')
-    (subst (λ z. levels_of c.args.tables.now (policy_of z) < 2 ^ 64) (sym c.deref-in-Over-2.ensures) right)
-    (c.expression_size-size-in-Over.ensures ∙ ap (λ z. capped (levels_of c.args.tables.now (policy_of z))) (c.deref-in-Over-3.ensures ∙ sym c.deref-in-Over-2.ensures))
+    let whole' = subst (λ z. levels_of c.args.tables.now (override (policy_of c.in-Over.left.value) (policy_of z)) < 2 ^ 64) (sym c.deref-in-Over-2.ensures) fit in (
+      search sendable,
+      built-can c.args.tables.now c.args.ports.now Over (policy_of c.deref-in-Over.result.now) (policy_of c.deref-in-Over-2.result.now) (tree_of c.in_ok-first-in-Over.first) (tree_of c.in_ok-second-in-Over.second) c.expression_size-size-in-Over.result (λ e. absurd (cc))
+          c.in_ok-first-in-Over.ensures.built c.in_ok-second-in-Over.ensures.built
+          (subst (λ z. levels_of c.args.tables.now (override (policy_of z) (policy_of c.deref-in-Over-2.result.now)) < 2 ^ 64) (sym c.deref-in-Over.ensures) whole')
+          (subst (λ z. levels_of c.args.tables.now (policy_of z) < 2 ^ 64) (sym c.deref-in-Over-2.ensures) right)
+          (c.expression_size-size-in-Over.ensures ∙ ap (λ z. capped (levels_of c.args.tables.now (policy_of z))) (c.deref-in-Over-3.ensures ∙ sym c.deref-in-Over-2.ensures)),
+    )
 
 pub returns-in_err-first-in-Par-clause-steps : goal.returns-in_err-first-in-Par-clause-steps
 returns-in_err-first-in-Par-clause-steps g t c =

@@ -1,3 +1,4 @@
+use denote.Param.Send.{sendable}
 use Rattle.std.proofs.Common.{ap, subst, sym, ◌∙◌}
 use Rattle.made_rules.specs.Rules.{rules_in}
 use Rattle.incr_compile.specs.Nodes.{CanJoin, IsNode, node_of}
@@ -7,9 +8,11 @@ use Rattle.incr_compile.proofs.Wholes.{spent-at}
 use Rattle.incr_compile.proofs.building.operator_tree.Goals as goal
 
 pub of-requires : goal.of-requires
-of-requires g c =
-    subst (λ z. CanJoin c.args.op c.args.size z c.made-2.result.now) (sym c.made.ensures)
-    (subst (λ z. CanJoin c.args.op c.args.size (made_in (tree_of c.args.left)) z) (sym c.made-2.ensures) (over-can c.args.op c.args.size (tree_of c.args.left) (tree_of c.args.right) c.requires))
+of-requires g c = (
+  search sendable,
+  subst (λ z. CanJoin c.args.op c.args.size z c.made-2.result.now) (sym c.made.ensures)
+      (subst (λ z. CanJoin c.args.op c.args.size (made_in (tree_of c.args.left)) z) (sym c.made-2.ensures) (over-can c.args.op c.args.size (tree_of c.args.left) (tree_of c.args.right) c.requires)),
+)
 
 pub returns-clause-over : goal.returns-clause-over
 returns-clause-over g c =

@@ -1,5 +1,4 @@
-use Rattle.std.proofs.Common.{◌<◌, ◌^◌, arith, subst, sym, ◌∙◌}
-use Rattle.std.specs.Prelude.{IsPermutation, filter}
+use Rattle.std.proofs.Common.{◌<◌, ◌^◌, arith, ◌∙◌}
 use Rattle.std.proofs.lemmas.List.Sorted.{IsPermutation-append_right, IsPermutation-trans}
 use Rattle.std.proofs.lemmas.Result.{on_ok_weaker}
 use Rattle.list_change.proofs.Permute.{by-equation}

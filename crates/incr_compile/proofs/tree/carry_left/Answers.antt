@@ -1,7 +1,5 @@
-use Rattle.std.proofs.Common.{subst, sym, ◌+◌, ◌≤◌, ◌∙◌, List, map}
-use Rattle.std.specs.List.Sorted.{IsStrictlySortedBy}
-use Rattle.std.specs.Ordering.{nat_cmp}
-use Rattle.rule_ancestry.specs.Holding.{Held, id_of}
+use Rattle.std.proofs.Common.{subst, sym, ◌+◌, ◌≤◌, List}
+use Rattle.rule_ancestry.specs.Holding.{Held}
 use Rattle.made_rules.specs.Rules.{rules_in}
 use Rattle.made_rules.specs.declared.made.Made.{Made}
 use Rattle.incr_compile.specs.Candidates.{left_cost}

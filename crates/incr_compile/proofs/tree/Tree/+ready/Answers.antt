@@ -6,7 +6,7 @@ use Rattle.made_rules.specs.declared.made.Made.{Made}
 use Rattle.incr_compile.specs.Compiling.{IsOf, policy_in}
 use Rattle.incr_compile.specs.Costs.{steps_of}
 use Rattle.incr_compile.specs.Nodes.{IsCarried, made_by, node_of}
-use Rattle.incr_compile.specs.Trees.{CanChange, branch, IsReadyIn, has_member, made_in, tree_of}
+use Rattle.incr_compile.specs.Trees.{CanChange, IsReadyIn, has_member, made_in, tree_of}
 use Rattle.incr_compile.proofs.Carrying.{found-held}
 use Rattle.incr_compile.proofs.Spent.{left-spent, left-stopped, right-spent, right-stopped}
 use Rattle.incr_compile.proofs.TreeSteps.{all-ok, at-tree, carry-left-can, carry-right-can, left-changes-at}

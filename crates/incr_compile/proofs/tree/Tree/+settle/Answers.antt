@@ -1,4 +1,4 @@
-use Rattle.std.proofs.Common.{◌≤◌, rules, ap, subst, sym, ◌∙◌, List, ℕ}
+use Rattle.std.proofs.Common.{rules, ap, subst, sym, ◌∙◌, List, ℕ}
 use Rattle.std.specs.Prelude.{IsPermutation, filter_map}
 use Rattle.rule_ancestry.specs.Holding.{Held}
 use Rattle.made_rules.specs.Changing.{IsReady}
@@ -6,7 +6,7 @@ use Rattle.made_rules.specs.Rules.{rules_in}
 use Rattle.made_rules.specs.declared.made.Made.{Made}
 use Rattle.incr_compile.specs.Candidates.{asked as asks, reach, shown}
 use Rattle.incr_compile.specs.Nodes.{node_of}
-use Rattle.incr_compile.specs.Trees.{branch, leaf, IsReadyIn, IsUnderWay, made_in, tree_of}
+use Rattle.incr_compile.specs.Trees.{IsReadyIn, IsUnderWay, made_in, tree_of}
 use Rattle.incr_compile.proofs.TreeSteps.{left-smaller, right-smaller, left-at, left-by, none-below, read-at}
 use Rattle.incr_compile.proofs.TreeSteps.{right-by, settled-left-by, settled-member, settled-right-by, under-wide}
 use Rattle.incr_compile.proofs.tree.Tree.+settle.Goals as goal
