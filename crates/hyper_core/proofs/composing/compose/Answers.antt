@@ -4,7 +4,7 @@ use Rattle.composed_tables.specs.Composing.{ComposedOf}
 use Rattle.hyper_core.specs.Kept.{IsComposedOf, IsKeptBy}
 use Rattle.machine_drafts.specs.Outcomes.{bases, draft_in}
 use Rattle.hyper_core.proofs.Attempts.{in_ok_case}
-use Rattle.hyper_core.proofs.Bounds.{kept_steps_of}
+use Rattle.hyper_core.proofs.Bounds.{kept_steps_of, no_more}
 use Rattle.hyper_core.proofs.Following.{unchanged_kept}
 use Rattle.hyper_core.proofs.Unneeded.{unchanged_composed}
 use Rattle.hyper_core.proofs.composing.compose.Goals as goal
@@ -51,3 +51,12 @@ returns-in-None-clause-kept g c =
 
 pub returns-in-None-clause-follows : goal.returns-in-None-clause-follows
 returns-in-None-clause-follows g c some no = absurd (true≢false (sym some ∙ ap is_some c.in-None.is))
+
+pub returns-then-is_unchanged-clause-steps : goal.returns-then-is_unchanged-clause-steps
+returns-then-is_unchanged-clause-steps g c = no_more _ _
+
+pub returns-then-is_replaced-clause-steps : goal.returns-then-is_replaced-clause-steps
+returns-then-is_replaced-clause-steps g c = no_more _ _
+
+pub returns-in-None-clause-steps : goal.returns-in-None-clause-steps
+returns-in-None-clause-steps g c = no_more _ _
