@@ -45,28 +45,32 @@ no_more a b = omega arith
 
 -- no sum is below that of fewer numbers
 sum_more : (f : ℕ → ℕ) (k d : ℕ) → sum_below f k ≤ sum_below f (k + d)
-sum_more f k zero = omega arith
+sum_more f k zero =
+    let same : k + 0 ≡ k = omega arith in rw same (omega arith)
 sum_more f k (suc d) =
     let fewer : sum_below f k ≤ sum_below f (k + d) = sum_more f k d in
-    let last : sum_below f (k + suc d) ≡ sum_below f (k + d) + f (k + d) = refl in
-    omega (arith, fewer, last)
+    let last : sum_below f (suc (k + d)) ≡ sum_below f (k + d) + f (k + d) = refl in
+    let next : k + suc d ≡ suc (k + d) = omega arith in
+    rw next (omega (arith, fewer, last))
 
 -- one number more
 pub one_more : (f : ℕ → ℕ) (a b c n : ℕ) → b ≤ a + sum_below f n → c ≤ b + f n → c ≤ a + sum_below f (n + 1)
 one_more f a b c n so_far more =
-    let last : sum_below f (n + 1) ≡ sum_below f n + f n = refl in omega (arith, so_far, more, last)
+    let last : sum_below f (suc n) ≡ sum_below f n + f n = refl in
+    let next : n + 1 ≡ suc n = omega arith in
+    rw next (omega (arith, so_far, more, last))
 
 -- what is made anew only where nothing is kept
 spent : (k : Bool) (a b c f m : ℕ) → b ≤ a + f → c ≤ b + (if k then 0 else m) → c ≤ a + (f + m)
-spent true a b c f m first then = omega (arith, first, then)
-spent false a b c f m first then = omega (arith, first, then)
+spent true a b c f m first last = omega (arith, first, last)
+spent false a b c f m first last = omega (arith, first, last)
 
 spent_kept : (k g : Bool) (a b c f m : ℕ) → (g ≡ true → k ≡ true) → b ≤ a + f → c ≤ b + (if k then 0 else m)
     → c ≤ a + (f + (if g then 0 else m))
-spent_kept true true a b c f m kept first then = omega (arith, first, then)
-spent_kept true false a b c f m kept first then = omega (arith, first, then)
-spent_kept false true a b c f m kept first then = absurd (true≢false (sym (kept refl)))
-spent_kept false false a b c f m kept first then = omega (arith, first, then)
+spent_kept true true a b c f m kept first last = omega (arith, first, last)
+spent_kept true false a b c f m kept first last = omega (arith, first, last)
+spent_kept false true a b c f m kept first last = absurd (true≢false (sym (kept refl)))
+spent_kept false false a b c f m kept first last = omega (arith, first, last)
 
 more_yet : (a b m n : ℕ) → b ≤ a + m → m ≤ n → b ≤ a + n
 more_yet a b m n h more = omega (arith, h, more)
@@ -228,20 +232,20 @@ begun_steps (Some x) a f = omega arith
 pub whole : (p : PolicyOf) (s : State) (e : Event) (h after : State) (a b c : ℕ) (k : Bool) → h ≡ heard s e
     → (step_of p s e).1 ≡ after → b ≤ a + first_steps p h e
     → c ≤ b + (if k then 0 else building_steps_of p after) → c ≤ a + whole_cost p s e
-whole p s e h after a b c k hears is first then =
+whole p s e h after a b c k hears is first last =
     spent k a b c (first_steps p (heard s e) e) (building_steps_of p (step_of p s e).1)
     (subst (λ (z : State). b ≤ a + first_steps p z e) hears first)
-    (subst (λ (z : State). c ≤ b + (if k then 0 else building_steps_of p z)) (sym is) then)
+    (subst (λ (z : State). c ≤ b + (if k then 0 else building_steps_of p z)) (sym is) last)
 
 pub followed : (p : PolicyOf) (s : State) (e : Event) (h after : State) (a b c : ℕ) (k : Bool) → h ≡ heard s e
     → (step_of p s e).1 ≡ after → (is_followed p h e ≡ true → k ≡ true) → b ≤ a + first_steps p h e
     → c ≤ b + (if k then 0 else building_steps_of p after) → c ≤ a + followed_cost p s e
-followed p s e h after a b c k hears is kept first then =
+followed p s e h after a b c k hears is kept first last =
     spent_kept k (is_followed p (heard s e) e) a b c (first_steps p (heard s e) e)
     (building_steps_of p (step_of p s e).1)
     (subst (λ (z : State). is_followed p z e ≡ true → k ≡ true) hears kept)
     (subst (λ (z : State). b ≤ a + first_steps p z e) hears first)
-    (subst (λ (z : State). c ≤ b + (if k then 0 else building_steps_of p z)) (sym is) then)
+    (subst (λ (z : State). c ≤ b + (if k then 0 else building_steps_of p z)) (sym is) last)
 
 -- where memory is wanted nothing is made anew
 pub whole_wanting : (p : PolicyOf) (s : State) (e : Event) (h : State) (a b : ℕ) → h ≡ heard s e

@@ -1,5 +1,5 @@
 //! Each switch that is up is written the change from the entries that stand to those that the setting gives.
-ghost use Rattle.std.specs.Prelude.{◌≡◌, ◌==◌, ℕ, ◌<◌, ◌≤◌, ◌+◌, ◌^◌, ◌++◌, [], IfOk, IfSome, IsTrue, OnOk, Some};
+ghost use Rattle.std.specs.Prelude.{◌≡◌, ◌==◌, ℕ, ◌<◌, ◌≤◌, ◌+◌, ◌^◌, ◌++◌, [], IfSome, IsTrue, OnOk, Some};
 ghost use Rattle.std.specs.Prelude.{false, is_some, length, map, slice_get, true};
 ghost use Rattle.agreement.specs.declared.state.Setting.{Setting as SettingOf};
 ghost use Rattle.cv_io.specs.declared.leaf.Who.{Who as WhoOf};
@@ -267,25 +267,24 @@ fn is_replaced(reply: &Reply) -> bool
 }
 
 /// What is kept follows the event. Where the reply says nothing else expressions are as they stand, and serial numbers
-/// are left: so it is, always.
+/// are left: so it is, always. After want of memory it may have followed in part.
 fn compose_kept<G: Ledger>(
     setup: &Setup,
     draft: &mut Outcome<'_>,
-    mut kept: Composed,
+    kept: &mut Composed,
     steps: &mut Steps<G>,
-) -> Result<Composed, Memory>
+) -> Result<(), Memory>
     requires settled { WasSettled setup.now (bases draft.old) }
-    requires kept { IsKeptBy setup.now (bases draft.old) (draft_in draft.old).state kept }
+    requires kept { IsKeptBy setup.now (bases draft.old) (draft_in draft.old).state kept.old }
     ensures drafted { OnOk result (draft_in draft.new ≡ compose_of setup.now (draft_in draft.old)) }
     ensures bases { OnOk result (bases draft.new ≡ bases draft.old) }
-    ensures kept { IfOk result (IsComposedOf setup.now (draft_in draft.old).state) }
+    ensures kept { OnOk result (IsComposedOf setup.now (draft_in draft.old).state kept.new) }
     ensures steps { steps.new ≤ steps.old + turning_steps setup.now (stood_in draft.old) (draft_in draft.old).state }
 {
     if !draft.exprs.is_kept() || !have_serials(draft.members.as_slice()) {
         return Err(Memory);
     }
-    compose_on(setup, draft, &mut kept, steps)?;
-    Ok(kept)
+    compose_on(setup, draft, kept, steps)
 }
 
 /// Each switch that is up is written the change from the entries that stand to those that the setting gives. There is
@@ -314,10 +313,8 @@ pub(crate) fn compose<G: Ledger>(
         set_kept(composed, None);
         return compose_anew(setup, draft);
     }
-    let Some(kept) = composed.take() else {
-        return compose_anew(setup, draft);
-    };
-    let followed = compose_kept(setup, draft, kept, steps)?;
-    set_kept(composed, Some(followed));
-    Ok(())
+    match composed {
+        Some(kept) => compose_kept(setup, draft, kept, steps),
+        None => compose_anew(setup, draft),
+    }
 }

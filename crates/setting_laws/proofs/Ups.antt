@@ -56,6 +56,7 @@ module _ (p : PolicyOf) (exprs : List Policy) (members : List MemberOf) (one oth
     trees_are = h.trees_are;
     laid_out = record {
       hops = h.laid_out.hops;
+      count = h.laid_out.count;
       sizes = h.laid_out.sizes;
       links_are = h.laid_out.links_are;
       leads = h.laid_out.leads;

@@ -1,10 +1,10 @@
-use Rattle.std.proofs.Common.{◌∙◌, Option, ap, subst, sym, true≢false}
+use Rattle.std.proofs.Common.{◌∙◌, Option, ap, refl, subst, sym, true≢false}
 use Rattle.std.specs.Prelude.{IfSome, is_some}
 use Rattle.composed_tables.specs.Composing.{ComposedOf}
 use Rattle.hyper_core.specs.Kept.{IsComposedOf, IsKeptBy}
 use Rattle.machine_drafts.specs.Outcomes.{bases, draft_in}
 use Rattle.hyper_core.proofs.Attempts.{in_ok_case}
-use Rattle.hyper_core.proofs.Bounds.{kept_steps_of}
+use Rattle.hyper_core.proofs.Bounds.{kept_steps_of, no_more}
 use Rattle.hyper_core.proofs.Following.{unchanged_kept}
 use Rattle.hyper_core.proofs.Unneeded.{unchanged_composed}
 use Rattle.hyper_core.proofs.composing.compose.Goals as goal
@@ -19,47 +19,44 @@ returns-then-is_unchanged-clause-kept g c =
     unchanged_kept c.args.setup.now c.args.draft.now c.args.composed.now
     (c.is_unchanged.ensures c.if-is_unchanged.true) c.requires.kept
 
-pub compose_kept-requires-clause-kept : goal.compose_kept-requires-clause-kept
-compose_kept-requires-clause-kept g c =
-    subst (λ (k : Option ComposedOf). IfSome k
-    (IsKeptBy c.args.setup.now (bases c.args.draft.now) (draft_in c.args.draft.now).state))
-    (sym c.take.ensures.value ∙ c.in-Some.is) c.requires.kept
-
 pub returns-then-is_replaced-clause-kept : goal.returns-then-is_replaced-clause-kept
 returns-then-is_replaced-clause-kept g c =
-    in_ok_case c.compose_anew-then-is_replaced.result
+    in_ok_case c.compose_anew.result
     (subst (λ (k : Option ComposedOf). IfSome k
-    (IsComposedOf c.args.setup.now (draft_in c.args.draft.now).state)) (sym c.set_kept-then-is_replaced.ensures) tt)
+    (IsComposedOf c.args.setup.now (draft_in c.args.draft.now).state)) (sym c.set_kept.ensures) tt)
 
 -- the reply says so
 pub returns-then-is_replaced-clause-follows : goal.returns-then-is_replaced-clause-follows
 returns-then-is_replaced-clause-follows g c some no =
     absurd (true≢false (sym c.if-is_replaced.true ∙ (c.is_replaced.ensures ∙ no)))
 
-pub returns-in_default-clause-kept : goal.returns-in_default-clause-kept
-returns-in_default-clause-kept g c =
-    in_ok_case c.compose_anew.result
-    (subst (λ (k : Option ComposedOf). IfSome k
-    (IsComposedOf c.args.setup.now (draft_in c.args.draft.now).state)) (sym c.take.ensures.after) tt)
-
-pub returns-in_default-clause-follows : goal.returns-in_default-clause-follows
-returns-in_default-clause-follows g c some no =
-    absurd (true≢false (sym some ∙ ap is_some (sym c.take.ensures.value ∙ c.in_default.is)))
-
-pub returns-clause-kept : goal.returns-clause-kept
-returns-clause-kept g c =
+pub compose_kept-requires-clause-kept : goal.compose_kept-requires-clause-kept
+compose_kept-requires-clause-kept g c =
     subst (λ (k : Option ComposedOf). IfSome k
-    (IsComposedOf c.args.setup.now (draft_in c.args.draft.now).state)) (sym c.set_kept.ensures) c.in_ok-followed.ensures.kept
+    (IsKeptBy c.args.setup.now (bases c.args.draft.now) (draft_in c.args.draft.now).state)) c.in-Some.is c.requires.kept
 
-pub returns-clause-follows : goal.returns-clause-follows
-returns-clause-follows g c some no = ap is_some c.set_kept.ensures
+pub returns-in-Some-clause-follows : goal.returns-in-Some-clause-follows
+returns-in-Some-clause-follows g c some no = in_ok_case c.compose_kept.result refl
 
-pub returns-clause-steps : goal.returns-clause-steps
-returns-clause-steps g c =
-    kept_steps_of c.args.composed.now c.in-Some.kept c.args.steps.now c.compose_kept.new.steps _
-    (sym c.take.ensures.value ∙ c.in-Some.is) c.compose_kept.ensures.steps
+pub returns-in-Some-clause-steps : goal.returns-in-Some-clause-steps
+returns-in-Some-clause-steps g c =
+    kept_steps_of c.args.composed.now c.in-Some.kept c.args.steps.now c.compose_kept.new.steps _ c.in-Some.is
+    c.compose_kept.ensures.steps
 
-pub returns-in_err-followed-clause-steps : goal.returns-in_err-followed-clause-steps
-returns-in_err-followed-clause-steps g c =
-    kept_steps_of c.args.composed.now c.in-Some.kept c.args.steps.now c.compose_kept.new.steps _
-    (sym c.take.ensures.value ∙ c.in-Some.is) c.compose_kept.ensures.steps
+pub returns-in-None-clause-kept : goal.returns-in-None-clause-kept
+returns-in-None-clause-kept g c =
+    in_ok_case c.compose_anew-in-None.result
+    (subst (λ (k : Option ComposedOf). IfSome k
+    (IsComposedOf c.args.setup.now (draft_in c.args.draft.now).state)) (sym c.in-None.is) tt)
+
+pub returns-in-None-clause-follows : goal.returns-in-None-clause-follows
+returns-in-None-clause-follows g c some no = absurd (true≢false (sym some ∙ ap is_some c.in-None.is))
+
+pub returns-then-is_unchanged-clause-steps : goal.returns-then-is_unchanged-clause-steps
+returns-then-is_unchanged-clause-steps g c = no_more _ _
+
+pub returns-then-is_replaced-clause-steps : goal.returns-then-is_replaced-clause-steps
+returns-then-is_replaced-clause-steps g c = no_more _ _
+
+pub returns-in-None-clause-steps : goal.returns-in-None-clause-steps
+returns-in-None-clause-steps g c = no_more _ _

@@ -11,6 +11,7 @@ use Rattle.machine_drafts.specs.Moments.{moment_of}
 use Rattle.machine_drafts.specs.Overtaking.{IsHeardOf}
 use Rattle.machine_drafts.specs.Puts.{HaveNumbers}
 use Rattle.hyper_core.specs.Settled.{IsSettledState}
+use Rattle.hyper_core.proofs.Bounds.{no_more}
 use Rattle.hyper_core.proofs.drafting.attempt.Goals as goal
 
 pub judge_event-requires : goal.judge_event-requires
@@ -88,3 +89,6 @@ returns-in_err-drafted-clause-steps g c =
     + kept_steps c.args.composed.now (turning_steps c.args.setup.now s
     (settled_of c.args.setup.now s c.args.event.now (closing_of c.args.closing.now)).state))
     c.judge_event.ensures.state c.draft.ensures.steps
+
+pub returns-in_err-judged-clause-steps : goal.returns-in_err-judged-clause-steps
+returns-in_err-judged-clause-steps g c = no_more _ _

@@ -2,7 +2,7 @@ use Rattle.std.proofs.Common.{◌≡◌, ◌∙◌, ℕ, ◌+◌, ◌≤◌, sym
 use Rattle.std.specs.Prelude.{IfSome}
 use Rattle.machine_drafts.proofs.Acted.{few_begun, fresh_begun, judged_begun, nothing_sent, sendable_after}
 use Rattle.hyper_core.specs.Costs.{is_replaced, kept_steps}
-use Rattle.hyper_core.proofs.Bounds.{drafted_steps}
+use Rattle.hyper_core.proofs.Bounds.{drafted_steps, no_more}
 use Rattle.hyper_core.proofs.KeptOn.{all_settled, kept_settled}
 use Rattle.hyper_core.proofs.Overtaken.{heard_at}
 use Rattle.hyper_core.proofs.Phased.{all_phases, moment_again, stands_before, timely_begun}
@@ -163,3 +163,15 @@ returns-in_err-tell-clause-steps g c =
     subst (λ (n : ℕ). c.compose.new.steps ≤ c.args.steps.now + kept_steps c.args.composed.now n)
     (drafted_steps c.args.setup.now c.args.held.now c.moment_of-now.result c.settle.new.draft _ bases is)
     c.compose.ensures.steps
+
+pub returns-in_err-draft-clause-steps : goal.returns-in_err-draft-clause-steps
+returns-in_err-draft-clause-steps g c = no_more _ _
+
+pub returns-in_err-act-clause-steps : goal.returns-in_err-act-clause-steps
+returns-in_err-act-clause-steps g c = no_more _ _
+
+pub returns-in_err-close-clause-steps : goal.returns-in_err-close-clause-steps
+returns-in_err-close-clause-steps g c = no_more _ _
+
+pub returns-in_err-settle-clause-steps : goal.returns-in_err-settle-clause-steps
+returns-in_err-settle-clause-steps g c = no_more _ _

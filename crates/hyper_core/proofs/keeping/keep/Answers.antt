@@ -8,7 +8,7 @@ use Rattle.hyper_core.proofs.keeping.keep.Goals as goal
 
 pub returns-then-not-has_numbers-clause-kept : goal.returns-then-not-has_numbers-clause-kept
 returns-then-not-has_numbers-clause-kept g c =
-    subst (IsKept c.args.setup.now (state_in_held c.args.held.now)) (sym c.set_kept-then-not-has_numbers.ensures)
+    subst (IsKept c.args.setup.now (state_in_held c.args.held.now)) (sym c.set_kept.ensures)
     (kept_none c.args.setup.now (state_in_held c.args.held.now) c.requires.sound)
 
 pub returns-then-is_some-clause-kept : goal.returns-then-is_some-clause-kept
@@ -23,7 +23,7 @@ build-requires g c = c.requires.sound (c.has_numbers.ensures c.if-not-has_number
 
 pub returns-clause-kept : goal.returns-clause-kept
 returns-clause-kept g c =
-    subst (IsKept c.args.setup.now (state_in_held c.args.held.now)) (sym c.set_kept.ensures)
+    subst (IsKept c.args.setup.now (state_in_held c.args.held.now)) (sym c.set_kept-2.ensures)
     (record {
       sound = c.requires.sound;
       numbers = λ some. c.has_numbers.ensures c.if-not-has_numbers.false;

@@ -5,7 +5,7 @@ use Rattle.machine_meaning.specs.States.{State}
 use Rattle.machine_meaning.specs.Steps.{done, step_of}
 use Rattle.events.specs.declared.event.Reply.{Reply}
 use Rattle.hyper_core.proofs.Attempts.{has_all_kept}
-use Rattle.hyper_core.proofs.Bounds.{followed, followed_wanting, whole, whole_wanting}
+use Rattle.hyper_core.proofs.Bounds.{followed, followed_wanting, no_more, whole, whole_wanting}
 use Rattle.hyper_core.proofs.KeptOn.{begun_kept, kept_none, sound_stepped}
 use Rattle.hyper_core.proofs.Stepped.{has_all_counted, settled_counted, step_other, taken_back}
 use Rattle.hyper_core.specs.Kept.{IsKept, IsSoundWhile}
@@ -141,3 +141,9 @@ returns-in-Err-clause-most g c =
     whole_wanting c.args.setup.now (state_in_held c.args.held.now) c.args.event.now
     (state_in_held c.hear.new.held) c.args.steps.now c.drive.new.steps c.in_ok-overtaken.ensures.heard
     c.drive.ensures.steps
+
+pub returns-in_err-overtaken-clause-cost : goal.returns-in_err-overtaken-clause-cost
+returns-in_err-overtaken-clause-cost g c there = no_more _ _
+
+pub returns-in_err-overtaken-clause-most : goal.returns-in_err-overtaken-clause-most
+returns-in_err-overtaken-clause-most g c = no_more _ _

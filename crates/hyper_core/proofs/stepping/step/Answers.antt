@@ -1,7 +1,7 @@
 use Rattle.std.proofs.Common.{◌∙◌, ◌+◌, ◌≤◌, ℕ, subst, sym}
 use Rattle.machine_drafts.specs.Machines.{state_in_held}
 use Rattle.hyper_core.specs.Costs.{followed_cost, whole_cost}
-use Rattle.hyper_core.proofs.Bounds.{not_still}
+use Rattle.hyper_core.proofs.Bounds.{no_more, not_still}
 use Rattle.hyper_core.proofs.Stepped.{kept_left}
 use Rattle.hyper_core.proofs.stepping.step.Goals as goal
 
@@ -27,3 +27,21 @@ returns-clause-most g c =
     (whole_cost c.args.setup.now (state_in_held c.args.held.now) c.args.event.now)
     (sym c.glance.ensures ∙ c.in_default.is) (sym c.taking_in.ensures ∙ c.in_default-2.is))
     c.proceed.ensures.most
+
+pub returns-in-Some-clause-cost : goal.returns-in-Some-clause-cost
+returns-in-Some-clause-cost g c there = no_more _ _
+
+pub returns-in-Some-clause-most : goal.returns-in-Some-clause-most
+returns-in-Some-clause-most g c = no_more _ _
+
+pub returns-then-not-is_event-clause-cost : goal.returns-then-not-is_event-clause-cost
+returns-then-not-is_event-clause-cost g c there = no_more _ _
+
+pub returns-then-not-is_event-clause-most : goal.returns-then-not-is_event-clause-most
+returns-then-not-is_event-clause-most g c = no_more _ _
+
+pub returns-in-Some-taking_in-clause-cost : goal.returns-in-Some-taking_in-clause-cost
+returns-in-Some-taking_in-clause-cost g c there = no_more _ _
+
+pub returns-in-Some-taking_in-clause-most : goal.returns-in-Some-taking_in-clause-most
+returns-in-Some-taking_in-clause-most g c = no_more _ _
