@@ -1,12 +1,11 @@
 -- The first item that passes a test, as a search comes to it; and what deltas say of a place.
-use Rattle.std.proofs.Common.{◌≡◌, ℕ, zero, suc, ◌+◌, ◌<◌, ◌≤◌, Bool, true, false, cond, List, [], ◌∷◌, Option, Some, None, length, get_or, drop, refl, sym, ap, ◌∙◌, arith, add-one, drop-cons}
+use Rattle.std.proofs.Common.{◌≡◌, ℕ, zero, suc, ◌+◌, ◌<◌, ◌≤◌, Bool, true, false, cond, List, [], ◌∷◌, Option, Some, None, length, get_or, drop, sym, ap, ◌∙◌, arith, add-one, drop-cons}
 use Rattle.std.specs.Prelude.{find}
 use Rattle.std.specs.Option.{option_map_or}
 use Rattle.std.proofs.Math.Seq.{drop-nil}
 use Rattle.hop_rules.specs.Tables.{is_of}
 use Rattle.hop_rules.specs.declared.delta.PortDelta.{PortDelta}
 use Rattle.policy_meaning.specs.declared.network.Place.{Place}
-use Rattle.policy_meaning.specs.declared.rule.Rule.{Rule}
 use Rattle.composed_tables.specs.Placing.{rules_at, rules_for}
 use Rattle.composed_tables.specs.declared.part.Part.{Part}
 

@@ -1,17 +1,16 @@
 -- The links of a setting's topology lead to virtual switches that aren't whole, and such have the ports with rules of
 -- their own.
 use Rattle.std.proofs.Common.{◌≡◌, ℕ, zero, suc, ◌<◌, ◌≤◌, Bool, true, false, cond, not, List, [], ◌∷◌, Option, Some, None, length, map, refl, sym, ap, subst, ◌∙◌, arith}
-use Rattle.std.specs.Prelude.{filter, flat_map, filter_map, option_map, slice_get, slice_index_or}
+use Rattle.std.specs.Prelude.{filter, filter_map, option_map, slice_get, slice_index_or}
 use Rattle.std.specs.List.{AllByRecursion, enumerate_from}
 use Rattle.std.specs.Option.{option_and_then, option_map_or}
 use Rattle.std.proofs.lemmas.Option.{slice_get_within}
 use Rattle.agreement.specs.declared.state.Setting.{Setting}
 use Rattle.agreement.proofs.Alone.{all-numbered}
 use Rattle.hop_rules.specs.Links.{ends, link_of, links, place, port_ends}
-use Rattle.hop_rules.specs.Tables.{TableOf, is_whole, own_ports}
+use Rattle.hop_rules.specs.Tables.{TableOf, own_ports}
 use Rattle.hop_rules.specs.declared.exits.LinkEnd.{LinkEnd}
 use Rattle.policy_meaning.specs.Switches.{SwitchOf}
-use Rattle.policy_meaning.specs.declared.network.Link.{Link}
 use Rattle.policy_meaning.specs.declared.network.Network.{Network}
 use Rattle.policy_meaning.specs.declared.network.Place.{Place}
 use Rattle.policy_meaning.proofs.Lists.{all-each, all-filter_map, all-flat_map, all-mapped}

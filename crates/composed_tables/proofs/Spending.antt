@@ -1,5 +1,5 @@
 -- The steps of a change of a setting are those at the expression that changed, and those through hops.
-use Rattle.std.proofs.Common.{◌≡◌, ◌≢◌, ℕ, zero, suc, ◌+◌, ◌<◌, ◌≤◌, ◌==◌, Bool, true, false, List, [], ◌∷◌, ◌++◌, Some, length, take, get_or, refl, sym, ap, subst, ◌∙◌, arith, eq-eqb}
+use Rattle.std.proofs.Common.{◌≡◌, ◌≢◌, ℕ, zero, suc, ◌+◌, ◌<◌, ◌≤◌, ◌==◌, true, false, List, [], ◌∷◌, ◌++◌, Some, length, take, refl, sym, ap, subst, ◌∙◌, arith, eq-eqb}
 use Rattle.std.specs.Prelude.{slice_get, slice_index_or, sum_by, IsPermutation}
 use Rattle.std.specs.List.{AllByRecursion}
 use Rattle.std.proofs.lemmas.List.Sums.{sum_by-take-le, sum_by_more, sum_by_more_le}
@@ -29,7 +29,7 @@ use Rattle.composed_tables.specs.Rules.{AreRulesOf, AreTied, IsChangedAt, IsLaid
 use Rattle.composed_tables.specs.Steps.{expression_steps, hop_steps, setting_steps}
 use Rattle.composed_tables.proofs.Applied.{gone-there, rules-after, same-switches, tied-parted}
 use Rattle.composed_tables.proofs.HopSteps.{AreAlike, steps-alike}
-use Rattle.composed_tables.proofs.Kept.{There, beside, kept-rules, within}
+use Rattle.composed_tables.proofs.Kept.{beside, kept-rules, within}
 use Rattle.composed_tables.proofs.Places.{PartedIn, ends-parted, places-parted, ports-same}
 
 -- ---- sums

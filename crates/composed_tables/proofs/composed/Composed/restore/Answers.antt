@@ -1,4 +1,4 @@
-use Rattle.std.proofs.Common.{length, ap, sym, subst, ◌∙◌}
+use Rattle.std.proofs.Common.{length, refl, ap, sym, subst, ◌∙◌}
 use Rattle.agreement.specs.Entries.{entries_of}
 use Rattle.switch_meaning.proofs.Items.{some_injective}
 use Rattle.switch_tables.specs.Turning.{HaveNow}
@@ -26,4 +26,4 @@ pub returns-clause-plan : goal.returns-clause-plan
 returns-clause-plan g c r e = ap (λ (z : RulesOf). z.hops.plan) (sym (some_injective e)) ∙ c.in_ok-rules.ensures.plan
 
 pub returns-in_err-rules-clause-memory : goal.returns-in_err-rules-clause-memory
-returns-in_err-rules-clause-memory g c = on-err c.from_residual.result _ c.self.view_is
+returns-in_err-rules-clause-memory g c = on-err c.from_residual.result _ refl
