@@ -14,7 +14,10 @@ fn main(rt: HostRuntime) -> io::Result<()> {
     let mut words = env::args(&rt)?;
     let _program = words.next();
     match asked::read(&mut words) {
-        Some(asked) => phases::counted::<Brand>(&rt, &asked, Blank::new(1)),
+        Some(asked) => match phases::counted::<_, Brand>(&rt, rt.alloc(), &asked, Blank::new(1)) {
+            Ok(tally) => println!(rt; "came={} went={}", tally.came, tally.went),
+            Err(memory) => println!(rt; "{memory}"),
+        },
         None => println!(rt;
             "usage: bench_compose plus|seq|over exact|prefix|wild RULES count|add|both|anew TURNS"
         ),

@@ -6,15 +6,14 @@ use crate::members::SIZE;
 use cv_io::{List, Memory, Steps};
 use fitting_changes::Composer;
 use std::alloc::Global;
-use std::io;
 use std::sync::ledger::{Blank, Ledger};
 use std::thread::Threads;
 
 /// How many rules there are, where they are counted, or came, and how many went.
 #[derive(Clone, Copy)]
-struct Tally {
-    came: usize,
-    went: usize,
+pub struct Tally {
+    pub came: usize,
+    pub went: usize,
 }
 
 /// The members' rules, composed.
@@ -104,12 +103,14 @@ fn run<R: Threads + Sync, G: Ledger>(
 }
 
 /// Does what is asked for, with a counter of its own.
-pub fn counted<G: Ledger>(rt: &HostRuntime, asked: &Asked, blank: Blank) -> io::Result<()>
+pub fn counted<R: Threads + Sync, G: Ledger>(
+    rt: &R,
+    alloc: Global,
+    asked: &Asked,
+    blank: Blank,
+) -> Result<Tally, Memory>
     requires { (blank.name ≡ G.name) × (blank.parts ≡ G.parts) × (0 < blank.parts) }
 {
     let mut steps = Steps::<G>::new(blank);
-    match run(rt, rt.alloc(), asked, &mut steps) {
-        Ok(tally) => println!(rt; "came={} went={}", tally.came, tally.went),
-        Err(memory) => println!(rt; "{memory}"),
-    }
+    run(rt, alloc, asked, &mut steps)
 }

@@ -15,7 +15,7 @@ use incr_compile::LeafDelta;
 use install_plan::Written;
 use of10_match::{Match, Prefix};
 use op_compose::leaf;
-use policy_meaning::LeafEntry;
+use policy_meaning::{LeafEntry, Rule};
 use std::alloc::Global;
 use std::marker::Brand;
 use std::sync::ledger::{Blank, Ledger};
