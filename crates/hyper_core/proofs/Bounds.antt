@@ -26,12 +26,12 @@ use Rattle.machine_meaning.specs.Steps.{step_of}
 use Rattle.machine_drafts.specs.MemberDrafts.{MemberDraftOf}
 use Rattle.machine_drafts.specs.Machines.{MachineOf, bases_of, state_in_held, state_of}
 use Rattle.machine_drafts.specs.Moments.{taking_in}
-use Rattle.machine_drafts.specs.Outcomes.{Bases, bases, draft_in, state_in}
+use Rattle.machine_drafts.specs.Outcomes.{Bases, state_in}
 use Rattle.machine_drafts.specs.declared.held.Held.{Held}
 use Rattle.machine_drafts.specs.declared.outcome.Outcome.{Outcome}
 use Rattle.hyper_core.specs.Costs.{building_steps_of, cost_in, cost_of, first_steps, followed_cost, is_followed}
 use Rattle.hyper_core.specs.Costs.{is_replaced}
-use Rattle.hyper_core.specs.Costs.{kept_steps, most_in, most_of, sum_below, turning_steps, turning_steps_at}
+use Rattle.hyper_core.specs.Costs.{kept_steps, most_in, most_of, sum_below, turning_from, turning_steps, turning_steps_at}
 use Rattle.hyper_core.specs.Costs.{unless_still, whole_cost}
 use Rattle.hyper_core.specs.Kept.{IsComposedOf, standing_state}
 use Rattle.hyper_core.specs.Meanings.{data_in}
@@ -122,10 +122,10 @@ all_turned p o a b n steps few =
     more_yet a b (sum_below f n) (sum_below f (length (state_in o).members)) steps more
 
 -- the draft of an event that settled changes members from how they stand
-pub drafted_steps : (p : PolicyOf) (h : Held) (now : ℕ) (o : Outcome) (x : Draft) → bases o ≡ bases_of now h
-    → draft_in o ≡ x → turning_steps p (stood_in o) (draft_in o).state ≡ turning_steps p (state_in_held h) x.state
+pub drafted_steps : (p : PolicyOf) (h : Held) (now : ℕ) (b : Bases) (d x : Draft) → b ≡ bases_of now h → d ≡ x
+    → turning_from p b d.state ≡ turning_steps p (state_in_held h) x.state
 unfolding turning_steps turning_steps_at
-drafted_steps p h now o x b d i = turning_steps p (standing_state (b i) (d i).state) (d i).state
+drafted_steps p h now b d x beside is i = turning_steps p (standing_state (beside i) (is i).state) (is i).state
 
 -- from scratch ------------------------------------------------------------------------------------------------------
 

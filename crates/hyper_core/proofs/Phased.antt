@@ -1,16 +1,19 @@
 -- An event goes through its phases, from its moment on, and anew where sessions are slow.
 use Rattle.std.proofs.Common.{◌≡◌, ℕ, zero, suc, ◌-◌, true, false, true≢false, List, [], ◌∷◌, arith, map, refl, sym, ap}
-use Rattle.std.proofs.Common.{◌∙◌}
+use Rattle.std.proofs.Common.{◌∙◌, ◌<◌, ◌^◌, length, subst}
 use Rattle.std.specs.Prelude.{◌==◌, cond}
 use Rattle.std.specs.List.{AllByRecursion}
 use Rattle.std.proofs.lemmas.Bool.Decides.{nat_tests}
+use Rattle.std.proofs.lemmas.List.{length-map}
 use Rattle.policy_file.specs.Policies.{PolicyOf}
 use Rattle.machine_meaning.specs.Acting.{act, act_on}
 use Rattle.machine_meaning.specs.Composing.{compose}
 use Rattle.machine_meaning.specs.Drafts.{Draft, untouched}
 use Rattle.machine_drafts.specs.Machines.{at_moment, bases_of, state_in_held}
+use Rattle.machine_drafts.specs.MemberDrafts.{MemberDraftOf}
 use Rattle.machine_drafts.specs.Moments.{moment_of}
-use Rattle.machine_drafts.specs.Outcomes.{AreTimely, IsBefore}
+use Rattle.machine_drafts.specs.Outcomes.{AreTimely, Bases, IsBefore, bases}
+use Rattle.machine_drafts.specs.Puts.{HaveNumbers}
 use Rattle.machine_meaning.specs.Phases.{both, draft_of, is_empty, overfilled, slow_from, slow_with}
 use Rattle.machine_meaning.specs.Rounds.{Closing, close}
 use Rattle.machine_meaning.specs.Settling.{settle}
@@ -19,6 +22,7 @@ use Rattle.machine_meaning.specs.Telling.{tell}
 use Rattle.machine_drafts.specs.Views.{member_of}
 use Rattle.events.specs.declared.event.Event.{Event}
 use Rattle.machine_drafts.specs.declared.held.Held.{Held}
+use Rattle.machine_drafts.specs.declared.outcome.Outcome.{Outcome}
 use Rattle.events.specs.declared.event.Event.TheVariants.{Up, Msg, Gone, Tick, Take, Policy}
 
 -- what an event does from its moment on is what it does
@@ -90,3 +94,10 @@ knows_moment now (x ∷ xs) = (refl, knows_moment now xs)
 
 pub timely_begun : (now : ℕ) (h : Held) → AreTimely (bases_of now h)
 timely_begun now h = knows_moment now (map member_of h.members)
+
+-- there are few members
+pub few_of : (o : Outcome) (b : Bases) → bases o ≡ b → HaveNumbers b → length o.members < 2 ^ 32
+few_of o b beside few =
+    subst (λ (k : ℕ). k < 2 ^ 32)
+    (sym (sym (length-map o.members (λ (x : MemberDraftOf). x.base)) ∙ ap (λ (z : Bases). length z.members) beside))
+    few.members

@@ -1,7 +1,7 @@
 -- An event that changes no member's table takes no step.
 use Rattle.std.proofs.Common.{◌≡◌, ◌∙◌, ℕ, zero, suc, ◌+◌, Bool, true, false, List, [], ◌∷◌, ◌++◌, map, Option, Some, None}
 use Rattle.std.proofs.Common.{refl, ap, ap₂, if◌then◌else◌}
-use Rattle.std.specs.Prelude.{◌&&◌, drop, not, sum_by, take}
+use Rattle.std.specs.Prelude.{◌&&◌, drop, fold, not, sum_by, take}
 use Rattle.agreement.specs.declared.state.Setting.{Setting}
 use Rattle.composed_tables.specs.Steps.{expression_steps, hop_steps, own_places, setting_steps}
 use Rattle.events.specs.declared.event.Event.{Event}
@@ -47,7 +47,7 @@ use Rattle.hyper_core.specs.Meanings.{StateData, state_in}
 
 no_sum : {A : Type 0} (f : A → ℕ) → ((x : A) → f x ≡ 0) → (xs : List A) → sum_by f xs ≡ 0
 no_sum f h [] = refl
-no_sum f h (x ∷ xs) = ap₂ (λ (a b : ℕ). a + b) (h x) (no_sum f h xs)
+no_sum f h (x ∷ xs) = ap (λ (n : ℕ). fold (λ (a : ℕ) y. a + f y) (0 + n) xs) (h x) ∙ no_sum f h xs
 
 none_come : (xs : List Rule) → came is_rule xs xs ≡ []
 none_come xs = none-came is_rule rule_decides xs

@@ -14,6 +14,8 @@ use Rattle.machine_meaning.specs.Phases.{is_empty, nobody, settled_of, slow}
 use Rattle.machine_meaning.specs.Settings.{setting_of}
 use Rattle.machine_meaning.specs.States.{State}
 use Rattle.machine_meaning.specs.Steps.{step_of}
+use Rattle.machine_drafts.specs.Outcomes.{Bases}
+use Rattle.hyper_core.specs.Kept.{standing_state}
 use Rattle.hyper_core.specs.Meanings.{StateData, state_in}
 
 -- the sum over the numbers below so many
@@ -28,6 +30,10 @@ turning_steps_at p s t n = setting_steps (plan p) (setting_of p (mixed n s t)) (
 -- as one member after the other changes, from one state to the other
 unfoldable pub turning_steps : PolicyOf → State → State → ℕ
 turning_steps p s t = sum_below (turning_steps_at p s t) (length t.members)
+
+-- from how members stand beside a draft
+abbrev pub turning_from : PolicyOf → Bases → State → ℕ
+turning_from p b s = turning_steps p (standing_state b s) s
 
 -- from scratch, of a state
 unfoldable pub building_steps_of : PolicyOf → State → ℕ

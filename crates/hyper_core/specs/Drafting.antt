@@ -3,6 +3,7 @@ use Rattle.std.specs.Prelude.{◌≡◌, Bool, true, false}
 use Rattle.stats_map.specs.Changes.{CanMake}
 use Rattle.policy_file.specs.Policies.{PolicyOf}
 use Rattle.machine_drafts.specs.Closings.{closing_of}
+use Rattle.machine_meaning.specs.Acting.{act_on}
 use Rattle.machine_meaning.specs.Drafts.{Draft}
 use Rattle.machine_drafts.specs.Machines.{bases_of, state_in_held}
 use Rattle.machine_drafts.specs.Moments.{moment_of}
@@ -11,7 +12,8 @@ use Rattle.machine_drafts.specs.Outcomes.{Bases}
 use Rattle.machine_meaning.specs.Phases.{draft_of, is_empty, overfilled}
 use Rattle.machine_drafts.specs.Puts.{with_counts}
 use Rattle.machine_meaning.specs.Putting.{put}
-use Rattle.machine_meaning.specs.Rounds.{Closing}
+use Rattle.machine_meaning.specs.Rounds.{Closing, close}
+use Rattle.machine_meaning.specs.Settling.{settle}
 use Rattle.events.specs.declared.event.Event.{Event}
 use Rattle.machine_drafts.specs.declared.held.Held.{Held}
 use Rattle.machine_drafts.specs.declared.putting.Drafted.{Drafted}
@@ -21,6 +23,10 @@ use Rattle.machine_drafts.specs.declared.putting.Trial.TheVariants.{Ready, Slow}
 -- what stands beside the draft of an event
 abbrev pub bases_at : Held → Event → Bases
 bases_at h e = bases_of (moment_of e h.moment) h
+
+-- what settles where an event acts in a draft, and these sessions are closed as slow
+abbrev pub settled_from : PolicyOf → Draft → Event → Closing → Draft
+settled_from p d e c = settle p (close c (act_on p e d))
 
 -- what is made ready moves this draft in
 pub record IsDraftOf (h : Held) (e : Event) (d : Draft) (p : PolicyOf) (x : Drafted) : Type 0 where

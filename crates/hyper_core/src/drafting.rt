@@ -1,18 +1,23 @@
 //! An event is drafted: it goes through its phases, anew where sessions are put more than they may be.
 ghost use Rattle.std.specs.Prelude.{◌≡◌, ◌≤◌, ◌+◌, IfOk, IfSome, OnOk, false, is_some, true};
-ghost use Rattle.machine_drafts.specs.Acts.{IsJudgedFor};
+ghost use Rattle.machine_drafts.specs.Acts.{IsJudgedFor, WasJudgedFor};
 ghost use Rattle.machine_drafts.specs.Closings.{closing_of};
-ghost use Rattle.hyper_core.specs.Costs.{first_steps, is_followed, is_replaced, kept_steps, turning_steps};
-ghost use Rattle.hyper_core.specs.Drafting.{IsDraftOf, IsPutOf};
-ghost use Rattle.hyper_core.specs.Kept.{IsBegun, IsComposedOf};
+ghost use Rattle.hyper_core.specs.Costs.{first_steps, is_followed, is_replaced, kept_steps, turning_from, turning_steps};
+ghost use Rattle.hyper_core.specs.Drafting.{IsDraftOf, IsPutOf, settled_from};
+ghost use Rattle.hyper_core.specs.Kept.{IsBegun, IsComposedOf, IsKeptBy};
+ghost use Rattle.machine_drafts.specs.InsideRequests.{AreSendable};
+ghost use Rattle.machine_drafts.specs.InsideTicking.{AreFresh};
 ghost use Rattle.machine_drafts.specs.Machines.{bases_of, state_in_held};
-ghost use Rattle.machine_drafts.specs.Moments.{moment_of as moment_of_event};
-ghost use Rattle.machine_drafts.specs.Outcomes.{bases, draft_in};
+ghost use Rattle.machine_drafts.specs.Moments.{IsOfEvent, moment_of as moment_of_event};
+ghost use Rattle.machine_drafts.specs.Outcomes.{AreTimely, IsBefore, bases, draft_in};
 ghost use Rattle.machine_drafts.specs.Overtaking.{IsHeardOf, IsWhole};
 ghost use Rattle.machine_drafts.specs.Puts.{HaveNumbers};
-ghost use Rattle.hyper_core.specs.Settled.{IsSettledState};
+ghost use Rattle.hyper_core.specs.Settled.{IsSettledState, WasSettled};
+ghost use Rattle.machine_meaning.specs.Composing.{compose as compose_of};
 ghost use Rattle.machine_meaning.specs.Phases.{draft_of, drafted as drafted_of, settled_of, slow as slow_of};
 ghost use Rattle.machine_meaning.specs.Rounds.{close as close_of};
+ghost use Rattle.machine_meaning.specs.States.{State};
+ghost use Rattle.machine_meaning.specs.Telling.{tell as tell_of};
 
 use crate::composing::compose;
 use crate::keeping::set_kept;
@@ -57,6 +62,50 @@ fn close(alloc: Global, draft: &mut Outcome<'_>, closing: &Closing) -> Result<()
     )
 }
 
+/// An event whose frame was judged goes through its phases in a draft that has just begun, where these sessions are
+/// closed as slow.
+fn go_through<G: Ledger>(
+    setup: &Setup,
+    draft: &mut Outcome<'_>,
+    event: &Event,
+    judged: Option<Judged>,
+    heard: &Heard,
+    closing: &Closing,
+    composed: &mut Option<Composed>,
+    steps: &mut Steps<G>,
+) -> Result<(), Memory>
+    requires numbers { HaveNumbers (bases draft.old) }
+    requires fresh { AreFresh draft.old.members }
+    requires timely { AreTimely (bases draft.old) }
+    requires moment { IsOfEvent event.now (bases draft.old) }
+    requires whole { IsWhole event.now }
+    requires judged { WasJudgedFor setup.now draft.old event.now judged }
+    requires heard { IsHeardOf event.now heard.now (draft_in draft.old).state }
+    requires unsent { AreSendable draft.old.sent }
+    requires settled { WasSettled setup.now (bases draft.old) }
+    requires kept { IfSome composed.old (IsKeptBy setup.now (bases draft.old)
+        (settled_from setup.now (draft_in draft.old) event.now (closing_of closing.now)).state) }
+    ensures drafted { OnOk result ((before : State) → IsBefore (bases draft.old) before
+        → draft_in draft.new ≡ tell_of setup.now before (compose_of setup.now
+        (settled_from setup.now (draft_in draft.old) event.now (closing_of closing.now)))) }
+    ensures bases { OnOk result (bases draft.new ≡ bases draft.old) }
+    ensures kept { OnOk result (IfSome composed.new (IsComposedOf setup.now
+        (settled_from setup.now (draft_in draft.old) event.now (closing_of closing.now)).state)) }
+    ensures follows { is_some composed.old ≡ true
+        → is_replaced (settled_from setup.now (draft_in draft.old) event.now (closing_of closing.now)).reply ≡ false
+        → OnOk result (is_some composed.new ≡ true) }
+    ensures steps { steps.new ≤ steps.old + kept_steps composed.old
+        (turning_from setup.now (bases draft.old)
+        (settled_from setup.now (draft_in draft.old) event.now (closing_of closing.now)).state) }
+{
+    act(setup, draft, event, judged, heard)?;
+    close(setup.alloc(), draft, closing)?;
+    settle(setup, draft)?;
+    compose(setup, draft, composed, steps)?;
+    tell(setup, draft)?;
+    Ok(())
+}
+
 /// The draft of an event whose frame was judged, where these sessions are closed as slow.
 fn draft<'a, G: Ledger>(
     setup: &Setup,
@@ -86,14 +135,11 @@ fn draft<'a, G: Ledger>(
     ensures steps { steps.new ≤ steps.old + kept_steps composed.old (turning_steps setup.now (state_in_held held.now)
         (settled_of setup.now (state_in_held held.now) event.now (closing_of closing.now)).state) }
 {
-    let alloc = setup.alloc();
     let now = moment_of(event, held.moment);
-    let mut draft = begin_outcome(alloc, held, now)?;
-    act(setup, &mut draft, event, judged, heard)?;
-    close(alloc, &mut draft, closing)?;
-    settle(setup, &mut draft)?;
-    compose(setup, &mut draft, composed, steps)?;
-    tell(setup, &mut draft)?;
+    let mut draft = begin_outcome(setup.alloc(), held, now)?;
+    go_through(
+        setup, &mut draft, event, judged, heard, closing, composed, steps,
+    )?;
     Ok(draft)
 }
 

@@ -27,8 +27,8 @@ returns-then-is_replaced-clause-kept g c =
 
 -- the reply says so
 pub returns-then-is_replaced-clause-follows : goal.returns-then-is_replaced-clause-follows
-returns-then-is_replaced-clause-follows g c some no =
-    absurd (true≢false (sym c.if-is_replaced.true ∙ (c.is_replaced.ensures ∙ no)))
+returns-then-is_replaced-clause-follows g c some other =
+    absurd (true≢false (sym c.if-is_replaced.true ∙ (c.is_replaced.ensures ∙ other)))
 
 pub compose_kept-requires-clause-kept : goal.compose_kept-requires-clause-kept
 compose_kept-requires-clause-kept g c =
@@ -36,7 +36,7 @@ compose_kept-requires-clause-kept g c =
     (IsKeptBy c.args.setup.now (bases c.args.draft.now) (draft_in c.args.draft.now).state)) c.in-Some.is c.requires.kept
 
 pub returns-in-Some-clause-follows : goal.returns-in-Some-clause-follows
-returns-in-Some-clause-follows g c some no = in_ok_case c.compose_kept.result refl
+returns-in-Some-clause-follows g c some other = in_ok_case c.compose_kept.result refl
 
 pub returns-in-Some-clause-steps : goal.returns-in-Some-clause-steps
 returns-in-Some-clause-steps g c =
@@ -50,7 +50,7 @@ returns-in-None-clause-kept g c =
     (IsComposedOf c.args.setup.now (draft_in c.args.draft.now).state)) (sym c.in-None.is) tt)
 
 pub returns-in-None-clause-follows : goal.returns-in-None-clause-follows
-returns-in-None-clause-follows g c some no = absurd (true≢false (sym some ∙ ap is_some c.in-None.is))
+returns-in-None-clause-follows g c some other = absurd (true≢false (sym some ∙ ap is_some c.in-None.is))
 
 pub returns-then-is_unchanged-clause-steps : goal.returns-then-is_unchanged-clause-steps
 returns-then-is_unchanged-clause-steps g c = no_more _ _

@@ -67,12 +67,12 @@ pub returns-clause-state : goal.returns-clause-state
 returns-clause-state g c = c.judge_event.ensures.state
 
 pub returns-clause-follows : goal.returns-clause-follows
-returns-clause-follows g c some no =
+returns-clause-follows g c some other =
     in_ok_case c.put.result
     (c.in_ok-drafted.ensures.follows some
     (ap (λ (s : State).
     is_replaced (settled_of c.args.setup.now s c.args.event.now (closing_of c.args.closing.now)).reply)
-    c.judge_event.ensures.state ∙ no))
+    c.judge_event.ensures.state ∙ other))
 
 pub returns-clause-steps : goal.returns-clause-steps
 returns-clause-steps g c =

@@ -10,17 +10,17 @@ use Rattle.hyper_core.proofs.Kept.{built_kept, tables_sound}
 use Rattle.hyper_core.proofs.keeping.build_from.Goals as goal
 
 pub build-requires-clause-fits : goal.build-requires-clause-fits
-build-requires-clause-fits g c = c.in_ok-setting.ensures.fits
+build-requires-clause-fits g c ks lives = c.in_ok-setting.ensures.fits
 
 pub build-requires-clause-good : goal.build-requires-clause-good
-build-requires-clause-good g c =
+build-requires-clause-good g c ks lives =
     let p = c.args.setup.now in
     let s = state_in_held c.args.held.now in
     subst IsGood (sym c.in_ok-setting.ensures.setting)
     (c.settings_are_ready.ensures p c.policy-policy.ensures.sound s (tables_sound p s c.requires)).good
 
 pub build-requires-clause-ready : goal.build-requires-clause-ready
-build-requires-clause-ready g c =
+build-requires-clause-ready g c ks lives =
     let p = c.args.setup.now in
     let s = state_in_held c.args.held.now in
     subst (λ (t : TopologyPlan). IsReadyFor t c.in_ok-setting.setting) (sym c.topology.ensures)
@@ -28,7 +28,7 @@ build-requires-clause-ready g c =
     (c.settings_are_ready.ensures p c.policy-policy.ensures.sound s (tables_sound p s c.requires)).ready)
 
 pub build-requires-clause-few : goal.build-requires-clause-few
-build-requires-clause-few g c =
+build-requires-clause-few g c ks lives =
     let p = c.args.setup.now in
     let s = state_in_held c.args.held.now in
     subst (λ (t : Setting). length t.switches < 2 ^ 32) (sym c.in_ok-setting.ensures.setting)
