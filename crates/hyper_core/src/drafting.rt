@@ -137,10 +137,16 @@ fn draft<'a, G: Ledger>(
 {
     let now = moment_of(event, held.moment);
     let mut draft = begin_outcome(setup.alloc(), held, now)?;
-    go_through(
+    let gone = go_through(
         setup, &mut draft, event, judged, heard, closing, composed, steps,
-    )?;
-    Ok(draft)
+    );
+    match gone {
+        Ok(()) => Ok(draft),
+        Err(memory) => {
+            drop(draft);
+            Err(memory)
+        }
+    }
 }
 
 /// An event is judged and drafted, and its draft is put, where these sessions are closed as slow. What is held gets

@@ -22,52 +22,52 @@ use Rattle.machine_meaning.specs.Phases.{settled_of}
 use Rattle.machine_meaning.specs.Telling.{tell}
 use Rattle.hyper_core.proofs.drafting.draft.Goals as goal
 
-pub go_through-requires-clause-numbers : goal.go_through-requires-clause-numbers
-go_through-requires-clause-numbers g c =
+pub go_through-gone-requires-clause-numbers : goal.go_through-gone-requires-clause-numbers
+go_through-gone-requires-clause-numbers g c =
     subst HaveNumbers (sym c.in_ok-draft.ensures.bases)
     (numbers_kept c.args.held.now c.args.held.now (moment_of c.args.event.now c.args.held.now.moment)
     c.moment_of-now.result refl c.requires.numbers)
 
-pub go_through-requires-clause-fresh : goal.go_through-requires-clause-fresh
-go_through-requires-clause-fresh g c =
+pub go_through-gone-requires-clause-fresh : goal.go_through-gone-requires-clause-fresh
+go_through-gone-requires-clause-fresh g c =
     fresh_begun c.args.held.now c.moment_of-now.result c.in_ok-draft.draft c.in_ok-draft.ensures.draft
     c.in_ok-draft.ensures.bases
 
-pub go_through-requires-clause-timely : goal.go_through-requires-clause-timely
-go_through-requires-clause-timely g c =
+pub go_through-gone-requires-clause-timely : goal.go_through-gone-requires-clause-timely
+go_through-gone-requires-clause-timely g c =
     subst AreTimely (sym c.in_ok-draft.ensures.bases) (timely_begun c.moment_of-now.result c.args.held.now)
 
-pub go_through-requires-clause-moment : goal.go_through-requires-clause-moment
-go_through-requires-clause-moment g c =
+pub go_through-gone-requires-clause-moment : goal.go_through-gone-requires-clause-moment
+go_through-gone-requires-clause-moment g c =
     subst (IsOfEvent c.args.event.now) (sym c.in_ok-draft.ensures.bases)
     (subst (λ n. moment_of c.args.event.now n ≡ n) (sym c.moment_of-now.ensures)
     (moment_again c.args.event.now c.args.held.now.moment))
 
-pub go_through-requires-clause-whole : goal.go_through-requires-clause-whole
-go_through-requires-clause-whole g c = c.requires.whole
+pub go_through-gone-requires-clause-whole : goal.go_through-gone-requires-clause-whole
+go_through-gone-requires-clause-whole g c = c.requires.whole
 
-pub go_through-requires-clause-judged : goal.go_through-requires-clause-judged
-go_through-requires-clause-judged g c =
+pub go_through-gone-requires-clause-judged : goal.go_through-gone-requires-clause-judged
+go_through-gone-requires-clause-judged g c =
     judged_begun c.args.setup.now c.args.held.now c.moment_of-now.result c.args.event.now c.in_ok-draft.draft
     c.args.judged c.in_ok-draft.ensures.draft c.in_ok-draft.ensures.bases c.moment_of-now.ensures c.requires.judged
 
-pub go_through-requires-clause-heard : goal.go_through-requires-clause-heard
-go_through-requires-clause-heard g c =
+pub go_through-gone-requires-clause-heard : goal.go_through-gone-requires-clause-heard
+go_through-gone-requires-clause-heard g c =
     let P : Draft → Type 0 = λ d. IsHeardOf c.args.event.now c.args.heard.now d.state in
     subst P (sym c.in_ok-draft.ensures.draft)
     (heard_at c.args.event.now c.args.heard.now (state_in_held c.args.held.now) c.moment_of-now.result c.requires.heard)
 
-pub go_through-requires-clause-unsent : goal.go_through-requires-clause-unsent
-go_through-requires-clause-unsent g c =
+pub go_through-gone-requires-clause-unsent : goal.go_through-gone-requires-clause-unsent
+go_through-gone-requires-clause-unsent g c =
     nothing_sent c.args.held.now c.moment_of-now.result c.in_ok-draft.draft c.in_ok-draft.ensures.draft
     c.in_ok-draft.ensures.bases
 
-pub go_through-requires-clause-settled : goal.go_through-requires-clause-settled
-go_through-requires-clause-settled g c =
+pub go_through-gone-requires-clause-settled : goal.go_through-gone-requires-clause-settled
+go_through-gone-requires-clause-settled g c =
     subst (WasSettled c.args.setup.now) (sym c.in_ok-draft.ensures.bases) c.requires.settled
 
-pub go_through-requires-clause-kept : goal.go_through-requires-clause-kept
-go_through-requires-clause-kept g c =
+pub go_through-gone-requires-clause-kept : goal.go_through-gone-requires-clause-kept
+go_through-gone-requires-clause-kept g c =
     let p = c.args.setup.now in
     let s = state_in_held c.args.held.now in
     let e = c.args.event.now in
@@ -78,8 +78,8 @@ go_through-requires-clause-kept g c =
     kept_settled p c.args.held.now e closed c.moment_of-now.result (bases c.in_ok-draft.draft) x c.args.composed.now
     c.in_ok-draft.ensures.bases is c.requires.kept
 
-pub returns-clause-draft : goal.returns-clause-draft
-returns-clause-draft g c =
+pub returns-in-Ok-clause-draft : goal.returns-in-Ok-clause-draft
+returns-in-Ok-clause-draft g c =
     let p = c.args.setup.now in
     let s = state_in_held c.args.held.now in
     let e = c.args.event.now in
@@ -89,15 +89,15 @@ returns-clause-draft g c =
     let is : x ≡ settled_of p s e closed = all_settled p s e closed _ _ _ _ begun refl refl refl in
     let before = subst (λ b. IsBefore b s) (sym c.in_ok-draft.ensures.bases)
     (stands_before c.moment_of-now.result c.args.held.now) in
-    c.in_ok-go_through.ensures.drafted s before ∙ ap (λ (d : Draft). tell p s (compose p d)) is
+    c.in-Ok.ensures.drafted s before ∙ ap (λ (d : Draft). tell p s (compose p d)) is
 
-pub returns-clause-bases : goal.returns-clause-bases
-returns-clause-bases g c =
-    c.in_ok-go_through.ensures.bases
+pub returns-in-Ok-clause-bases : goal.returns-in-Ok-clause-bases
+returns-in-Ok-clause-bases g c =
+    c.in-Ok.ensures.bases
     ∙ (c.in_ok-draft.ensures.bases ∙ ap (λ n. bases_of n c.args.held.now) c.moment_of-now.ensures)
 
-pub returns-clause-kept : goal.returns-clause-kept
-returns-clause-kept g c =
+pub returns-in-Ok-clause-kept : goal.returns-in-Ok-clause-kept
+returns-in-Ok-clause-kept g c =
     let p = c.args.setup.now in
     let s = state_in_held c.args.held.now in
     let e = c.args.event.now in
@@ -105,11 +105,11 @@ returns-clause-kept g c =
     let begun = c.in_ok-draft.ensures.draft ∙ ap (λ n. untouched (at_moment n s)) c.moment_of-now.ensures in
     let x = settled_from p (draft_in c.in_ok-draft.draft) e closed in
     let is : x ≡ settled_of p s e closed = all_settled p s e closed _ _ _ _ begun refl refl refl in
-    subst (λ (d : Draft). IfSome c.go_through.new.composed (IsComposedOf p d.state)) is
-    c.in_ok-go_through.ensures.kept
+    subst (λ (d : Draft). IfSome c.go_through-gone.new.composed (IsComposedOf p d.state)) is
+    c.in-Ok.ensures.kept
 
-pub returns-clause-follows : goal.returns-clause-follows
-returns-clause-follows g c some other =
+pub returns-in-Ok-clause-follows : goal.returns-in-Ok-clause-follows
+returns-in-Ok-clause-follows g c some other =
     let p = c.args.setup.now in
     let s = state_in_held c.args.held.now in
     let e = c.args.event.now in
@@ -117,10 +117,10 @@ returns-clause-follows g c some other =
     let begun = c.in_ok-draft.ensures.draft ∙ ap (λ n. untouched (at_moment n s)) c.moment_of-now.ensures in
     let x = settled_from p (draft_in c.in_ok-draft.draft) e closed in
     let is : x ≡ settled_of p s e closed = all_settled p s e closed _ _ _ _ begun refl refl refl in
-    c.in_ok-go_through.ensures.follows some (ap (λ (d : Draft). is_replaced d.reply) is ∙ other)
+    c.in-Ok.ensures.follows some (ap (λ (d : Draft). is_replaced d.reply) is ∙ other)
 
-pub returns-clause-steps : goal.returns-clause-steps
-returns-clause-steps g c =
+pub returns-in-Ok-clause-steps : goal.returns-in-Ok-clause-steps
+returns-in-Ok-clause-steps g c =
     let p = c.args.setup.now in
     let s = state_in_held c.args.held.now in
     let e = c.args.event.now in
@@ -128,15 +128,15 @@ returns-clause-steps g c =
     let begun = c.in_ok-draft.ensures.draft ∙ ap (λ n. untouched (at_moment n s)) c.moment_of-now.ensures in
     let x = settled_from p (draft_in c.in_ok-draft.draft) e closed in
     let is : x ≡ settled_of p s e closed = all_settled p s e closed _ _ _ _ begun refl refl refl in
-    subst (λ (n : ℕ). c.go_through.new.steps ≤ c.args.steps.now + kept_steps c.args.composed.now n)
+    subst (λ (n : ℕ). c.go_through-gone.new.steps ≤ c.args.steps.now + kept_steps c.args.composed.now n)
     (drafted_steps p c.args.held.now c.moment_of-now.result (bases c.in_ok-draft.draft) x (settled_of p s e closed)
     c.in_ok-draft.ensures.bases is)
-    c.go_through.ensures.steps
+    c.go_through-gone.ensures.steps
 
 -- so it is where memory is wanted
 
-pub returns-in_err-go_through-clause-steps : goal.returns-in_err-go_through-clause-steps
-returns-in_err-go_through-clause-steps g c =
+pub returns-in-Err-clause-steps : goal.returns-in-Err-clause-steps
+returns-in-Err-clause-steps g c =
     let p = c.args.setup.now in
     let s = state_in_held c.args.held.now in
     let e = c.args.event.now in
@@ -144,10 +144,10 @@ returns-in_err-go_through-clause-steps g c =
     let begun = c.in_ok-draft.ensures.draft ∙ ap (λ n. untouched (at_moment n s)) c.moment_of-now.ensures in
     let x = settled_from p (draft_in c.in_ok-draft.draft) e closed in
     let is : x ≡ settled_of p s e closed = all_settled p s e closed _ _ _ _ begun refl refl refl in
-    subst (λ (n : ℕ). c.go_through.new.steps ≤ c.args.steps.now + kept_steps c.args.composed.now n)
+    subst (λ (n : ℕ). c.go_through-gone.new.steps ≤ c.args.steps.now + kept_steps c.args.composed.now n)
     (drafted_steps p c.args.held.now c.moment_of-now.result (bases c.in_ok-draft.draft) x (settled_of p s e closed)
     c.in_ok-draft.ensures.bases is)
-    c.go_through.ensures.steps
+    c.go_through-gone.ensures.steps
 
 pub returns-in_err-draft-clause-steps : goal.returns-in_err-draft-clause-steps
 returns-in_err-draft-clause-steps g c = no_more _ _
