@@ -8,10 +8,8 @@ use Rattle.agreement.specs.declared.state.Setting.{Setting}
 use Rattle.composed_tables.specs.Composing.{ComposedOf}
 use Rattle.composed_tables.specs.Rules.{RulesOf}
 use Rattle.composed_tables.specs.Steps.{building_steps, setting_steps}
-use Rattle.cv_io.specs.declared.leaf.Session.{Session}
 use Rattle.events.specs.declared.event.Event.{Event}
 use Rattle.events.specs.declared.event.Event.TheVariants.{Up, Msg, Gone, Tick, Take, Policy}
-use Rattle.events.specs.declared.event.Reply.{Reply}
 use Rattle.policy_file.specs.Policies.{PolicyOf, plan}
 use Rattle.setting_laws.specs.Mixed.{mixed}
 use Rattle.virtual_topology.specs.declared.plan.TopologyPlan.{TopologyPlan}
