@@ -59,7 +59,9 @@ fn replay<R: Threads + Sync, S: Source, K: Sink>(
         return Status::Memory;
     };
     let outcome = replay_over(rt, &mut player, &mut lines, input, out);
-    conclude(alloc, &mut player, outcome, out)
+    let status = conclude(alloc, &mut player, outcome, out);
+    player.close();
+    status
 }
 
 /// Replays a script over the built-in policy.

@@ -8,10 +8,8 @@ use Rattle.agreement.specs.declared.state.Setting.{Setting}
 use Rattle.composed_tables.specs.Composing.{ComposedOf}
 use Rattle.composed_tables.specs.Rules.{RulesOf}
 use Rattle.composed_tables.specs.Steps.{building_steps, setting_steps}
-use Rattle.cv_io.specs.declared.leaf.Session.{Session}
 use Rattle.events.specs.declared.event.Event.{Event}
 use Rattle.events.specs.declared.event.Event.TheVariants.{Up, Msg, Gone, Tick, Take, Policy}
-use Rattle.events.specs.declared.event.Reply.{Reply}
 use Rattle.policy_file.specs.Policies.{PolicyOf, plan}
 use Rattle.setting_laws.specs.Mixed.{mixed}
 use Rattle.virtual_topology.specs.declared.plan.TopologyPlan.{TopologyPlan}
@@ -173,14 +171,17 @@ some_added (x ∷ xs) ys us vs h =
 slow_still : (n : ℕ) (p : PolicyOf) (s : State) (e : Event) (c : Closing) → is_empty c ≡ false
     → is_empty (slow_from n p s e c) ≡ false
 slow_still zero p s e c h = h
-slow_still (suc n) p s e c h = by (is_empty more)
+slow_still (suc n) p s e c h =
+    by (is_empty more)
+    (slow_still n p s e (both c more) (some_still c.switches more.switches c.members more.members h))
   where
     more : Closing
     more = overfilled s (draft_of p s e c)
 
-    by : (b : Bool) → is_empty (if b then c else slow_from n p s e (both c more)) ≡ false
-    by true = h
-    by false = slow_still n p s e (both c more) (some_still c.switches more.switches c.members more.members h)
+    by : (b : Bool) → is_empty (slow_from n p s e (both c more)) ≡ false
+        → is_empty (if b then c else slow_from n p s e (both c more)) ≡ false
+    by true again = h
+    by false again = again
 
 -- where some were closed as slow, some are in all
 pub slow_some : (n : ℕ) (p : PolicyOf) (s : State) (e : Event) (c more : Closing) → is_empty more ≡ false
@@ -222,7 +223,15 @@ tried_at p s e c k a b d x same first so_far more =
     tried p s e c k a b d first so_far
     (subst (λ (z : State). d ≤ b + kept_steps k (turning_steps p z (settled_of p z e c).state)) same more)
 
+-- where nothing is kept nothing more is taken
+pub none_more : (a m : ℕ) → a ≤ m → a + 0 ≤ m
+none_more a m h = omega (arith, h)
+
 -- as the attempts begin
+pub begun_rest : (p : PolicyOf) (s : State) (e : Event) (n : ℕ) (c : Closing)
+    → n ≡ length s.switches + length s.members → c ≡ nobody → slow_from n p s e c ≡ slow p s e
+begun_rest p s e n c many none = ap₂ (λ (k : ℕ) (z : Closing). slow_from k p s e z) many none
+
 pub begun_steps : (k : Option ComposedOf) (a f : ℕ) → a + kept_steps k f ≤ a + f
 begun_steps None a f = omega arith
 begun_steps (Some x) a f = omega arith

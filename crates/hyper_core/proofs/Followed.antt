@@ -4,7 +4,7 @@ use Rattle.std.specs.Prelude.{zip}
 use Rattle.std.specs.List.{enumerate_from}
 use Rattle.std.proofs.lemmas.List.Elements.{All-cons, All-head, All-nil, All-tail}
 use Rattle.grants.specs.declared.grant.Grant.{Grant}
-use Rattle.member_table.specs.Tables.{Held, TableOf}
+use Rattle.member_table.specs.Tables.{Held}
 use Rattle.of10_actions.specs.Ports.{AreRising}
 use Rattle.packet_map.specs.Networks.{leaf_table, no_levels, numbered_switch, numbered_table, switches_of, tables_of}
 use Rattle.packet_map.specs.Rising.{SeesRising}
@@ -12,7 +12,6 @@ use Rattle.policy_expr.specs.Policy.{policy_of}
 use Rattle.policy_expr.specs.declared.expr.Expr.{Expr}
 use Rattle.policy_file.specs.Policies.{PolicyOf, plan}
 use Rattle.policy_file.specs.declared.policy.MemberItem.{MemberItem}
-use Rattle.policy_meaning.specs.declared.network.Network.{Network}
 use Rattle.virtual_topology.specs.declared.plan.TopologyPlan.{TopologyPlan}
 use Rattle.machine_meaning.specs.States.{MemberOf, State}
 use Rattle.hyper_core.specs.Worlds.{grant_of, network_in, numbered_member, numbered_virtual, table_in, table_of}

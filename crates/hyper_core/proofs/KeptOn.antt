@@ -1,7 +1,7 @@
 -- What is kept goes on with what is held.
-use Rattle.std.proofs.Common.{◌≡◌, ◌∙◌, ℕ, ◌<◌, ◌^◌, ◌+◌, ◌-◌, Bool, true, false, true≢false, List, [], ◌∷◌, length, map}
+use Rattle.std.proofs.Common.{◌≡◌, ◌∙◌, ℕ, ◌<◌, ◌^◌, ◌-◌, true, true≢false, List, [], ◌∷◌, map}
 use Rattle.std.proofs.Common.{Option, Some, None, refl, sym, ap, subst}
-use Rattle.std.specs.Prelude.{IfSome, is_some, slice_get, unwrap_or}
+use Rattle.std.specs.Prelude.{IfSome, unwrap_or}
 use Rattle.std.proofs.lemmas.List.{length-map}
 use Rattle.composed_tables.specs.Composing.{ComposedOf}
 use Rattle.cv_io.specs.declared.leaf.Session.{Session}

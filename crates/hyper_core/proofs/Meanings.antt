@@ -4,9 +4,9 @@ use Rattle.std.proofs.Common.{arith, filter, map, refl, sym, ap, subst, true≢f
 use Rattle.std.proofs.Math.Path.{fun_ext}
 use Rattle.std.specs.Prelude.{◌==◌, IfOk, MatchOption, MatchResult, OnErr, Result, Ok, Err, cond, flat_map}
 use Rattle.std.specs.Prelude.{if◌then◌else◌, is_some, not}
-use Rattle.std.specs.FinMap.{contains_key-keys, entries, find, from_entries, get, get-from_entries, keys, same_map}
+use Rattle.std.specs.FinMap.{contains_key-keys, find, get, get-from_entries, keys, same_map}
 use Rattle.std.specs.List.{list_any}
-use Rattle.std.specs.Map.{keys_of, lookup}
+use Rattle.std.specs.Map.{keys_of}
 use Rattle.std.specs.Ordering.{eq_by_cmp}
 use Rattle.cv_io.specs.Leaves.{leaf_cmp, same_leaf}
 use Rattle.cv_io.specs.declared.leaf.Leaf.{Leaf}
@@ -14,12 +14,11 @@ use Rattle.cv_io.specs.declared.memory.Memory.{Memory}
 use Rattle.events.specs.declared.event.Event.{Event}
 use Rattle.events.specs.declared.event.Reply.{Reply}
 use Rattle.policy_file.specs.Policies.{PolicyOf}
-use Rattle.stats_map.specs.Counting.{Cookies, CountsOf, Place, all_ended, cookie_at, ended, forgot, installed_at}
+use Rattle.stats_map.specs.Counting.{Cookies, CountsOf, Place, all_ended, cookie_at, ended, installed_at}
 use Rattle.stats_map.specs.Counting.{is_named, of_switch, reported_on, swept, with_numbers}
 use Rattle.stats_map.specs.Histories.{Dropped, Step, Told, WentDown, Wrote, after, gone, gone_at, gone_by, run}
 use Rattle.stats_map.specs.InsideSums.{Sums, forgotten_in as forgotten_of, sum_at, total_in as total_of}
 use Rattle.stats_map.specs.Told.{told}
-use Rattle.stats_map.specs.declared.sum.Sum.{Sum}
 use Rattle.stats_map.proofs.SlotSums.{at-same, leaf_exact, leaf_total}
 use Rattle.switch_meaning.specs.Counts.{Cookie, Numbers, added, names}
 use Rattle.switch_meaning.proofs.Alike.{leaf_decides}

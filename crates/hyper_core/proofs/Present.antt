@@ -1,5 +1,5 @@
 -- What composition reads of the present state.
-use Rattle.std.proofs.Common.{◌≡◌, ◌∙◌, List, ap, sym}
+use Rattle.std.proofs.Common.{◌≡◌, ◌∙◌, List, ap}
 use Rattle.agreement.specs.declared.state.Setting.{Setting}
 use Rattle.policy_file.specs.Policies.{PolicyOf}
 use Rattle.machine_meaning.specs.Drafts.{Draft, untouched}

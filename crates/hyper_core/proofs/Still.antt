@@ -1,9 +1,9 @@
 -- An event that changes no member's table takes no step.
-use Rattle.std.proofs.Common.{◌≡◌, ◌∙◌, ℕ, zero, suc, ◌+◌, Bool, true, false, List, [], ◌∷◌, ◌++◌, map, Option, Some, None}
+use Rattle.std.proofs.Common.{◌≡◌, ◌∙◌, ℕ, zero, suc, ◌+◌, List, [], ◌∷◌, map, Option, Some, None}
 use Rattle.std.proofs.Common.{refl, ap, ap₂, if◌then◌else◌}
-use Rattle.std.specs.Prelude.{◌&&◌, drop, fold, not, sum_by, take}
+use Rattle.std.specs.Prelude.{◌&&◌, fold, not, sum_by}
 use Rattle.agreement.specs.declared.state.Setting.{Setting}
-use Rattle.composed_tables.specs.Steps.{expression_steps, hop_steps, own_places, setting_steps}
+use Rattle.composed_tables.specs.Steps.{expression_steps, own_places, setting_steps}
 use Rattle.events.specs.declared.event.Event.{Event}
 use Rattle.events.specs.declared.event.Event.TheVariants.{Up, Msg, Gone, Tick, Take, Policy as Replace}
 use Rattle.events.specs.declared.event.Reply.{Reply}
@@ -34,14 +34,14 @@ use Rattle.setting_laws.specs.Staying.{kept_of}
 use Rattle.virtual_topology.specs.declared.plan.TopologyPlan.{TopologyPlan}
 use Rattle.machine_meaning.specs.Glances.{glance_of}
 use Rattle.machine_meaning.specs.Hearing.{heard}
-use Rattle.machine_meaning.specs.Phases.{is_empty, nobody, settled_of, slow}
+use Rattle.machine_meaning.specs.Phases.{nobody, settled_of}
 use Rattle.machine_meaning.specs.Settings.{setting_of, ups_with}
 use Rattle.machine_meaning.specs.States.{MemberOf, State}
 use Rattle.machine_meaning.specs.Steps.{step_of}
 use Rattle.machine_meaning.proofs.Quiet.{same_tables}
-use Rattle.hyper_core.specs.Costs.{IsStill, StillTakesNone, building_steps_of, cost_in, cost_of, followed_cost}
-use Rattle.hyper_core.specs.Costs.{is_replaced, sum_below, turning_steps, turning_steps_at, unless_still}
-use Rattle.hyper_core.specs.Meanings.{StateData, state_in}
+use Rattle.hyper_core.specs.Costs.{IsStill, StillTakesNone, building_steps_of, cost_in, followed_cost}
+use Rattle.hyper_core.specs.Costs.{sum_below, turning_steps, turning_steps_at, unless_still}
+use Rattle.hyper_core.specs.Meanings.{state_in}
 
 -- nothing comes -----------------------------------------------------------------------------------------------------
 

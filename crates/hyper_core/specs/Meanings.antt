@@ -1,7 +1,7 @@
 -- What a machine means, as plain data. A state has the totals of leaves as a function, and a value of a type of the
 -- program has a code: so the leaves that have some stand in a finite map.
 use Rattle.std.specs.Prelude.{◌≡◌, ℕ, ◌==◌, ◌&&◌, not, Bool, true, false, Option, Some, None, List, [], ◌∷◌, ◌++◌}
-use Rattle.std.specs.Prelude.{filter, flat_map, if◌then◌else◌, is_some, map, refl}
+use Rattle.std.specs.Prelude.{filter, flat_map, is_some, map, refl}
 use Rattle.std.proofs.Common.{sym, true≢false}
 use Rattle.std.specs.Coded.{Coded, code_by, coded×, coded_bool, coded_ℕ}
 use Rattle.std.specs.FinMap.{FinMap, code, from_entries, get, keys}

@@ -134,7 +134,9 @@ impl Hyper {
     }
 
     /// Lets go of it. Who ends a machine by this need not show again that each of its parts can be let go.
-    pub fn close(self) {}
+    pub fn close(self) {
+        drop(self);
+    }
 
     /// The policy. What is true of every policy is said here.
     pub fn policy(&self) -> &Policy

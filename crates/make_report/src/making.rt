@@ -150,7 +150,9 @@ fn summary<R: Threads + Sync>(
     ensures { IfOk result (λ summary. summary ≡ summary_in policy script) }
 {
     let mut player = begin(alloc, policy)?;
-    tell(rt, &mut player, &mut script, lines)
+    let told = tell(rt, &mut player, &mut script, lines);
+    player.close();
+    told
 }
 
 /// What the script of a seed with so many messages gives over the policy of benchmarks.

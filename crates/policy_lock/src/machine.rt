@@ -1,5 +1,6 @@
 //! What the lock needs of a machine.
 ghost use Rattle.std.specs.Prelude.{◌≡◌, ◌≤◌, ◌+◌, ℕ, Bool, true, false, MatchResult, MatchOption, IfOk};
+ghost use denote.Param.Send.{IsSync};
 
 use cv_io::{Memory, Steps};
 use std::sync::ledger::Ledger;
@@ -38,6 +39,8 @@ pub trait Machine: Drop + Send {
         event: &Self::Event,
         steps: &mut Steps<G>,
     ) -> Result<Self::Reply, Memory>
+        // A caller knows it by the bound on R, who implements this by the clause.
+        requires { IsSync R.row }
         ensures cost { ready self.old → steps.new ≤ steps.old + cost (meaning self.old) event.now }
         ensures most { steps.new ≤ steps.old + most (meaning self.old) event.now }
         ensures stepped { MatchResult result

@@ -84,6 +84,11 @@ impl Player {
         })
     }
 
+    /// Lets go of it. Who ends a replay by this need not show again that each of its parts can be let go.
+    pub fn close(self) {
+        self.stage.close();
+    }
+
     /// How many lines were done.
     #[tactic(auto, unfolding(crate::specs::Players::form_of, crate::specs::Players::plan_of, crate::specs::Players::reported, crate::specs::Players::progress_of))]
     pub fn number(&self) -> u64

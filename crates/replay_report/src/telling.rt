@@ -171,6 +171,11 @@ impl Stage {
         })
     }
 
+    /// Lets go of it.
+    pub(crate) fn close(self) {
+        self.machine.close();
+    }
+
     /// A session in its present round.
     pub(crate) fn present(&self, who: Who) -> Session
         ensures { result ≡ present_of (state_of self.now.machine) who }

@@ -29,7 +29,7 @@ returns-clause-ends g c =
     let reads = g.S.Source.faults c.replay_over-outcome.new.input in
     let old = moment (g.S.Source.remaining c.args.input.now) (g.S.Source.faults c.args.input.now) (g.K.Sink.held c.args.out.now) (g.K.Sink.faults c.args.out.now) in
     let mid = moment left reads (g.K.Sink.held c.replay_over-outcome.new.out) (g.K.Sink.faults c.replay_over-outcome.new.out) in
-    c.conclude.ensures.ends c.args.form c.args.policy old left reads
+    c.conclude-status.ensures.ends c.args.form c.args.policy old left reads
     (reaches-of c.replay_over-outcome.result c.args.form (form_of begun) c.args.policy (plan_of begun) (progress_of player) (reported player) old mid
     c.in-Ok-begin.ensures.form c.in-Ok-begin.ensures.plan c.replay_over-outcome.ensures.reaches)
 
@@ -41,4 +41,4 @@ returns-clause-whole g c = λ done.
     let mid = moment (g.S.Source.remaining c.replay_over-outcome.new.input) (g.S.Source.faults c.replay_over-outcome.new.input)
     (g.K.Sink.held c.replay_over-outcome.new.out) (g.K.Sink.faults c.replay_over-outcome.new.out) in
     reached-end c.replay_over-outcome.result (form_of begun) (plan_of begun) (progress_of player) (reported player) old mid
-    (c.conclude.ensures.done done) c.replay_over-outcome.ensures.reaches
+    (c.conclude-status.ensures.done done) c.replay_over-outcome.ensures.reaches

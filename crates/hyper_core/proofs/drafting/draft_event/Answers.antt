@@ -1,11 +1,14 @@
-use Rattle.std.proofs.Common.{◌∙◌, ◌+◌, ◌-◌, ◌≤◌, Option, refl, sym, ap, subst, true≢false, rules}
+use Rattle.std.proofs.Common.{◌∙◌, ◌+◌, ◌-◌, ◌≤◌, Option, refl, sym, ap, subst, true≢false, arith}
 use Rattle.std.specs.Prelude.{◌==◌, IfSome, is_some}
+use Rattle.std.proofs.lemmas.List.{length-map}
+use Rattle.machine_drafts.specs.Views.{member_of, switch_of}
 use Rattle.composed_tables.specs.Composing.{ComposedOf}
 use Rattle.machine_meaning.specs.Rounds.{Closing}
 use Rattle.machine_meaning.specs.Phases.{settled_of}
 use Rattle.machine_meaning.specs.States.{State}
 use Rattle.hyper_core.specs.Costs.{first_steps, is_replaced, kept_steps, turning_steps}
-use Rattle.hyper_core.proofs.Bounds.{begun_steps, none_replaced, none_slow, slow_some, tried, tried_at}
+use Rattle.hyper_core.proofs.Bounds.{begun_rest, begun_steps, none_more, none_replaced, none_slow}
+use Rattle.hyper_core.proofs.Bounds.{slow_some, tried, tried_at}
 use Rattle.hyper_core.proofs.Attempts.{all_drafted, drafted_anew, kept_drafted, numbers_kept}
 use Rattle.machine_drafts.specs.Closings.{closing_of}
 use Rattle.hyper_core.specs.Drafting.{IsPutOf}
@@ -91,15 +94,19 @@ loop-closing-preserved g c =
           subst (λ (k : Option ComposedOf). c.attempt.new.steps + kept_steps k (first_steps p s e)
           ≤ c.args.steps.now + first_steps p s e)
           (sym c.set_kept.ensures)
+          (none_more c.attempt.new.steps (c.args.steps.now + first_steps p s e)
           (tried p s e closing c.loop-closing.composed c.args.steps.now c.loop-closing.steps c.attempt.new.steps
-          c.loop-closing.invariant.first c.loop-closing.invariant.steps taken);
+          c.loop-closing.invariant.first c.loop-closing.invariant.steps taken));
     }
 
 pub loop-closing-init : goal.loop-closing-init
 loop-closing-init g c = record {
   state = refl;
   kept = c.requires.kept;
-  rest = search rules;
+  rest =
+      begun_rest c.args.setup.now (state_in_held c.args.held.now) c.args.event.now _ _
+      (omega (arith, length-map c.args.held.now.switches switch_of, length-map c.args.held.now.members member_of))
+      c.nobody-closing.ensures;
   first = λ some. c.nobody-closing.ensures;
   follows = λ some none. some;
   steps = begun_steps c.args.composed.now c.args.steps.now _;

@@ -13,7 +13,6 @@ use Rattle.machine_meaning.specs.Composing.{compose}
 use Rattle.machine_meaning.specs.Drafts.{Draft}
 use Rattle.machine_meaning.specs.Rounds.{close}
 use Rattle.machine_meaning.specs.Settling.{settle}
-use Rattle.machine_meaning.specs.States.{State}
 use Rattle.machine_meaning.specs.Telling.{tell}
 use Rattle.hyper_core.proofs.drafting.go_through.Goals as goal
 

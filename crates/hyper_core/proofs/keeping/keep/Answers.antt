@@ -18,8 +18,8 @@ returns-then-is_some-clause-kept g c = record {
   of = c.requires.followed;
 }
 
-pub build-requires : goal.build-requires
-build-requires g c = c.requires.sound (c.has_numbers.ensures c.if-not-has_numbers.false)
+pub build-made-requires-after_bounds : goal.build-made-requires-after_bounds
+build-made-requires-after_bounds g c ks lives = c.requires.sound (c.has_numbers.ensures c.if-not-has_numbers.false)
 
 pub returns-clause-kept : goal.returns-clause-kept
 returns-clause-kept g c =

@@ -37,7 +37,7 @@ drive-requires-clause-kept g c =
     c.requires.changes c.in_ok-overtaken.ensures.heard c.in_ok-overtaken.ensures.rest c.requires.kept
 
 pub keep-requires-clause-sound : goal.keep-requires-clause-sound
-keep-requires-clause-sound g c =
+keep-requires-clause-sound g c ks lives =
     let p = c.args.setup.now in
     let s = state_in_held c.args.held.now in
     let e = c.args.event.now in
@@ -50,7 +50,7 @@ keep-requires-clause-sound g c =
     c.requires.kept.sound)
 
 pub keep-requires-clause-followed : goal.keep-requires-clause-followed
-keep-requires-clause-followed g c = c.in-Ok.ensures.kept
+keep-requires-clause-followed g c ks lives = c.in-Ok.ensures.kept
 
 pub returns-in_err-overtaken-clause-kept : goal.returns-in_err-overtaken-clause-kept
 returns-in_err-overtaken-clause-kept g c =

@@ -2,7 +2,7 @@ use Rattle.std.proofs.Common.{◌∙◌, ◌+◌, ◌≤◌, ℕ, subst, sym}
 use Rattle.machine_drafts.specs.Machines.{state_in_held}
 use Rattle.hyper_core.specs.Costs.{followed_cost, whole_cost}
 use Rattle.hyper_core.proofs.Bounds.{no_more, not_still}
-use Rattle.hyper_core.proofs.Stepped.{kept_left}
+use Rattle.hyper_core.proofs.Stepped.{kept_left, settled_taken}
 use Rattle.hyper_core.proofs.stepping.step.Goals as goal
 
 pub returns-in-Some-taking_in-clause-kept : goal.returns-in-Some-taking_in-clause-kept
@@ -17,7 +17,7 @@ returns-clause-cost g c there =
     subst (λ (n : ℕ). c.proceed.new.steps ≤ c.args.steps.now + n)
     (not_still c.args.setup.now (state_in_held c.args.held.now) c.args.event.now
     (followed_cost c.args.setup.now (state_in_held c.args.held.now) c.args.event.now)
-    (sym c.glance.ensures ∙ c.in_default.is) (sym c.taking_in.ensures ∙ c.in_default-2.is))
+    (sym c.glance.ensures ∙ c.in_default.is) (sym c.taking_in.ensures ∙ c.in_default-taking_in.is))
     (c.proceed.ensures.cost there)
 
 pub returns-clause-most : goal.returns-clause-most
@@ -25,7 +25,7 @@ returns-clause-most g c =
     subst (λ (n : ℕ). c.proceed.new.steps ≤ c.args.steps.now + n)
     (not_still c.args.setup.now (state_in_held c.args.held.now) c.args.event.now
     (whole_cost c.args.setup.now (state_in_held c.args.held.now) c.args.event.now)
-    (sym c.glance.ensures ∙ c.in_default.is) (sym c.taking_in.ensures ∙ c.in_default-2.is))
+    (sym c.glance.ensures ∙ c.in_default.is) (sym c.taking_in.ensures ∙ c.in_default-taking_in.is))
     c.proceed.ensures.most
 
 pub returns-in-Some-clause-cost : goal.returns-in-Some-clause-cost
@@ -45,3 +45,8 @@ returns-in-Some-taking_in-clause-cost g c there = no_more _ _
 
 pub returns-in-Some-taking_in-clause-most : goal.returns-in-Some-taking_in-clause-most
 returns-in-Some-taking_in-clause-most g c = no_more _ _
+
+pub returns-in-Some-taking_in-clause-settled : goal.returns-in-Some-taking_in-clause-settled
+returns-in-Some-taking_in-clause-settled g c =
+    settled_taken c.args.setup.now c.args.held.now c.take.new.held c.in-Some-taking_in.session c.requires.settled
+    c.take.ensures.left

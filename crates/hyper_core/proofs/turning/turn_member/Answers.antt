@@ -6,7 +6,7 @@ use Rattle.incr_compile.specs.declared.compiled.LeafDelta.{LeafDelta}
 use Rattle.machine_drafts.specs.MemberDrafts.{IsLeafDelta}
 use Rattle.hyper_core.specs.Turning.{AreTold, mixed_at, stood_in}
 use Rattle.machine_drafts.specs.Outcomes.{state_in}
-use Rattle.hyper_core.proofs.Bounds.{applied, no_more, plan_kept}
+use Rattle.hyper_core.proofs.Bounds.{applied, plan_kept}
 use Rattle.hyper_core.proofs.OneTurn.{can_turn, item_at, items_long, kept_unplanned, told_more}
 use Rattle.hyper_core.proofs.turning.turn_member.Goals as goal
 

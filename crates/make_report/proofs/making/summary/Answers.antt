@@ -7,20 +7,20 @@ use Rattle.make_report.proofs.making.summary.Goals as goal
 
 pub returns : goal.returns
 returns g c =
-    subst (λ (p : PolicyOf). IfOk c.tell.result (λ summary. summary ≡ summary_in p c.args.script))
-    c.in_ok-player.ensures.plan c.tell.ensures
+    subst (λ (p : PolicyOf). IfOk c.tell-told.result (λ summary. summary ≡ summary_in p c.args.script))
+    c.in_ok-player.ensures.plan c.tell-told.ensures
 
-pub tell-requires-clause-form : goal.tell-requires-clause-form
-tell-requires-clause-form g c = c.in_ok-player.ensures.form
+pub tell-told-requires-clause-form : goal.tell-told-requires-clause-form
+tell-told-requires-clause-form g c = c.in_ok-player.ensures.form
 
-pub tell-requires-clause-first : goal.tell-requires-clause-first
-tell-requires-clause-first g c = c.in_ok-player.ensures.first ∙ ap first (sym c.in_ok-player.ensures.plan)
+pub tell-told-requires-clause-first : goal.tell-told-requires-clause-first
+tell-told-requires-clause-first g c = c.in_ok-player.ensures.first ∙ ap first (sym c.in_ok-player.ensures.plan)
 
-pub tell-requires-clause-report : goal.tell-requires-clause-report
-tell-requires-clause-report g c = c.in_ok-player.ensures.report
+pub tell-told-requires-clause-report : goal.tell-told-requires-clause-report
+tell-told-requires-clause-report g c = c.in_ok-player.ensures.report
 
-pub tell-requires-clause-lines : goal.tell-requires-clause-lines
-tell-requires-clause-lines g c = c.requires
+pub tell-told-requires-clause-lines : goal.tell-told-requires-clause-lines
+tell-told-requires-clause-lines g c = c.requires
 
 -- after want of memory
 pub returns-in_err-player : goal.returns-in_err-player

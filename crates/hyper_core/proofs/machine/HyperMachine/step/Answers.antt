@@ -1,3 +1,4 @@
+use denote.Param.Send.{sendable}
 use Rattle.std.proofs.Common.{◌+◌, ◌≤◌, ℕ, subst}
 use Rattle.hyper_core.proofs.Bounds.{cost_is, most_is}
 use Rattle.hyper_core.proofs.Meanings.{step_is}
@@ -17,3 +18,6 @@ pub returns-clause-most : goal.returns-clause-most
 returns-clause-most g c =
     subst (λ (n : ℕ). c.step.new.steps ≤ c.args.steps.now + n) (most_is c.args.self.now c.args.event.now)
     c.step.ensures.most
+
+pub step-requires-sync-R : goal.step-requires-sync-R
+step-requires-sync-R g c ks lives = search (c.requires, sendable) depth 10
