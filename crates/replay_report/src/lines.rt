@@ -44,10 +44,13 @@ fn come_up<R: Threads + Sync>(
 {
     streams.set(found.at, Stream::new(stage.alloc));
     let arp = tells_arp(found.who, noarp);
-    stage.happen(rt, &Event::Up {
-        who: found.who,
-        arp,
-    })
+    stage.happen(
+        rt,
+        &Event::Up {
+            who: found.who,
+            arp,
+        },
+    )
 }
 
 /// A session sends bytes.
@@ -90,12 +93,7 @@ fn leave<R: Threads + Sync>(rt: &R, stage: &mut Stage, found: Found) -> Result<(
 }
 
 /// A virtual switch gets another expression.
-fn replace<R: Threads + Sync>(
-    rt: &R,
-    stage: &mut Stage,
-    v: u32,
-    text: &Text,
-) -> Result<(), Memory>
+fn replace<R: Threads + Sync>(rt: &R, stage: &mut Stage, v: u32, text: &Text) -> Result<(), Memory>
     ensures report { OnOk result (stage.new.report
         ≡ stage.old.report ++ (does stage.old.machine.plan (Event.Policy v text.now)
         (state_of stage.old.machine)).text) }
@@ -104,10 +102,13 @@ fn replace<R: Threads + Sync>(
     ensures plan { stage.new.machine.plan ≡ stage.old.machine.plan }
     ensures names { stage.new.names ≡ stage.old.names }
 {
-    stage.happen(rt, &Event::Policy {
-        v,
-        text: text.copy()?,
-    })
+    stage.happen(
+        rt,
+        &Event::Policy {
+            v,
+            text: text.copy()?,
+        },
+    )
 }
 
 /// Does a line; false where it names something that the policy hasn't.
