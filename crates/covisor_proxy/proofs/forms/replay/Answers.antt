@@ -17,7 +17,7 @@ returns-in_default-begin-clause-ends g c =
     begins-none (report_of c.args.form c.args.policy) here here refl
 
 pub replay_over-outcome-requires-clause-begins : goal.replay_over-outcome-requires-clause-begins
-replay_over-outcome-requires-clause-begins g c =
+replay_over-outcome-requires-clause-begins g c ks lives =
     let player = c.in-Ok-begin.player in
     subst (IsBegun (progress_of player)) (sym c.in-Ok-begin.ensures.plan) c.in-Ok-begin.ensures.begins
 

@@ -3,10 +3,10 @@ use Rattle.make_report.proofs.Stepping.{stepped, used_some, used_within}
 use Rattle.make_report.proofs.making.do_line.Goals as goal
 
 pub line-requires-clause-some : goal.line-requires-clause-some
-line-requires-clause-some g c = used_some c.used.result (length c.args.line.now) c.used.ensures
+line-requires-clause-some g c ks lives = used_some c.used.result (length c.args.line.now) c.used.ensures
 
 pub line-requires-clause-short : goal.line-requires-clause-short
-line-requires-clause-short g c = used_within c.used.result (length c.args.line.now) c.used.ensures
+line-requires-clause-short g c ks lives = used_within c.used.result (length c.args.line.now) c.used.ensures
 
 pub returns-clause-stepped : goal.returns-clause-stepped
 returns-clause-stepped g c =

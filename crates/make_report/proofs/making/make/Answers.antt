@@ -4,8 +4,8 @@ use Rattle.make_report.specs.Making.{summary_in}
 use Rattle.make_report.proofs.Stepping.{lines_told, made_long, of_bench, summary_long}
 use Rattle.make_report.proofs.making.make.Goals as goal
 
-pub summary-requires : goal.summary-requires
-summary-requires g c =
+pub summary-requires-after_bounds : goal.summary-requires-after_bounds
+summary-requires-after_bounds g c ks lives =
     ap (λ n. n + 3) c.from.ensures ∙ sym (ap length c.new-script.ensures ∙ made_long c.args.seed c.args.count)
 
 pub returns-clause-summary : goal.returns-clause-summary

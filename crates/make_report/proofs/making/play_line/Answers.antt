@@ -3,10 +3,10 @@ use Rattle.make_report.proofs.Stepping.{line_counted, unowed}
 use Rattle.make_report.proofs.making.play_line.Goals as goal
 
 pub do_line-requires-clause-form : goal.do_line-requires-clause-form
-do_line-requires-clause-form g c = c.requires.form
+do_line-requires-clause-form g c ks lives = c.requires.form
 
 pub do_line-requires-clause-report : goal.do_line-requires-clause-report
-do_line-requires-clause-report g c = c.requires.report
+do_line-requires-clause-report g c ks lives = c.requires.report
 
 -- once a line was done, or not
 pub returns-clause-tally : goal.returns-clause-tally

@@ -19,10 +19,10 @@ returns-in_default-clause-plan g c = c.loop-line.invariant.plan
 
 -- one more line
 pub play_line-requires-clause-form : goal.play_line-requires-clause-form
-play_line-requires-clause-form g c = c.loop-line.invariant.form
+play_line-requires-clause-form g c ks lives = c.loop-line.invariant.form
 
 pub play_line-requires-clause-report : goal.play_line-requires-clause-report
-play_line-requires-clause-report g c = c.loop-line.invariant.report
+play_line-requires-clause-report g c ks lives = c.loop-line.invariant.report
 
 pub loop-line-preserved : goal.loop-line-preserved
 loop-line-preserved g c =

@@ -11,16 +11,16 @@ returns g c =
     c.in_ok-player.ensures.plan c.tell-told.ensures
 
 pub tell-told-requires-clause-form : goal.tell-told-requires-clause-form
-tell-told-requires-clause-form g c = c.in_ok-player.ensures.form
+tell-told-requires-clause-form g c ks lives = c.in_ok-player.ensures.form
 
 pub tell-told-requires-clause-first : goal.tell-told-requires-clause-first
-tell-told-requires-clause-first g c = c.in_ok-player.ensures.first ∙ ap first (sym c.in_ok-player.ensures.plan)
+tell-told-requires-clause-first g c ks lives = c.in_ok-player.ensures.first ∙ ap first (sym c.in_ok-player.ensures.plan)
 
 pub tell-told-requires-clause-report : goal.tell-told-requires-clause-report
-tell-told-requires-clause-report g c = c.in_ok-player.ensures.report
+tell-told-requires-clause-report g c ks lives = c.in_ok-player.ensures.report
 
 pub tell-told-requires-clause-lines : goal.tell-told-requires-clause-lines
-tell-told-requires-clause-lines g c = c.requires
+tell-told-requires-clause-lines g c ks lives = c.requires
 
 -- after want of memory
 pub returns-in_err-player : goal.returns-in_err-player

@@ -21,10 +21,10 @@ returns g c =
     all
 
 pub play_lines-requires-clause-form : goal.play_lines-requires-clause-form
-play_lines-requires-clause-form g c = c.requires.form
+play_lines-requires-clause-form g c ks lives = c.requires.form
 
 pub play_lines-requires-clause-report : goal.play_lines-requires-clause-report
-play_lines-requires-clause-report g c = c.requires.report
+play_lines-requires-clause-report g c ks lives = c.requires.report
 
 -- after want of memory
 pub returns-in_err-play_lines : goal.returns-in_err-play_lines
