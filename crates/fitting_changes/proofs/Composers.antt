@@ -13,7 +13,7 @@ use Rattle.policy_meaning.specs.declared.rule.Rule.{Rule}
 use Rattle.policy_meaning.proofs.Lists.{all-map}
 use Rattle.list_change.proofs.Permute.{by-equation}
 use Rattle.rule_ancestry.proofs.StoreLemmas.{eq-same, eq-other}
-use Rattle.incr_compile.specs.Compiling.{IsMemberDelta, IsOf, IsOfTables, MemberChanges, composed_by, member_size, policy_in, rules_after}
+use Rattle.incr_compile.specs.Compiling.{IsOf, IsOfTables, MemberChanges, composed_by, member_size, policy_in, rules_after}
 use Rattle.incr_compile.specs.Trees.{TreeOf, branch, has_member, leaf}
 use Rattle.incr_compile.specs.declared.compiled.LeafDelta.{LeafDelta}
 use Rattle.fitting_changes.specs.declared.shape.Shape.{Shape}
@@ -34,7 +34,7 @@ module _ {A : Type 0} (P : A → Type 0) where
 
 -- ---- the members of a tree are those that its expression names
 
-names : ℕ → Policy → Bool
+abbrev names : ℕ → Policy → Bool
 names i (member j) = i == j
 names i (parallel a b) = names i a || names i b
 names i (sequential a b) = names i a || names i b

@@ -22,7 +22,7 @@ pub enum Shape {
 
 /// The expression of a member.
 fn member(alloc: Global, index: u32) -> Result<Box<Expr>, Memory>
-    ensures { IfOk result (λ expr. policy_of expr ≡ member_of index) }
+    ensures { IfOk result (λ expr. policy_of expr.value ≡ member_of index) }
 {
     Ok(Box::new(alloc, Expr::Member { index })?)
 }

@@ -8,10 +8,10 @@ use Rattle.fitting_changes.proofs.Composers.{built, named-once}
 use Rattle.fitting_changes.proofs.composer.Composer.build.Goals as goal
 
 pub build-requires-clause-sound : goal.build-requires-clause-sound
-build-requires-clause-sound g c = c.requires
+build-requires-clause-sound g c κs lives = c.requires
 
 pub build-requires-clause-once : goal.build-requires-clause-once
-build-requires-clause-once g c = named-once c.args.shape (policy_of c.in_ok-expr.expr) c.in_ok-expr.ensures
+build-requires-clause-once g c κs lives = named-once c.args.shape (policy_of c.in_ok-expr.expr) c.in_ok-expr.ensures
 
 pub known-requires : goal.known-requires
 known-requires g c =
