@@ -9,7 +9,8 @@ use Rattle.policy_expr.specs.Policy.{Policy, member, members_of}
 use Rattle.policy_meaning.specs.Disjoint.{HasOrderlyTable, IsOrderlyPolicy, IsTableOfMember}
 use Rattle.policy_meaning.specs.Fitting.{levels_of}
 use Rattle.policy_meaning.specs.LeafFact.{EachPair}
-use Rattle.policy_meaning.specs.Networks.{table_rules, table_size}
+use Rattle.policy_meaning.specs.Networks.{switch_links, table_rules, table_size}
+use Rattle.policy_meaning.specs.WorkedTables.{server_router}
 use Rattle.policy_meaning.specs.declared.leaf.LeafTable.{LeafTable}
 use Rattle.policy_meaning.specs.declared.rule.Rule.{Rule}
 use Rattle.policy_meaning.proofs.Lists.{all-map}
@@ -19,7 +20,8 @@ use Rattle.agreement.specs.Fitting.{IsFittingSetting}
 use Rattle.agreement.specs.Worked.{four_ports, routed}
 use Rattle.agreement.proofs.Finding.{only}
 use Rattle.agreement.proofs.WorkedRouter.{normal-net, router-is-sound}
-use Rattle.incr_compile.specs.Compiling.{IsMemberDelta, IsOf, composed_by, member_size, policy_in}
+use Rattle.hop_rules.specs.Links.{links}
+use Rattle.incr_compile.specs.Compiling.{IsMemberDelta, IsOf as IsCompiledOf, composed_by, member_size, policy_in}
 use Rattle.incr_compile.specs.Trees.{TreeOf, branch, has_member, leaf, tree_of}
 use Rattle.incr_compile.specs.declared.compiled.LeafDelta.{LeafDelta}
 use Rattle.incr_compile.specs.declared.tree.Tree.{Tree}
@@ -27,7 +29,7 @@ use Rattle.agreement.specs.declared.state.Setting.{Setting}
 use Rattle.virtual_topology.specs.declared.plan.TopologyPlan.{TopologyPlan}
 use Rattle.fitting_changes.specs.Composers.{FitsIn}
 use Rattle.composed_tables.specs.Composing.{ComposedOf, IsGood, IsOf}
-use Rattle.composed_tables.specs.Rules.{AreRulesOf, CanTake, IsOutside, IsReadyFor, IsTreeOf, RulesOf}
+use Rattle.composed_tables.specs.Rules.{AreRulesOf, CanTake, IsOutside, LeadsToParted, IsReadyFor, IsTreeOf, RulesOf}
 use Rattle.change_tests.specs.WorkedRouted.{routed_plan}
 
 pub some-tree : (trees : List Tree) → length trees ≡ 1 → 0 < length trees
@@ -48,7 +50,7 @@ record IsLone (t : TreeOf) : Type 0 where
   has : has_member 0 t ≡ true
   size : member_size 0 t ≡ 8
 
-lone : (sizes : ℕ → ℕ) (rules : ℕ → List Rule) (t : TreeOf) → policy_in t ≡ member 0 → IsOf sizes rules t → sizes 0 ≡ 8 → IsLone t
+lone : (sizes : ℕ → ℕ) (rules : ℕ → List Rule) (t : TreeOf) → policy_in t ≡ member 0 → IsCompiledOf sizes rules t → sizes 0 ≡ 8 → IsLone t
 lone sizes rules (leaf i size made) e o s =
     let same : i ≡ 0 = member-same i e in
     record { has = ap (λ (k : ℕ). 0 == k) same; size = o.0 ∙ (ap sizes same ∙ s) }
@@ -64,7 +66,7 @@ module _ (whole : Bool) where
     };
   }
     where
-      table : IsTableOfMember 0 _
+      table : IsTableOfMember 0 (record server_router { member = 0 })
       table = record {
         member = refl;
         orderly = record { serials = (tt, tt); boxes = (tt, tt); visible = ((refl, (refl, (refl, tt))), ((refl, (refl, tt)), ((refl, tt), (tt, tt)))) };
@@ -98,13 +100,13 @@ module _ (whole : Bool) where
           let b : 1 < 4 = omega arith in
           let c : 2 < 4 = omega arith in
           let d : 3 < 4 = omega arith in
-          ((0, (a, refl)), ((1, (b, refl)), ((2, (c, refl)), ((3, (d, refl)), tt))))
+          ((0, a, refl), ((1, b, refl), ((2, c, refl), ((3, d, refl), tt))))
 
-      no-links : (v : ℕ) → _
+      no-links : (v : ℕ) → links routed_plan v ≡ switch_links (slice_get (routed whole).network.switches v)
       no-links zero = refl
       no-links (suc v) = refl
 
-      none-lead : (v : ℕ) → _
+      none-lead : (v : ℕ) → AllByRecursion (LeadsToParted (routed whole).network) (links routed_plan v)
       none-lead zero = tt
       none-lead (suc v) = tt
 
@@ -147,3 +149,9 @@ take-of plan s i c o delta e a r at = can-take i.whole r delta (subst (λ (z : S
 -- it has one switch
 pub one-table : (plan : TopologyPlan) (s : Setting) → IsRouted plan s → length s.switches ≡ 1
 one-table plan s i = ap (λ (z : Setting). length z.switches) i.setting
+
+-- so what is composed of it has one table
+pub has-table : (plan : TopologyPlan) (s : Setting) → IsRouted plan s → (c : ComposedOf) → IsOf s c → 0 < length c.tables
+has-table plan s i c o =
+    let one : length c.tables ≡ 1 = o.count ∙ one-table plan s i in
+    omega (arith, one)

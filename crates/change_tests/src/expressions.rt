@@ -87,6 +87,15 @@ fn turn<G: Ledger>(
     Ok(composer.apply(delta, steps)?)
 }
 
+/// One of the members.
+fn any_member(draws: &mut Draws, shape: Shape) -> u32 {
+    let number = draws.next();
+    match shape {
+        Shape::Mixed => (number % 4) as u32,
+        _ => (number % 2) as u32,
+    }
+}
+
 /// A change of one of the members, which is made in its table.
 fn drawn(
     alloc: Global,
@@ -118,10 +127,10 @@ fn folded<R: Threads + Sync, G: Ledger>(
     let mut composer = empty(rt, alloc, shape, steps)?;
     let mut seen = composer.rules()?;
     for _round in 0..rounds {
-        let member = draws.next() as u32 % shape.members();
+        let member = any_member(&mut draws, shape);
         let change = drawn(alloc, &mut draws, shape, &mut tables, member)?;
-        let told = turn(alloc, &mut composer, member, change, steps)?;
-        let was_there = follows(&mut seen, told.gone.as_slice(), told.come)?;
+        let RuleDelta { gone, come } = turn(alloc, &mut composer, member, change, steps)?;
+        let was_there = follows(&mut seen, gone.as_slice(), come)?;
         let wanted = scratch(alloc, shape, &tables)?;
         if !was_there || !are(&seen, &wanted)? || composer.rules()? != wanted {
             return Ok(false);
@@ -196,9 +205,9 @@ fn tried<R: Threads + Sync, G: Ledger>(
     steps: &mut Steps<G>,
 ) -> Result<Outcome, Fail> {
     let mut composer = empty(rt, alloc, shape, steps)?;
-    let mut serial = 0;
+    let mut serial = 0_u64;
     for (m, level) in rights(shape).into_iter().flatten() {
-        serial += 1;
+        serial = serial.wrapping_add(1);
         let change = comes(alloc, 1, serial, m, level, Tail::Nothing)?;
         turn(alloc, &mut composer, 1, change, steps)?;
     }

@@ -134,7 +134,7 @@ fn folded<G: Ledger>(alloc: Global, steps: &mut Steps<G>) -> Result<bool, Fail> 
     let mut net = missing(alloc, steps)?;
     let mut tolds = nothing_told(alloc, &net)?;
     for _round in 0..ROUNDS {
-        let v = draws.next() as u32 % 2;
+        let v = (draws.next() % 2) as u32;
         let change = drawn(alloc, &mut draws, &mut network, v)?;
         let deltas;
         (net, deltas) = net.turned(alloc, v, change, steps)?;
