@@ -12,7 +12,7 @@ use pull_back::image;
 use std::alloc::Global;
 
 /// The way of a packet out of a virtual switch: the rewrite with which it goes on, and over which link.
-#[derive(Clone, Copy, PartialEq, Eq, Debug)]
+#[derive(Clone, Copy)]
 pub struct Departure {
     pub rewrite: Rewrite,
     pub exit: Exit,
