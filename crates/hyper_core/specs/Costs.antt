@@ -73,6 +73,16 @@ unless_still (Some reply) e n = 0
 unless_still None (Take session) n = 0
 unless_still None e n = n
 
+-- what is answered at once leaves what is kept as it is, and so does a taking
+abbrev pub or_still : Option Reply → Event → Bool → Bool
+or_still (Some reply) e b = true
+or_still None (Take session) b = true
+or_still None e b = b
+
+-- what is kept as an event comes is kept as it ends, as long as numbers are left
+abbrev pub stays_kept : PolicyOf → State → Event → Bool
+stays_kept p s e = or_still (glance_of p s e) e (is_followed p (heard s e) e)
+
 -- how many an event takes at most where the composed part is kept as it comes
 abbrev pub cost_of : PolicyOf → State → Event → ℕ
 cost_of p s e = unless_still (glance_of p s e) e (followed_cost p s e)

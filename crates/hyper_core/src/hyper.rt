@@ -1,17 +1,19 @@
 //! The machine.
-ghost use Rattle.std.specs.Prelude.{◌≡◌, ◌≤◌, ◌+◌, IfOk, OnErr, option_map, true};
+ghost use Rattle.std.specs.Prelude.{◌≡◌, ◌≤◌, ◌+◌, IfOk, OnErr, OnOk, option_map, true};
 ghost use Rattle.packet_map.specs.Networks.{SeeRising, network_of};
 ghost use Rattle.policy_file.specs.Policies.{plan};
 ghost use Rattle.policy_file.specs.Sound.{IsSound};
 ghost use Rattle.machine_meaning.specs.Glances.{glance_of};
 ghost use Rattle.machine_drafts.specs.Machines.{state_of};
-ghost use Rattle.hyper_core.specs.Costs.{cost_of, most_of};
+ghost use Rattle.hyper_core.specs.Costs.{cost_of, most_of, stays_kept};
 ghost use Rattle.hyper_core.specs.Worlds.{AreTablesOf, installed_on, network_in, rule_count};
 ghost use Rattle.machine_meaning.specs.Sessions.{round_of};
+ghost use Rattle.machine_meaning.specs.Sound.{HasNumbers};
 ghost use Rattle.machine_meaning.specs.States.{opening};
 ghost use Rattle.machine_meaning.specs.Steps.{step_of};
 
 use crate::glances::glance;
+use crate::keeping::build_first;
 use crate::starting::open as open_held;
 use crate::stepping::step as step_held;
 use crate::views::{installed, round, rules};
@@ -26,8 +28,8 @@ use machine_drafts::setup::Setup;
 use packet_map::World;
 use policy_file::Policy;
 use std::alloc::Global;
-use std::marker::Model;
-use std::sync::ledger::Ledger;
+use std::marker::{Brand, Model};
+use std::sync::ledger::{Blank, Ledger};
 use std::thread::Threads;
 use virtual_topology::Topology;
 
@@ -62,17 +64,20 @@ impl Model for Hyper {
 }
 
 impl Hyper {
-    /// The machine of a policy: nothing is up, tables are empty, and each virtual switch has its expression.
-    pub fn open(alloc: Global, policy: Policy) -> Result<Hyper, Memory>
+    /// The machine of a policy: nothing is up, tables are empty, and each virtual switch has its expression. Its composed
+    /// part is kept from the first event on; the steps that it takes belong to no event.
+    pub fn open<R: Threads + Sync>(rt: &R, alloc: Global, policy: Policy) -> Result<Hyper, Memory>
         ensures plan { IfOk result (λ hyper. hyper.plan ≡ policy) }
         ensures opening { IfOk result (λ hyper. state_of hyper ≡ opening policy) }
+        ensures compiled { IfOk result (λ hyper. hyper.compiled ≡ true) }
     {
         let setup = Setup::make(alloc, policy)?;
         let held = open_held(&setup)?;
+        let composed = build_first::<R, Brand>(rt, &setup, &held, Blank::new(1))?;
         Ok(Hyper {
             setup,
             held,
-            composed: None,
+            composed: Some(composed),
         })
     }
 
@@ -83,7 +88,9 @@ impl Hyper {
         glance(&self.setup, &self.held, event)
     }
 
-    /// One step: the reply to an event. After want of memory all is as it was. The steps of composition are counted.
+    /// One step: the reply to an event. After want of memory all is as it was. The steps of composition are counted. Where
+    /// the composed part was kept it still is, as long as the event closes no session as slow, replaces no expression, and
+    /// leaves numbers for cookies and entries; where it does, the composed part is made anew if there is memory for it.
     pub fn step<R: Threads + Sync, G: Ledger>(
         &mut self,
         rt: &R,
@@ -94,6 +101,8 @@ impl Hyper {
             (reply, state_of self.new) ≡ step_of self.old.plan (state_of self.old) event.now) }
         ensures plan { self.new.plan ≡ self.old.plan }
         ensures memory { OnErr result (state_of self.new ≡ state_of self.old) }
+        ensures stays { self.old.compiled ≡ true → stays_kept self.old.plan (state_of self.old) event.now ≡ true
+            → HasNumbers (state_of self.new) → OnOk result (self.new.compiled ≡ true) }
         ensures cost { self.old.compiled ≡ true
             → steps.new ≤ steps.old + cost_of self.old.plan (state_of self.old) event.now }
         ensures most { steps.new ≤ steps.old + most_of self.old.plan (state_of self.old) event.now }

@@ -1,5 +1,5 @@
 //! The composed part is kept beside what the machine holds, under changes of members' tables.
-ghost use Rattle.std.specs.Prelude.{◌≡◌, ◌≤◌, ◌+◌, IfOk, IfSome, IsTrue, OnOk, if◌then◌else◌, is_some};
+ghost use Rattle.std.specs.Prelude.{◌≡◌, ◌<◌, ◌≤◌, ◌+◌, IfOk, IfSome, IsTrue, OnOk, Some, if◌then◌else◌, is_some, true};
 ghost use Rattle.composed_tables.specs.Composing.{AreTables};
 ghost use Rattle.hyper_core.specs.Costs.{building_steps_of, turning_steps};
 ghost use Rattle.hyper_core.specs.Kept.{IsComposedOf, IsKept, IsKeptBy, IsSoundWhile};
@@ -23,7 +23,7 @@ use machine_drafts::outcome::Outcome;
 use machine_drafts::session::Member;
 use machine_drafts::setup::Setup;
 use setting_laws::laws::settings_are_ready;
-use std::sync::ledger::Ledger;
+use std::sync::ledger::{Blank, Ledger};
 use std::thread::Threads;
 
 /// What is true of what is to stand on each switch.
@@ -77,6 +77,25 @@ fn build_from<R: Threads + Sync, G: Ledger>(
     Composed::build(rt, setup.alloc(), setup.topology(), &setting, steps)
 }
 
+/// The composed part of what is held as the machine opens. Its steps belong to no event, so they have a counter of
+/// their own.
+pub(crate) fn build_first<R: Threads + Sync, G: Ledger>(
+    rt: &R,
+    setup: &Setup,
+    held: &Held,
+    blank: Blank,
+) -> Result<Composed, Memory>
+    requires blank { (blank.name ≡ G.name) × (blank.parts ≡ G.parts) × (0 < blank.parts) }
+    requires sound { IsSoundState setup.now (state_in_held held.now) }
+    ensures kept { IfOk result (λ composed. IsKept setup.now (state_in_held held.now) (Some composed)) }
+{
+    if !has_numbers(held) {
+        return Err(Memory);
+    }
+    let mut steps = Steps::<G>::new(blank);
+    build_from(rt, setup, held, &mut steps)
+}
+
 /// The composed part of what is held, if there is memory for it.
 fn build<R: Threads + Sync, G: Ledger>(
     rt: &R,
@@ -93,7 +112,8 @@ fn build<R: Threads + Sync, G: Ledger>(
 
 /// A serial number is left for an entry of a member. So it is, always.
 fn has_serial(member: &Member) -> bool
-    ensures { IsTrue result → HasSerial (member_of member.now) }
+    ensures has { IsTrue result → HasSerial (member_of member.now) }
+    ensures always { result ≡ true }
 {
     // The proof learns what is true of every table.
     let _table = member.kept.table();
@@ -102,14 +122,16 @@ fn has_serial(member: &Member) -> bool
 
 /// So it is for each member.
 fn have_serials(members: &[Member]) -> bool
-    ensures { IsTrue result → StandingHaveSerials members.now }
+    ensures have { IsTrue result → StandingHaveSerials members.now }
+    ensures always { result ≡ true }
 {
     members.iter().all(has_serial)
 }
 
 /// Numbers are left: cookies, and serial numbers of entries.
 fn has_numbers(held: &Held) -> bool
-    ensures { IsTrue result → HasNumbers (state_in_held held.now) }
+    ensures has { IsTrue result → HasNumbers (state_in_held held.now) }
+    ensures tells { HasNumbers (state_in_held held.now) → result ≡ true }
 {
     held.next_cookie < u64::MAX && have_serials(held.members.as_slice())
 }
@@ -132,6 +154,7 @@ pub(crate) fn keep<R: Threads + Sync, G: Ledger>(
     requires sound { IsSoundWhile setup.now (state_in_held held.now) }
     requires followed { IfSome composed.old (IsComposedOf setup.now (state_in_held held.now)) }
     ensures kept { IsKept setup.now (state_in_held held.now) composed.new }
+    ensures stays { is_some composed.old ≡ true → HasNumbers (state_in_held held.now) → is_some composed.new ≡ true }
     ensures steps { steps.new ≤ steps.old + (if is_some composed.old then 0
         else building_steps_of setup.now (state_in_held held.now)) }
 {

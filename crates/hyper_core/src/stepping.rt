@@ -3,7 +3,9 @@ ghost use Rattle.std.specs.Prelude.{◌≡◌, ◌<◌, ◌≤◌, ◌+◌, ◌^
 ghost use Rattle.machine_meaning.specs.Events.{AreBytes, IsEvent};
 ghost use Rattle.machine_meaning.specs.Glances.{glance_of};
 ghost use Rattle.machine_meaning.specs.Hearing.{heard};
-ghost use Rattle.hyper_core.specs.Costs.{cost_of, first_steps, followed_cost, is_followed, most_of, whole_cost};
+ghost use Rattle.machine_meaning.specs.Sound.{HasNumbers};
+ghost use Rattle.hyper_core.specs.Costs.{cost_of, first_steps, followed_cost, is_followed, most_of, stays_kept};
+ghost use Rattle.hyper_core.specs.Costs.{whole_cost};
 ghost use Rattle.hyper_core.specs.Kept.{IsBegun, IsComposedOf, IsKept};
 ghost use Rattle.machine_drafts.specs.Machines.{HasAll, state_in_held};
 ghost use Rattle.machine_drafts.specs.Moments.{taking_in as taking_in_of};
@@ -96,6 +98,9 @@ pub(crate) fn proceed<R: Threads + Sync, G: Ledger>(
     ensures settled { IsSettledState setup.now (state_in_held held.new) }
     ensures kept { IsKept setup.now (state_in_held held.new) composed.new }
     ensures memory { OnErr result (state_in_held held.new ≡ state_in_held held.old) }
+    ensures stays { is_some composed.old ≡ true
+        → is_followed setup.now (heard (state_in_held held.old) event.now) event.now ≡ true
+        → HasNumbers (state_in_held held.new) → OnOk result (is_some composed.new ≡ true) }
     ensures cost { is_some composed.old ≡ true
         → steps.new ≤ steps.old + followed_cost setup.now (state_in_held held.old) event.now }
     ensures most { steps.new ≤ steps.old + whole_cost setup.now (state_in_held held.old) event.now }
@@ -180,6 +185,8 @@ pub(crate) fn step<R: Threads + Sync, G: Ledger>(
     ensures settled { IsSettledState setup.now (state_in_held held.new) }
     ensures kept { IsKept setup.now (state_in_held held.new) composed.new }
     ensures memory { OnErr result (state_in_held held.new ≡ state_in_held held.old) }
+    ensures stays { is_some composed.old ≡ true → stays_kept setup.now (state_in_held held.old) event.now ≡ true
+        → HasNumbers (state_in_held held.new) → OnOk result (is_some composed.new ≡ true) }
     ensures cost { is_some composed.old ≡ true
         → steps.new ≤ steps.old + cost_of setup.now (state_in_held held.old) event.now }
     ensures most { steps.new ≤ steps.old + most_of setup.now (state_in_held held.old) event.now }
