@@ -1,5 +1,5 @@
 //! The composed part is kept beside what the machine holds, under changes of members' tables.
-ghost use Rattle.std.specs.Prelude.{◌≡◌, ◌<◌, ◌≤◌, ◌+◌, IfOk, IfSome, IsTrue, OnOk, Some, if◌then◌else◌, is_some, true};
+ghost use Rattle.std.specs.Prelude.{◌≡◌, ◌↔◌, ◌<◌, ◌≤◌, ◌+◌, IfOk, IfSome, OnOk, Some, if◌then◌else◌, is_some, true};
 ghost use Rattle.composed_tables.specs.Composing.{AreTables};
 ghost use Rattle.hyper_core.specs.Costs.{building_steps_of, turning_steps};
 ghost use Rattle.hyper_core.specs.Kept.{IsComposedOf, IsKept, IsKeptBy, IsSoundWhile};
@@ -110,30 +110,29 @@ fn build<R: Threads + Sync, G: Ledger>(
     build_from(rt, setup, held, steps).ok()
 }
 
-/// A serial number is left for an entry of a member. So it is, always.
-fn has_serial(member: &Member) -> bool
-    ensures has { IsTrue result → HasSerial (member_of member.now) }
-    ensures always { result ≡ true }
+/// A serial number is left for an entry of a member, always.
+fn has_serial(member: &Member)
+    ensures { HasSerial (member_of member.now) }
 {
     // The proof learns what is true of every table.
     let _table = member.kept.table();
-    true
 }
 
 /// So it is for each member.
-fn have_serials(members: &[Member]) -> bool
-    ensures have { IsTrue result → StandingHaveSerials members.now }
-    ensures always { result ≡ true }
+fn have_serials(members: &[Member])
+    ensures { StandingHaveSerials members.now }
 {
-    members.iter().all(has_serial)
+    for member in members {
+        has_serial(member);
+    }
 }
 
-/// Numbers are left: cookies, and serial numbers of entries.
+/// Whether numbers are left: cookies, and serial numbers of entries.
 fn has_numbers(held: &Held) -> bool
-    ensures has { IsTrue result → HasNumbers (state_in_held held.now) }
-    ensures tells { HasNumbers (state_in_held held.now) → result ≡ true }
+    ensures { (result ≡ true) ↔ HasNumbers (state_in_held held.now) }
 {
-    held.next_cookie < u64::MAX && have_serials(held.members.as_slice())
+    have_serials(held.members.as_slice());
+    held.next_cookie < u64::MAX
 }
 
 /// This is kept from now on.
