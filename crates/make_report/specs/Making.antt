@@ -1,12 +1,12 @@
 -- What a script gives, line by line, and what is told of it in the end.
-use Rattle.std.specs.Prelude.{ℕ, ◌+◌, List, [], Option, Result, Ok, Err, fold, length}
+use Rattle.std.specs.Prelude.{ℕ, ◌+◌, List, [], ◌∷◌, Option, Result, Ok, Err, fold, length}
 use Rattle.made_script.specs.Script.{made}
 use Rattle.made_script.specs.declared.summary.Summary.{Summary}
 use Rattle.policy_file.specs.Policies.{PolicyOf}
 use Rattle.policy_file.specs.declared.fault.PolicyFault.{PolicyFault}
 use Rattle.replay_report.specs.Players.{Takes, plan_of, progress_of, reported, rules_at}
 use Rattle.replay_report.specs.Playing.{Played}
-use Rattle.replay_report.specs.Reports.{Progress, further, start, taken}
+use Rattle.replay_report.specs.Reports.{Progress, further, start, steps_in, taken}
 use Rattle.replay_report.specs.declared.kind.Kind.{Kind}
 use Rattle.replay_report.specs.declared.player.Player.{Player}
 use Rattle.script_text.specs.declared.form.Form.TheVariants.{Replay}
@@ -44,6 +44,14 @@ Stepped refused old new line =
 unfoldable pub after_lines : PolicyOf → Tally → List (List ℕ) → Tally
 after_lines p t lines = fold (after_line p) t lines
 
+-- how many steps of composition a line takes at most, and lines that are done one after the other
+unfoldable pub line_steps : PolicyOf → Tally → List ℕ → ℕ
+line_steps p t line = steps_in (taken Replay p t.progress line (length line + 1))
+
+abbrev pub lines_steps : PolicyOf → Tally → List (List ℕ) → ℕ
+lines_steps p t [] = 0
+lines_steps p t (line ∷ lines) = line_steps p t line + lines_steps p (after_line p t line) lines
+
 -- nothing was done
 unfoldable pub first : PolicyOf → Tally
 first p = record { progress = start p; counts = nothing }
@@ -61,11 +69,23 @@ told p lines t = record {
 unfoldable pub summary_in : PolicyOf → List (List ℕ) → Summary
 summary_in p lines = told p (length lines) (after_lines p (first p) lines)
 
+-- how many steps of composition a script takes at most
+unfoldable pub script_steps : PolicyOf → List (List ℕ) → ℕ
+script_steps p lines = lines_steps p (first p) lines
+
 -- over a policy that was read; were it none, nothing would be done
 abbrev pub summary_over : Result PolicyOf PolicyFault → List (List ℕ) → Summary
 summary_over (Ok p) lines = summary_in p lines
 summary_over (Err fault) lines = record { lines = 0; accepted = 0; rules = 0; sent = 0 }
 
--- what the script of a seed with so many messages gives over the policy of benchmarks
+abbrev pub steps_over : Result PolicyOf PolicyFault → List (List ℕ) → ℕ
+steps_over (Ok p) lines = script_steps p lines
+steps_over (Err fault) lines = 0
+
+-- what the script of a seed with so many messages gives over the policy of benchmarks, and how many steps of
+-- composition it takes at most
 unfoldable pub made_of : ℕ → ℕ → Summary
 made_of seed count = summary_over bench_read (made seed count)
+
+unfoldable pub made_steps : ℕ → ℕ → ℕ
+made_steps seed count = steps_over bench_read (made seed count)

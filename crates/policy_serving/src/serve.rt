@@ -48,7 +48,7 @@ where
     ensures write { result ≡ Served.Write → Rose (K.faults out.old) (K.faults out.new) }
 {
     audit_is_kept();
-    match opened(alloc, policy) {
+    match opened(rt, alloc, policy) {
         Ok((machine, places)) => {
             serve::<Proxy, R, K, L, P, C>(rt, alloc, machine, places, out, links, spawner, clock)
         }
@@ -57,7 +57,11 @@ where
 }
 
 /// The machine of a policy, and its endpoints, each of which it serves.
-fn opened(alloc: Global, policy: Policy) -> Result<(Hyper, List<Place>), Memory>
+fn opened<R: Threads + Sync>(
+    rt: &R,
+    alloc: Global,
+    policy: Policy,
+) -> Result<(Hyper, List<Place>), Memory>
     ensures opening { IfOk result (λ opened. IsOpening policy (data_in opened.0)) }
     ensures places { IfOk result (λ opened. opened.1 ≡ places_of policy) }
     ensures served { IfOk result (λ opened. All (λ place. IsServedSide (HasOne (data_in opened.0)) place.side) opened.1) }
@@ -67,6 +71,6 @@ fn opened(alloc: Global, policy: Policy) -> Result<(Hyper, List<Place>), Memory>
     places_are_few();
     policy.is_sound();
     let places = places(alloc, &policy)?;
-    let machine = Hyper::open(alloc, policy)?;
+    let machine = Hyper::open(rt, alloc, policy)?;
     Ok((machine, places))
 }

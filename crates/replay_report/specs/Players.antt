@@ -1,5 +1,5 @@
 -- A replay as contracts see it. What it is made of stays closed to callers, whose proofs would else open the whole machine.
-use Rattle.std.specs.Prelude.{◌≡◌, ℕ, List, ◌++◌, Option, Some, None, Result, Ok, Err}
+use Rattle.std.specs.Prelude.{◌≡◌, ℕ, true, List, ◌++◌, Option, Some, None, Result, Ok, Err}
 use Rattle.hyper_core.specs.Worlds.{rule_count}
 use Rattle.policy_file.specs.Policies.{PolicyOf}
 use Rattle.script_text.specs.declared.form.Form.{Form}
@@ -22,6 +22,10 @@ reported player = player.stage.report
 -- how far it is
 unfoldable pub progress_of : Player → Progress
 progress_of player = record { number = player.number; size = player.size; stand = stand_in player.stage player.streams }
+
+-- its machine keeps its composed part, so that a line composes only what descends from its changes
+unfoldable pub is_ready : Player → Type 0
+is_ready player = player.stage.machine.compiled ≡ true
 
 -- how many composed rules the expression of the first virtual switch has
 unfoldable pub rules_at : PolicyOf → Progress → ℕ

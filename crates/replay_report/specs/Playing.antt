@@ -16,7 +16,7 @@ use Rattle.replay_report.specs.Explaining.{asked}
 use Rattle.replay_report.specs.Sessions.{session_named, virtual_named}
 use Rattle.replay_report.specs.Cuts.{frames_of, is_short, rest_of}
 use Rattle.replay_report.specs.Streams.{fresh}
-use Rattle.replay_report.specs.Takings.{Done, as_line, behind, does, quietly}
+use Rattle.replay_report.specs.Takings.{Done, as_line, behind, counted, does, quietly}
 use Rattle.replay_report.specs.declared.sessions.Found.{Found}
 use Rattle.replay_report.specs.declared.streams.Stream.{Stream}
 
@@ -25,17 +25,22 @@ pub record Stand : Type 0 where
   pub state : State
   pub streams : List Stream
 
--- what was reported, and where the replay stands then
+-- what was reported, where the replay stands then, and how many steps of composition that takes at most
 pub record Played : Type 0 where
   pub text : List ℕ
   pub stand : Stand
+  pub steps : ℕ
 
 abbrev pub nothing : Stand → Played
-nothing stand = record { text = []; stand = stand }
+nothing stand = record { text = []; stand = stand; steps = 0 }
 
 -- what an event did to the state, beside streams
 abbrev pub with_streams : List Stream → Done → Played
-with_streams streams d = record { text = d.text; stand = record { state = d.state; streams = streams } }
+with_streams streams d = record {
+  text = d.text;
+  stand = record { state = d.state; streams = streams };
+  steps = d.steps;
+}
 
 -- a session in its present round
 abbrev pub present : State → Who → Session
@@ -43,7 +48,7 @@ present s who = record { who = who; round = round_of s who }
 
 -- one thing and then another
 abbrev pub then_do : Done → (State → Done) → Done
-then_do d next = behind d.text (next d.state)
+then_do d next = counted d.steps (behind d.text (next d.state))
 
 -- a session sends frames
 abbrev pub sends : PolicyOf → Who → List (List ℕ) → State → Done
@@ -58,14 +63,15 @@ goes p who s = does p (events.Gone (present s who)) s
 abbrev pub short_line : List ℕ → ℕ → List ℕ
 short_line name len = as_line (codes "short " ++ (name ++ (codes " " ++ decimal len)))
 
--- what was heard of a session: the report, the state, and the session's stream
+-- what was heard of a session: the report, the state, the session's stream, and how many steps that takes at most
 pub record Heard : Type 0 where
   pub text : List ℕ
   pub state : State
   pub stream : Stream
+  pub steps : ℕ
 
 abbrev pub heard : Stream → Done → Heard
-heard stream d = record { text = d.text; state = d.state; stream = stream }
+heard stream d = record { text = d.text; state = d.state; stream = stream; steps = d.steps }
 
 -- the stream behind frames, unless it shows a short length: then the session goes
 abbrev pub unless_short : Bool → PolicyOf → List ℕ → Who → List ℕ → Done → Heard
@@ -88,6 +94,7 @@ abbrev pub heard_at : ℕ → Stand → Heard → Played
 heard_at at stand h = record {
   text = h.text;
   stand = record { state = h.state; streams = slice_set stand.streams at h.stream };
+  steps = h.steps;
 }
 
 abbrev pub sent_by : PolicyOf → List ℕ → Found → List ℕ → Stand → Option Stream → Played
@@ -120,7 +127,7 @@ replaces p text stand v = happens p (events.Policy v text) stand
 
 -- a text is reported, and nothing happens
 abbrev pub says : Stand → List ℕ → Played
-says stand text = record { text = text; stand = stand }
+says stand text = record { text = text; stand = stand; steps = 0 }
 
 -- what a line does; None where the policy hasn't what it names
 abbrev pub line_does : PolicyOf → Line → Stand → Option Played

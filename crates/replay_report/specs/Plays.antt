@@ -1,7 +1,7 @@
 -- What a call leaves of a replay, beside what it is to do.
 use Rattle.std.specs.Prelude.{◌≡◌, Bool, true, false, List, [], ◌++◌, Option, Some, None, Result, Ok, Err}
 use Rattle.machine_drafts.specs.Machines.{MachineOf, state_of}
-use Rattle.replay_report.specs.Playing.{Played, Stand}
+use Rattle.replay_report.specs.Playing.{Played, Stand, nothing}
 use Rattle.replay_report.specs.declared.streams.Stream.{Stream}
 use Rattle.replay_report.specs.declared.telling.Stage.{Stage}
 
@@ -17,6 +17,6 @@ pub record HasPlayed (played : Played) (old new : Stage) (streams : List Stream)
 -- a line that names something unknown is not played
 abbrev pub Plays : Bool → Option Played → Stage → Stage → List Stream → List Stream → Type 0
 Plays true (Some played) old new before after = HasPlayed played old new after
-Plays false None old new before after = HasPlayed (record { text = []; stand = stand_in old before }) old new after
+Plays false None old new before after = HasPlayed (nothing (stand_in old before)) old new after
 Plays true None old new before after = ⊥
 Plays false (Some played) old new before after = ⊥

@@ -1,4 +1,4 @@
--- The report of a script, as one function of its bytes.
+-- The report of a script, as one function of its bytes; and how many steps of composition it takes at most.
 use Rattle.std.specs.Prelude.{◌≡◌, ℕ, ◌+◌, ◌==◌, List, [], ◌∷◌, ◌++◌, Option, Some, None, Result, Ok, Err, codes}
 use Rattle.std.specs.Prelude.{decimal, length, map, nat_lt, if◌then◌else◌}
 use Rattle.machine_meaning.specs.States.{opening}
@@ -130,3 +130,43 @@ cut_after rest at = cut_off at
 
 unfoldable pub cut_report_of : Form → PolicyOf → List ℕ → Report
 cut_report_of form p read = plays_from form p cut_after (start p) [] read
+
+-- ---- how many steps of composition that takes at most
+
+-- a line that isn't done takes none
+abbrev pub steps_in : Result Played Kind → ℕ
+steps_in (Err kind) = 0
+steps_in (Ok played) = played.steps
+
+-- a line, and what follows it where it is done
+abbrev pub steps_on : Result Played Kind → ℕ → Progress → (Progress → ℕ) → ℕ
+steps_on (Err kind) used at next = 0
+steps_on (Ok played) used at next = played.steps + next (further used at played.stand)
+
+-- whole lines, one after the other, and what follows them
+abbrev pub steps_of_lines : Form → PolicyOf → (Progress → ℕ) → Progress → List (List ℕ) → ℕ
+steps_of_lines form p ending at [] = ending at
+steps_of_lines form p ending at (line ∷ lines) =
+    steps_on (taken form p at line (length line + 1)) (length line + 1) at
+    (λ next. steps_of_lines form p ending next lines)
+
+-- a last line without a line feed, if it isn't empty
+abbrev pub steps_of_last : Form → PolicyOf → List ℕ → Progress → ℕ
+steps_of_last form p [] at = 0
+steps_of_last form p (byte ∷ line) at = steps_in (taken form p at (byte ∷ line) (length (byte ∷ line)))
+
+-- what follows the line so far
+abbrev pub steps_from : Form → PolicyOf → (List ℕ → Progress → ℕ) → Progress → List ℕ → List ℕ → ℕ
+steps_from form p ending at line bytes =
+    steps_of_lines form p (ending (unfinished line bytes)) at (whole_lines line bytes)
+
+-- a script
+unfoldable pub report_steps : Form → PolicyOf → List ℕ → ℕ
+report_steps form p script = steps_from form p (steps_of_last form p) (start p) [] script
+
+-- a script of which these bytes were read, and no more can be
+abbrev pub no_steps : List ℕ → Progress → ℕ
+no_steps rest at = 0
+
+unfoldable pub cut_report_steps : Form → PolicyOf → List ℕ → ℕ
+cut_report_steps form p read = steps_from form p no_steps (start p) [] read

@@ -1,6 +1,6 @@
 -- What waits for sessions and in the audit, and the report of it: all that waits after an event is taken, the audit's
 -- lines first, and then the messages of each session.
-use Rattle.std.specs.Prelude.{◌≡◌, ℕ, Bool, List, [], ◌∷◌, ◌++◌, Option, Some, None, if◌then◌else◌}
+use Rattle.std.specs.Prelude.{◌≡◌, ℕ, ◌+◌, Bool, List, [], ◌∷◌, ◌++◌, Option, Some, None, if◌then◌else◌}
 use Rattle.std.specs.List.{flat_map}
 use Rattle.std.specs.Option.{option_map_or}
 use Rattle.cv_io.specs.declared.leaf.Who.{Who}
@@ -8,6 +8,7 @@ use Rattle.cv_io.specs.declared.leaf.Who.TheVariants.{Member, Switch, Audit}
 use Rattle.events.specs.declared.event.Event.{Event}
 use Rattle.events.specs.declared.event.Reply.{Reply}
 use Rattle.events.specs.declared.event.Reply.TheVariants.{Taken}
+use Rattle.hyper_core.specs.Costs.{cost_of}
 use Rattle.machine_meaning.specs.Lists.{changed_at}
 use Rattle.machine_meaning.specs.Runs.{after}
 use Rattle.machine_meaning.specs.Sessions.{outbox_of}
@@ -57,17 +58,22 @@ message_lines name messages = flat_map (message_line name) messages
 abbrev pub audit_lines : List (List ℕ) → List ℕ
 audit_lines lines = flat_map as_line lines
 
--- what was reported, and the state then
+-- what was reported, the state then, and how many steps of composition that takes at most
 pub record Done : Type 0 where
   pub text : List ℕ
   pub state : State
+  pub steps : ℕ
 
 abbrev pub quietly : State → Done
-quietly s = record { text = []; state = s }
+quietly s = record { text = []; state = s; steps = 0 }
 
 -- a text is reported before
 abbrev pub behind : List ℕ → Done → Done
-behind text d = record { text = text ++ d.text; state = d.state }
+behind text d = record d { text = text ++ d.text }
+
+-- so many steps are taken before
+abbrev pub counted : ℕ → Done → Done
+counted n d = record d { steps = n + d.steps }
 
 -- all that waits for sessions is taken, one session after the other
 abbrev pub takes_of : List Named → State → Done
@@ -78,9 +84,9 @@ takes_of (x ∷ xs) s = behind (message_lines x.name (waits_for s x.who)) (takes
 abbrev pub takes_all : List Named → State → Done
 takes_all xs s = behind (audit_lines s.audit) (takes_of xs (emptied Audit s))
 
--- an event, and then all that waits is taken
+-- an event, and then all that waits is taken, which takes no step
 unfoldable pub does : PolicyOf → Event → State → Done
-does p e s = takes_all (sessions_of p) (after p s e)
+does p e s = counted (cost_of p s e) (takes_all (sessions_of p) (after p s e))
 
 -- what a reply hands over
 abbrev pub taken_in : Reply → Option (List ℕ)

@@ -1,5 +1,5 @@
 //! A replay, line by line.
-ghost use Rattle.std.specs.Prelude.{◌≡◌, ◌≤◌, ◌<◌, ◌+◌, ◌^◌, [], IfOk, length, map};
+ghost use Rattle.std.specs.Prelude.{◌≡◌, ◌≤◌, ◌<◌, ◌+◌, ◌^◌, [], IfOk, OnOk, length, map};
 ghost use Rattle.replay_report.specs.Kinds.{Reads};
 ghost use Rattle.replay_report.specs.Reports.{fresh_for};
 ghost use Rattle.script_text.specs.Reading.{line_in};
@@ -9,10 +9,11 @@ use crate::lines::play;
 use crate::sessions::{Named, sessions};
 use crate::streams::Stream;
 use crate::telling::Stage;
-use cv_io::{List, Memory};
+use cv_io::{List, Memory, Steps};
 use policy_file::Policy;
 use script_text::{Form, Line, read_line};
 use std::alloc::Global;
+use std::sync::ledger::Ledger;
 use std::thread::Threads;
 
 /// The most bytes of a line, without its line feed.
@@ -61,20 +62,26 @@ pub struct Player {
 }
 
 impl Player {
-    ghost use Rattle.replay_report.specs.Players.{Takes, form_of, plan_of, progress_of, reported, rules_at};
-    ghost use Rattle.replay_report.specs.Reports.{start, taken};
+    ghost use Rattle.replay_report.specs.Players.{Takes, form_of, is_ready, plan_of, progress_of, reported, rules_at};
+    ghost use Rattle.replay_report.specs.Reports.{start, steps_in, taken};
 
     /// A replay that begins.
-    #[tactic(auto, unfolding(crate::specs::Players::form_of, crate::specs::Players::plan_of, crate::specs::Players::reported, crate::specs::Players::progress_of))]
-    pub fn open(alloc: Global, form: Form, policy: Policy) -> Result<Player, Memory>
+    #[tactic(auto, unfolding(crate::specs::Players::form_of, crate::specs::Players::plan_of, crate::specs::Players::reported, crate::specs::Players::progress_of, crate::specs::Players::is_ready))]
+    pub fn open<R: Threads + Sync>(
+        rt: &R,
+        alloc: Global,
+        form: Form,
+        policy: Policy,
+    ) -> Result<Player, Memory>
         ensures form { IfOk result (λ player. form_of player ≡ form) }
         ensures plan { IfOk result (λ player. plan_of player ≡ policy) }
         ensures begins { IfOk result (λ player. progress_of player ≡ start policy) }
         ensures report { IfOk result (λ player. reported player ≡ []) }
+        ensures ready { IfOk result is_ready }
     {
         let names = sessions(alloc, &policy)?;
         let streams = streams(alloc, names.as_slice())?;
-        let stage = Stage::open(alloc, policy, names)?;
+        let stage = Stage::open(rt, alloc, policy, names)?;
         Ok(Player {
             form,
             stage,
@@ -107,12 +114,13 @@ impl Player {
     }
 
     /// What was reported is written.
-    #[tactic(auto, unfolding(crate::specs::Players::form_of, crate::specs::Players::plan_of, crate::specs::Players::reported, crate::specs::Players::progress_of))]
+    #[tactic(auto, unfolding(crate::specs::Players::form_of, crate::specs::Players::plan_of, crate::specs::Players::reported, crate::specs::Players::progress_of, crate::specs::Players::is_ready))]
     pub fn clear(&mut self)
         ensures report { reported self.new ≡ [] }
         ensures progress { progress_of self.new ≡ progress_of self.old }
         ensures form { form_of self.new ≡ form_of self.old }
         ensures plan { plan_of self.new ≡ plan_of self.old }
+        ensures ready { is_ready self.old → is_ready self.new }
     {
         self.stage.report.clear();
     }
@@ -125,21 +133,27 @@ impl Player {
         self.stage.machine.rules(0)
     }
 
-    /// Does a line, which takes so many bytes of the script, and reports what it does; or tells why it isn't done.
-    #[tactic(auto, unfolding(crate::specs::Players::form_of, crate::specs::Players::plan_of, crate::specs::Players::reported, crate::specs::Players::progress_of))]
-    pub fn line<R: Threads + Sync>(
+    /// Does a line, which takes so many bytes of the script, and reports what it does; or tells why it isn't done. The
+    /// steps of composition that it takes are counted.
+    #[tactic(auto, unfolding(crate::specs::Players::form_of, crate::specs::Players::plan_of, crate::specs::Players::reported, crate::specs::Players::progress_of, crate::specs::Players::is_ready))]
+    pub fn line<R: Threads + Sync, G: Ledger>(
         &mut self,
         rt: &R,
         line: &[u8],
         used: usize,
+        steps: &mut Steps<G>,
     ) -> Result<Option<Kind>, Memory>
         requires some { 1 ≤ used }
         requires short { used ≤ length line.now + 1 }
+        requires ready { is_ready self.old }
         ensures takes { IfOk result (λ refused. Takes refused (taken (form_of self.old) (plan_of self.old)
             (progress_of self.old) line.now used)
             used (progress_of self.old) (progress_of self.new) (reported self.old) (reported self.new)) }
         ensures form { form_of self.new ≡ form_of self.old }
         ensures plan { plan_of self.new ≡ plan_of self.old }
+        ensures ready { OnOk result (is_ready self.new) }
+        ensures steps { steps.new ≤ steps.old + steps_in (taken (form_of self.old) (plan_of self.old)
+            (progress_of self.old) line.now used) }
     {
         if line.len() > LINE {
             return Ok(Some(Kind::Long));
@@ -152,7 +166,7 @@ impl Player {
             Ok(said) => said,
             Err(kind) => return Ok(Some(kind)),
         };
-        if !play(rt, &mut self.stage, &mut self.streams, &said)? {
+        if !play(rt, &mut self.stage, &mut self.streams, &said, steps)? {
             return Ok(Some(Kind::Unknown));
         }
         self.number += 1;

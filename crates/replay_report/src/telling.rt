@@ -1,5 +1,6 @@
 //! An event, and the report of what it puts into outboxes and audit.
-ghost use Rattle.std.specs.Prelude.{◌≡◌, ◌<◌, ◌++◌, [], IfOk, OnErr, OnOk};
+ghost use Rattle.std.specs.Prelude.{◌≡◌, ◌≤◌, ◌+◌, ◌++◌, [], IfOk, OnOk, true};
+ghost use Rattle.hyper_core.specs.Costs.{cost_of};
 ghost use Rattle.machine_meaning.specs.States.{opening};
 ghost use Rattle.machine_meaning.specs.Steps.{step_of};
 ghost use Rattle.machine_drafts.specs.Machines.{state_of};
@@ -18,8 +19,7 @@ use hyper_core::Hyper;
 use policy_file::Policy;
 use script_text::report_line;
 use std::alloc::Global;
-use std::marker::Brand;
-use std::sync::ledger::{Blank, Ledger};
+use std::sync::ledger::Ledger;
 use std::thread::Threads;
 
 /// Appends a line.
@@ -40,62 +40,66 @@ fn message_in(reply: Reply) -> Option<Bytes>
     }
 }
 
-/// One step, with a counter of its own.
-fn step_on<R: Threads + Sync, G: Ledger>(
+/// One step, after which the composed part is still kept. An event that closes a session as slow or replaces an
+/// expression has it made anew; where there is no memory for that, this is want of memory too.
+fn step<R: Threads + Sync, G: Ledger>(
     rt: &R,
     machine: &mut Hyper,
     event: &Event,
-    blank: Blank,
+    steps: &mut Steps<G>,
 ) -> Result<Reply, Memory>
-    requires { (blank.name ≡ G.name) × (blank.parts ≡ G.parts) × (0 < blank.parts) }
+    requires compiled { machine.old.compiled ≡ true }
     ensures step { IfOk result (λ reply.
         (reply, state_of machine.new) ≡ step_of machine.old.plan (state_of machine.old) event.now) }
     ensures plan { machine.new.plan ≡ machine.old.plan }
-    ensures memory { OnErr result (state_of machine.new ≡ state_of machine.old) }
+    ensures compiled { OnOk result (machine.new.compiled ≡ true) }
+    ensures steps { steps.new ≤ steps.old + cost_of machine.old.plan (state_of machine.old) event.now }
 {
-    let mut steps = Steps::<G>::new(blank);
-    machine.step(rt, event, &mut steps)
-}
-
-/// One step. What it counts is dropped: the sum over a script isn't claimed yet.
-fn step_counted<R: Threads + Sync>(
-    rt: &R,
-    machine: &mut Hyper,
-    event: &Event,
-) -> Result<Reply, Memory>
-    ensures step { IfOk result (λ reply.
-        (reply, state_of machine.new) ≡ step_of machine.old.plan (state_of machine.old) event.now) }
-    ensures plan { machine.new.plan ≡ machine.old.plan }
-    ensures memory { OnErr result (state_of machine.new ≡ state_of machine.old) }
-{
-    step_on::<R, Brand>(rt, machine, event, Blank::new(1))
+    let reply = machine.step(rt, event, steps)?;
+    if machine.is_compiled() {
+        Ok(reply)
+    } else {
+        Err(Memory)
+    }
 }
 
 /// Takes what waits first for a session, or in the audit.
-fn take<R: Threads + Sync>(rt: &R, machine: &mut Hyper, who: Who) -> Result<Option<Bytes>, Memory>
+fn take<R: Threads + Sync, G: Ledger>(
+    rt: &R,
+    machine: &mut Hyper,
+    who: Who,
+    steps: &mut Steps<G>,
+) -> Result<Option<Bytes>, Memory>
+    requires compiled { machine.old.compiled ≡ true }
     ensures taken { IfOk result (λ taken. TakesFirst taken who (state_of machine.old) (state_of machine.new)) }
     ensures plan { machine.new.plan ≡ machine.old.plan }
+    ensures compiled { OnOk result (machine.new.compiled ≡ true) }
+    ensures steps { steps.new ≤ steps.old }
 {
     let session = Session {
         who,
         round: machine.round(who),
     };
-    let reply = step_counted(rt, machine, &Event::Take { session })?;
+    let reply = step(rt, machine, &Event::Take { session }, steps)?;
     Ok(message_in(reply))
 }
 
 /// Takes and reports all that waits in the audit.
-fn tell_audit<R: Threads + Sync>(
+fn tell_audit<R: Threads + Sync, G: Ledger>(
     rt: &R,
     machine: &mut Hyper,
     report: &mut Bytes,
+    steps: &mut Steps<G>,
 ) -> Result<(), Memory>
+    requires compiled { machine.old.compiled ≡ true }
     ensures report { OnOk result (report.new ≡ report.old ++ audit_lines (waits_for (state_of machine.old) Who.Audit)) }
     ensures state { OnOk result (state_of machine.new ≡ emptied Who.Audit (state_of machine.old)) }
     ensures plan { machine.new.plan ≡ machine.old.plan }
+    ensures compiled { OnOk result (machine.new.compiled ≡ true) }
+    ensures steps { steps.new ≤ steps.old }
 {
     loop {
-        let Some(line) = take(rt, machine, Who::Audit)? else {
+        let Some(line) = take(rt, machine, Who::Audit, steps)? else {
             return Ok(());
         };
         add_line(report, line.as_slice())?;
@@ -103,20 +107,24 @@ fn tell_audit<R: Threads + Sync>(
 }
 
 /// Takes and reports all that waits for a session.
-fn tell_session<R: Threads + Sync>(
+fn tell_session<R: Threads + Sync, G: Ledger>(
     rt: &R,
     alloc: Global,
     machine: &mut Hyper,
     session: &Named,
     report: &mut Bytes,
+    steps: &mut Steps<G>,
 ) -> Result<(), Memory>
+    requires compiled { machine.old.compiled ≡ true }
     ensures report { OnOk result (report.new
         ≡ report.old ++ message_lines session.now.name (waits_for (state_of machine.old) session.now.who)) }
     ensures state { OnOk result (state_of machine.new ≡ emptied session.now.who (state_of machine.old)) }
     ensures plan { machine.new.plan ≡ machine.old.plan }
+    ensures compiled { OnOk result (machine.new.compiled ≡ true) }
+    ensures steps { steps.new ≤ steps.old }
 {
     loop {
-        let Some(message) = take(rt, machine, session.who)? else {
+        let Some(message) = take(rt, machine, session.who, steps)? else {
             return Ok(());
         };
         let line = report_line(alloc, &session.name, message.as_slice())?;
@@ -125,20 +133,24 @@ fn tell_session<R: Threads + Sync>(
 }
 
 /// Takes and reports all that waits.
-fn tell<R: Threads + Sync>(
+fn tell<R: Threads + Sync, G: Ledger>(
     rt: &R,
     alloc: Global,
     machine: &mut Hyper,
     names: &[Named],
     report: &mut Bytes,
+    steps: &mut Steps<G>,
 ) -> Result<(), Memory>
+    requires compiled { machine.old.compiled ≡ true }
     ensures report { OnOk result (report.new ≡ report.old ++ (takes_all names.now (state_of machine.old)).text) }
     ensures state { OnOk result (state_of machine.new ≡ (takes_all names.now (state_of machine.old)).state) }
     ensures plan { machine.new.plan ≡ machine.old.plan }
+    ensures compiled { OnOk result (machine.new.compiled ≡ true) }
+    ensures steps { steps.new ≤ steps.old }
 {
-    tell_audit(rt, machine, report)?;
+    tell_audit(rt, machine, report, steps)?;
     for session in names {
-        tell_session(rt, alloc, machine, session, report)?;
+        tell_session(rt, alloc, machine, session, report, steps)?;
     }
     Ok(())
 }
@@ -155,14 +167,20 @@ pub struct Stage {
 
 impl Stage {
     /// The machine of a policy, as it opens, with the names of the policy's sessions.
-    pub(crate) fn open(alloc: Global, policy: Policy, names: List<Named>) -> Result<Stage, Memory>
+    pub(crate) fn open<R: Threads + Sync>(
+        rt: &R,
+        alloc: Global,
+        policy: Policy,
+        names: List<Named>,
+    ) -> Result<Stage, Memory>
         requires { names ≡ sessions_of policy }
         ensures plan { IfOk result (λ stage. stage.machine.plan ≡ policy) }
         ensures opening { IfOk result (λ stage. state_of stage.machine ≡ opening policy) }
         ensures names { IfOk result (λ stage. stage.names ≡ names) }
         ensures report { IfOk result (λ stage. stage.report ≡ []) }
+        ensures compiled { IfOk result (λ stage. stage.machine.compiled ≡ true) }
     {
-        let machine = Hyper::open(alloc, policy)?;
+        let machine = Hyper::open(rt, alloc, policy)?;
         Ok(Stage {
             alloc,
             machine,
@@ -220,21 +238,31 @@ impl Stage {
 
     /// An event happens, and what it puts into outboxes and audit is reported.
     #[tactic(auto, unfolding(crate::specs::Takings::does))]
-    pub(crate) fn happen<R: Threads + Sync>(&mut self, rt: &R, event: &Event) -> Result<(), Memory>
+    pub(crate) fn happen<R: Threads + Sync, G: Ledger>(
+        &mut self,
+        rt: &R,
+        event: &Event,
+        steps: &mut Steps<G>,
+    ) -> Result<(), Memory>
+        requires compiled { self.old.machine.compiled ≡ true }
         ensures report { OnOk result (self.new.report
             ≡ self.old.report ++ (does self.old.machine.plan event.now (state_of self.old.machine)).text) }
         ensures state { OnOk result (state_of self.new.machine
             ≡ (does self.old.machine.plan event.now (state_of self.old.machine)).state) }
         ensures plan { self.new.machine.plan ≡ self.old.machine.plan }
         ensures names { self.new.names ≡ self.old.names }
+        ensures compiled { OnOk result (self.new.machine.compiled ≡ true) }
+        ensures steps { steps.new
+            ≤ steps.old + (does self.old.machine.plan event.now (state_of self.old.machine)).steps }
     {
-        let _reply = step_counted(rt, &mut self.machine, event)?;
+        let _reply = step(rt, &mut self.machine, event, steps)?;
         tell(
             rt,
             self.alloc,
             &mut self.machine,
             self.names.as_slice(),
             &mut self.report,
+            steps,
         )
     }
 }
