@@ -69,10 +69,10 @@ follows-part form p old new at lines next w f g = record {
       ∙ f.goes ending rest;
   counts = λ ending rest.
       subst (λ (n : ℕ). new.steps + n ≤ old.steps + steps_from form p ending (start p) [] (f.read ++ rest))
-          (sym (ap (λ (x : List ℕ). steps_from form p ending at x (next.unread ++ rest)) g.1
-          ∙ ap (λ (x : List ℕ). steps_from form p ending at (lines.line ++ lines.unread) (x ++ rest)) g.2
-          ∙ part-counts form p ending at lines.line lines.unread rest g.0))
-          (f.counts ending rest);
+      (sym (ap (λ (x : List ℕ). steps_from form p ending at x (next.unread ++ rest)) g.1
+      ∙ ap (λ (x : List ℕ). steps_from form p ending at (lines.line ++ lines.unread) (x ++ rest)) g.2
+      ∙ part-counts form p ending at lines.line lines.unread rest g.0))
+      (f.counts ending rest);
 }
 
 -- what a line whose line feed is there does
@@ -123,13 +123,13 @@ follows-line form p old new held writes steps at at' lines next w w' f g d s =
           ∙ f.goes ending rest;
       counts = λ ending rest.
           line_after new.steps steps (steps_in (taken form p at next.line (length next.line + 1))) d.played.steps
-              (steps_from form p ending at' [] (next.unread ++ rest)) (steps_from form p ending at lines.line (lines.unread ++ rest))
-              (old.steps + steps_from form p ending (start p) [] (f.read ++ rest))
-              s
-              (ap steps_in d.is)
-              (line-done form p ending at lines next rest d.played g d.is
-              ∙ ap (λ (x : Progress). d.played.steps + steps_from form p ending x [] (next.unread ++ rest)) (sym d.progress))
-              (f.counts ending rest);
+          (steps_from form p ending at' [] (next.unread ++ rest)) (steps_from form p ending at lines.line (lines.unread ++ rest))
+          (old.steps + steps_from form p ending (start p) [] (f.read ++ rest))
+          s
+          (ap steps_in d.is)
+          (line-done form p ending at lines next rest d.played g d.is
+          ∙ ap (λ (x : Progress). d.played.steps + steps_from form p ending x [] (next.unread ++ rest)) (sym d.progress))
+          (f.counts ending rest);
     }
 
 -- what waited was written, and more was read
@@ -149,14 +149,14 @@ follows-read form p old new next at lines more w f none a g same steps = record 
       ∙ ap (plays_from form p ending (start p) []) (sym (append_assoc f.read more.unread rest));
   counts = λ ending rest.
       subst (λ (n : ℕ). n + steps_from form p ending at more.line (more.unread ++ rest) ≤ old.steps + steps_from form p ending (start p) [] ((f.read ++ more.unread) ++ rest))
-          (sym steps)
-          (subst (λ (x : List ℕ). new.steps + steps_from form p ending at x (more.unread ++ rest) ≤ old.steps + steps_from form p ending (start p) [] ((f.read ++ more.unread) ++ rest))
-          (sym same)
-          (subst (λ (x : List ℕ). new.steps + steps_from form p ending at lines.line (more.unread ++ rest) ≤ old.steps + steps_from form p ending (start p) [] x)
-          (sym (append_assoc f.read more.unread rest))
-          (subst (λ (x : List ℕ). new.steps + steps_from form p ending at lines.line (x ++ (more.unread ++ rest)) ≤ old.steps + steps_from form p ending (start p) [] (f.read ++ (more.unread ++ rest)))
-          none
-          (f.counts ending (more.unread ++ rest)))));
+      (sym steps)
+      (subst (λ (x : List ℕ). new.steps + steps_from form p ending at x (more.unread ++ rest) ≤ old.steps + steps_from form p ending (start p) [] ((f.read ++ more.unread) ++ rest))
+      (sym same)
+      (subst (λ (x : List ℕ). new.steps + steps_from form p ending at lines.line (more.unread ++ rest) ≤ old.steps + steps_from form p ending (start p) [] x)
+      (sym (append_assoc f.read more.unread rest))
+      (subst (λ (x : List ℕ). new.steps + steps_from form p ending at lines.line (x ++ (more.unread ++ rest)) ≤ old.steps + steps_from form p ending (start p) [] (f.read ++ (more.unread ++ rest)))
+      none
+      (f.counts ending (more.unread ++ rest)))));
 }
 
 -- ---- where a replay ends
