@@ -2,7 +2,7 @@
 use Rattle.std.proofs.Common.{◌≡◌, ◌≤◌, ◌<◌, ◌∙◌, ℕ, zero, suc, ◌+◌, List, [], ◌∷◌, Option, Some, None, Result, Ok, Err}
 use Rattle.std.specs.Prelude.{IfOk}
 use Rattle.std.specs.Result.{IsErr}
-use Rattle.std.proofs.Common.{ap, arith, length, length-append, refl, subst}
+use Rattle.std.proofs.Common.{ap, arith, length, length-append, refl, subst, sym}
 use Rattle.made_script.specs.Drawing.{after, start as start_number}
 use Rattle.made_script.specs.Script.{lines_behind, made, opening}
 use Rattle.made_script.specs.declared.summary.Summary.{Summary}
@@ -10,15 +10,15 @@ use Rattle.policy_file.specs.Policies.{PolicyOf}
 use Rattle.policy_file.specs.declared.fault.PolicyFault.{PolicyFault}
 use Rattle.replay_report.specs.Players.{Takes, form_of, plan_of, progress_of, reported, rules_at}
 use Rattle.replay_report.specs.Playing.{Played}
-use Rattle.replay_report.specs.Reports.{Progress, further, start, taken}
+use Rattle.replay_report.specs.Reports.{Progress, further, start, steps_in, taken}
 use Rattle.replay_report.specs.declared.kind.Kind.{Kind}
 use Rattle.replay_report.specs.declared.player.Player.{Player}
 use Rattle.script_text.specs.declared.form.Form.{Form}
 use Rattle.script_text.specs.declared.form.Form.TheVariants.{Replay}
 use Rattle.make_report.specs.Bench.{IsBench, bench_read}
 use Rattle.make_report.specs.Counting.{counted, counted_unless, nothing}
-use Rattle.make_report.specs.Making.{Stepped, Tally, after_line, after_lines, first, made_of, summary_in, summary_over}
-use Rattle.make_report.specs.Making.{tally_of, with_line}
+use Rattle.make_report.specs.Making.{Stepped, Tally, after_line, after_lines, first, line_steps, lines_steps, made_of}
+use Rattle.make_report.specs.Making.{made_steps, script_steps, steps_over, summary_in, summary_over, tally_of, with_line}
 use Rattle.make_report.specs.declared.counting.Counts.{Counts}
 
 -- after an error nothing is owed of the value
@@ -87,6 +87,17 @@ line_counted refused old new after n m line report steps told counts stands =
     ∙ with_read refused (taken Replay (plan_of old) (progress_of old) line (length line + 1))
     (progress_of old) (progress_of new) n line (reported new) steps
 
+-- its steps, as they were counted
+pub line_counts : (player : Player) (line : List ℕ) (used old new : ℕ) → form_of player ≡ Replay → used ≡ length line + 1
+    → new ≤ old + steps_in (taken (form_of player) (plan_of player) (progress_of player) line used)
+    → new ≤ old + line_steps (plan_of player) (progress_of player) line
+unfolding line_steps
+line_counts player line used old new replays long counted =
+    let p = plan_of player in
+    let at = progress_of player in
+    subst (λ (k : ℕ). new ≤ old + steps_in (taken Replay p at line k)) long
+    (subst (λ (f : Form). new ≤ old + steps_in (taken f p at line used)) replays counted)
+
 -- ---- all lines
 
 -- the next line of a script is done
@@ -95,6 +106,45 @@ pub line_on : (p q : PolicyOf) (t u : Tally) (line bytes : List ℕ) (lines rest
     → after_lines q u rest ≡ after_lines p t lines
 unfolding after_lines
 line_on p q t u line bytes lines rest next read done same = rw (next, done, same, read) refl
+
+-- the steps of a line, and of those that are left, are within those of all
+pub line_within : (p : PolicyOf) (player : Player) (n : Counts) (line bytes : List ℕ) (lines rest : List (List ℕ))
+    (old new all : ℕ) → lines ≡ line ∷ rest → bytes ≡ line
+    → new ≤ old + line_steps p (progress_of player) bytes → old + lines_steps p (tally_of player n) lines ≤ all
+    → new ≤ all
+unfolding tally_of
+line_within p player n line bytes lines rest old new all next read counted within =
+    let t = tally_of player n in
+    let here : line_steps p (progress_of player) bytes ≡ line_steps p (progress_of player) line =
+    ap (line_steps p (progress_of player)) read in
+    let whole : lines_steps p t lines
+    ≡ line_steps p (progress_of player) line + lines_steps p (after_line p t line) rest =
+    ap (lines_steps p t) next in
+    omega (arith, here, whole, counted, within)
+
+pub line_sums : (p q : PolicyOf) (player : Player) (n : Counts) (u : Tally) (line bytes : List ℕ)
+    (lines rest : List (List ℕ)) (old new all : ℕ) → lines ≡ line ∷ rest → bytes ≡ line
+    → u ≡ after_line p (tally_of player n) bytes → q ≡ p → new ≤ old + line_steps p (progress_of player) bytes
+    → old + lines_steps p (tally_of player n) lines ≤ all → new + lines_steps q u rest ≤ all
+unfolding tally_of
+line_sums p q player n u line bytes lines rest old new all next read done same counted within =
+    let t = tally_of player n in
+    let here : line_steps p (progress_of player) bytes ≡ line_steps p (progress_of player) line =
+    ap (line_steps p (progress_of player)) read in
+    let whole : lines_steps p t lines
+    ≡ line_steps p (progress_of player) line + lines_steps p (after_line p t line) rest =
+    ap (lines_steps p t) next in
+    let then : u ≡ after_line p t line = done ∙ ap (after_line p t) read in
+    let left : lines_steps q u rest ≡ lines_steps p (after_line p t line) rest =
+    (λ i. lines_steps (same i) (then i) rest) in
+    omega (arith, here, whole, left, counted, within)
+
+-- what was counted so far is within what is to be
+pub so_far : (n old new all : ℕ) → new ≤ old → old + n ≤ all → new ≤ all
+so_far n old new all a b = omega (arith, a, b)
+
+pub none_counted : (n old : ℕ) → old ≤ old + n
+none_counted n old = omega arith
 
 pub shorter : (line : List ℕ) (lines rest : List (List ℕ)) → lines ≡ line ∷ rest → length rest < length lines
 shorter line lines rest next = rw next (omega arith)
@@ -167,6 +217,24 @@ over_policy read p lines e = rw e refl
 pub of_bench : (p : PolicyOf) (seed n : ℕ) → IsBench p → summary_in p (made seed n) ≡ made_of seed n
 unfolding made_of
 of_bench p seed n bench = over_policy bench_read p (made seed n) bench
+
+-- the steps of a script, as they were counted
+pub script_counts : (p : PolicyOf) (t : Tally) (lines : List (List ℕ)) (old new : ℕ) → t ≡ first p
+    → new ≤ old + lines_steps p t lines → new ≤ old + script_steps p lines
+unfolding script_steps
+script_counts p t lines old new begins counted =
+    subst (λ (u : Tally). new ≤ old + lines_steps p u lines) begins counted
+
+steps_over_policy : (read : Result PolicyOf PolicyFault) (p : PolicyOf) (lines : List (List ℕ)) → read ≡ Ok p
+    → script_steps p lines ≡ steps_over read lines
+steps_over_policy read p lines e = rw e refl
+
+pub bench_counts : (p : PolicyOf) (seed n : ℕ) (lines : List (List ℕ)) (old new : ℕ) → IsBench p → lines ≡ made seed n
+    → new ≤ old + script_steps p lines → new ≤ old + made_steps seed n
+unfolding made_steps
+bench_counts p seed n lines old new bench same counted =
+    subst (λ (k : ℕ). new ≤ old + k)
+    (ap (script_steps p) same ∙ steps_over_policy bench_read p (made seed n) bench) counted
 
 pub lines_told : {E : Type 0} (answer : Result Summary E) (s : Summary) (n : ℕ) → IfOk answer (λ summary. summary ≡ s)
     → s.lines ≡ n → IfOk answer (λ summary. summary.lines ≡ n)

@@ -45,12 +45,12 @@ unfoldable pub after_lines : PolicyOf → Tally → List (List ℕ) → Tally
 after_lines p t lines = fold (after_line p) t lines
 
 -- how many steps of composition a line takes at most, and lines that are done one after the other
-unfoldable pub line_steps : PolicyOf → Tally → List ℕ → ℕ
-line_steps p t line = steps_in (taken Replay p t.progress line (length line + 1))
+unfoldable pub line_steps : PolicyOf → Progress → List ℕ → ℕ
+line_steps p at line = steps_in (taken Replay p at line (length line + 1))
 
 abbrev pub lines_steps : PolicyOf → Tally → List (List ℕ) → ℕ
 lines_steps p t [] = 0
-lines_steps p t (line ∷ lines) = line_steps p t line + lines_steps p (after_line p t line) lines
+lines_steps p t (line ∷ lines) = line_steps p t.progress line + lines_steps p (after_line p t line) lines
 
 -- nothing was done
 unfoldable pub first : PolicyOf → Tally

@@ -2,7 +2,7 @@
 //! the definitions of the machine.
 ghost use Rattle.std.specs.Prelude.{◌≡◌, ◌≤◌, ◌+◌, [], IfOk, OnOk, length};
 ghost use Rattle.script_text.specs.declared.form.Form.TheVariants.{Replay};
-ghost use Rattle.replay_report.specs.Players.{form_of, is_ready, plan_of, reported};
+ghost use Rattle.replay_report.specs.Players.{form_of, is_ready, plan_of, progress_of, reported};
 ghost use Rattle.make_report.specs.Counting.{counted_unless, nothing};
 ghost use Rattle.make_report.specs.Making.{Stepped, after_line, after_lines, first, line_steps, lines_steps, made_of};
 ghost use Rattle.make_report.specs.Making.{made_steps, script_steps, summary_in, tally_of};
@@ -52,7 +52,7 @@ fn do_line<R: Threads + Sync, G: Ledger>(
     ensures form { form_of player.new ≡ form_of player.old }
     ensures plan { plan_of player.new ≡ plan_of player.old }
     ensures ready { OnOk result (is_ready player.new) }
-    ensures steps { steps.new ≤ steps.old + line_steps (plan_of player.old) (tally_of player.old nothing) line.now }
+    ensures steps { steps.new ≤ steps.old + line_steps (plan_of player.old) (progress_of player.old) line.now }
 {
     player.line(rt, line, used(line), steps)
 }
@@ -93,8 +93,7 @@ fn play_line<R: Threads + Sync, G: Ledger>(
     ensures plan { OnOk result (plan_of player.new ≡ plan_of player.old) }
     ensures report { OnOk result (reported player.new ≡ []) }
     ensures ready { OnOk result (is_ready player.new) }
-    ensures steps { steps.new
-        ≤ steps.old + line_steps (plan_of player.old) (tally_of player.old counts.old) line.now }
+    ensures steps { steps.new ≤ steps.old + line_steps (plan_of player.old) (progress_of player.old) line.now }
 {
     let refused = do_line(rt, player, line, steps)?;
     count_line(counts, line, refused, player.report())?;

@@ -38,12 +38,12 @@ use Rattle.machine_meaning.specs.Sound.{HasNumbers}
 use Rattle.machine_meaning.specs.States.{State}
 use Rattle.replay_report.specs.Cuts.{frames_of, is_short, rest_of}
 use Rattle.replay_report.specs.Explaining.{asked}
-use Rattle.replay_report.specs.Playing.{Heard, Played, Stand, comes_up, goes, happens, heard_of, hears, leaves}
+use Rattle.replay_report.specs.Playing.{Heard, Played, Stand, comes_up, goes, happens, heard, heard_of, hears, leaves}
 use Rattle.replay_report.specs.Playing.{line_does, present, replaces, says, sends, sent, sent_by, short_line}
 use Rattle.replay_report.specs.Playing.{tells_arp, unless_short}
 use Rattle.replay_report.specs.Streams.{fresh}
 use Rattle.replay_report.specs.Sessions.{found_from, session_named, sessions_of, virtual_from, virtual_named}
-use Rattle.replay_report.specs.Takings.{Done, does}
+use Rattle.replay_report.specs.Takings.{Done, does, quietly}
 use Rattle.replay_report.specs.declared.sessions.Found.{Found}
 use Rattle.replay_report.specs.declared.sessions.Named.{Named}
 use Rattle.replay_report.specs.declared.streams.Stream.{Stream}
@@ -222,8 +222,8 @@ module _ (l : AreLaws) (p : PolicyOf) (policy : IsSound p) (few : HasFewVirtuals
       frames = frames_of all
 
       by : (b : Bool)
-          → HasNumbers (if b then record { text = []; state = s; stream = stream } else heard_of p name who all s).state
-          → IsHeardDone s (if b then record { text = []; state = s; stream = stream } else heard_of p name who all s)
+          → HasNumbers (if b then heard stream (quietly s) else heard_of p name who all s).state
+          → IsHeardDone s (if b then heard stream (quietly s) else heard_of p name who all s)
       by true left = (nothing_done p s idle, kept)
       by false left =
           unless_done (is_short (rest_of all)) name word who (rest_of all) (each_rest (length all) all each_all) s

@@ -21,11 +21,11 @@ use Rattle.machine_meaning.specs.Sound.{HasNumbers, IsSoundState}
 use Rattle.machine_meaning.specs.States.{State, SwitchOf, new_switch, opening}
 use Rattle.replay_report.specs.Cuts.{frames_of, is_short, rest_of}
 use Rattle.replay_report.specs.Explaining.{asked}
-use Rattle.replay_report.specs.Playing.{Played, Stand, comes_up, heard_of, hears, leaves, line_does, present, replaces}
-use Rattle.replay_report.specs.Playing.{says, sends, sent, sent_by, unless_short}
+use Rattle.replay_report.specs.Playing.{Played, Stand, comes_up, heard, heard_of, hears, leaves, line_does, present}
+use Rattle.replay_report.specs.Playing.{replaces, says, sends, sent, sent_by, unless_short}
 use Rattle.replay_report.specs.Reports.{fresh_for, start}
 use Rattle.replay_report.specs.Sessions.{session_named, sessions_of, virtual_named}
-use Rattle.replay_report.specs.Takings.{Done, does}
+use Rattle.replay_report.specs.Takings.{Done, does, quietly}
 use Rattle.replay_report.specs.declared.sessions.Found.{Found}
 use Rattle.replay_report.specs.declared.sessions.Named.{Named}
 use Rattle.replay_report.specs.declared.streams.Stream.{Stream}
@@ -76,7 +76,7 @@ module _ (p : PolicyOf) where
       all = stream.framer ++ bytes
 
       by : (b : Bool)
-          → IsLater s (if b then record { text = []; state = s; stream = stream } else heard_of p name who all s).state
+          → IsLater s (if b then heard stream (quietly s) else heard_of p name who all s).state
       by true = later_still s
       by false =
           later_unless (is_short (rest_of all)) name who (rest_of all) s (sends p who (frames_of all) s)

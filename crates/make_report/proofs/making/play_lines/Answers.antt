@@ -1,11 +1,18 @@
-use Rattle.std.proofs.Common.{◌∙◌, refl}
+use Rattle.std.proofs.Common.{◌∙◌, ◌+◌, arith, refl}
 use Rattle.replay_report.specs.Players.{plan_of}
-use Rattle.make_report.specs.Making.{tally_of}
-use Rattle.make_report.proofs.Stepping.{at_end, line_on, shorter, unowed}
+use Rattle.make_report.specs.Making.{lines_steps, tally_of}
+use Rattle.make_report.proofs.Stepping.{at_end, line_on, line_sums, line_within, shorter, so_far, unowed}
 use Rattle.make_report.proofs.making.play_lines.Goals as goal
 
 pub loop-line-init : goal.loop-line-init
-loop-line-init g c = record { tally = refl; plan = refl; form = c.requires.form; report = c.requires.report }
+loop-line-init g c = record {
+  tally = refl;
+  plan = refl;
+  form = c.requires.form;
+  report = c.requires.report;
+  ready = c.requires.ready;
+  steps = omega arith;
+}
 
 -- the last line was done
 pub returns-in_default-clause-tally : goal.returns-in_default-clause-tally
@@ -17,12 +24,19 @@ returns-in_default-clause-tally g c =
 pub returns-in_default-clause-plan : goal.returns-in_default-clause-plan
 returns-in_default-clause-plan g c = c.loop-line.invariant.plan
 
+pub returns-in_default-clause-steps : goal.returns-in_default-clause-steps
+returns-in_default-clause-steps g c =
+    so_far _ c.loop-line.steps c.loop-line.steps _ (omega arith) c.loop-line.invariant.steps
+
 -- one more line
 pub play_line-requires-clause-form : goal.play_line-requires-clause-form
 play_line-requires-clause-form g c ks lives = c.loop-line.invariant.form
 
 pub play_line-requires-clause-report : goal.play_line-requires-clause-report
 play_line-requires-clause-report g c ks lives = c.loop-line.invariant.report
+
+pub play_line-requires-clause-ready : goal.play_line-requires-clause-ready
+play_line-requires-clause-ready g c ks lives = c.loop-line.invariant.ready
 
 pub loop-line-preserved : goal.loop-line-preserved
 loop-line-preserved g c =
@@ -39,6 +53,12 @@ loop-line-preserved g c =
       plan = c.in_ok-play_line.ensures.plan ∙ c.loop-line.invariant.plan;
       form = c.in_ok-play_line.ensures.form;
       report = c.in_ok-play_line.ensures.report;
+      ready = c.in_ok-play_line.ensures.ready;
+      steps =
+          line_sums (plan_of old) (plan_of new) old c.loop-line.counts (tally_of new c.play_line.new.counts)
+          c.in-Some.line line c.loop-line.script c.next.new.self c.loop-line.steps c.play_line.new.steps _
+          next c.as_bytes.ensures.bytes c.in_ok-play_line.ensures.tally c.in_ok-play_line.ensures.plan
+          c.play_line.ensures.steps c.loop-line.invariant.steps;
     }
 
 pub loop-line-smaller : goal.loop-line-smaller
@@ -53,6 +73,10 @@ returns-in_err-line-clause-tally g c = unowed c.from_residual.result _ c.from_re
 pub returns-in_err-line-clause-plan : goal.returns-in_err-line-clause-plan
 returns-in_err-line-clause-plan g c = unowed c.from_residual.result _ c.from_residual.ensures.0
 
+pub returns-in_err-line-clause-steps : goal.returns-in_err-line-clause-steps
+returns-in_err-line-clause-steps g c =
+    so_far _ c.loop-line.steps c.loop-line.steps _ (omega arith) c.loop-line.invariant.steps
+
 pub returns-in_err-play_line-clause-tally : goal.returns-in_err-play_line-clause-tally
 returns-in_err-play_line-clause-tally g c =
     unowed c.from_residual-in_err-play_line.result _ c.from_residual-in_err-play_line.ensures.0
@@ -60,3 +84,11 @@ returns-in_err-play_line-clause-tally g c =
 pub returns-in_err-play_line-clause-plan : goal.returns-in_err-play_line-clause-plan
 returns-in_err-play_line-clause-plan g c =
     unowed c.from_residual-in_err-play_line.result _ c.from_residual-in_err-play_line.ensures.0
+
+pub returns-in_err-play_line-clause-steps : goal.returns-in_err-play_line-clause-steps
+returns-in_err-play_line-clause-steps g c =
+    let old = c.loop-line.player in
+    let next = rw c.in-Some.is at c.in_ok-line.ensures.line in
+    line_within (plan_of old) old c.loop-line.counts c.in-Some.line c.as_bytes.result.now c.loop-line.script
+    c.next.new.self c.loop-line.steps c.play_line.new.steps _ next c.as_bytes.ensures.bytes c.play_line.ensures.steps
+    c.loop-line.invariant.steps
