@@ -7,8 +7,8 @@ use Rattle.replay_report.specs.Playing.{Played}
 use Rattle.replay_report.specs.Reports.{Progress, cut_report_steps, further, no_steps, report_steps, start, steps_from, steps_in}
 use Rattle.replay_report.specs.Reports.{steps_of_last, steps_of_lines, steps_on, taken, unfinished, whole_lines}
 use Rattle.replay_report.specs.declared.kind.Kind.{Kind}
-use Rattle.replay_report.proofs.Followed.{behind_feed, line_at}
-use Rattle.replay_report.proofs.Splitting.{before, part_lines, part_rest, rest_at, whole_at}
+use Rattle.replay_report.proofs.Followed.{line_at}
+use Rattle.replay_report.proofs.Summing.{whole_sums, whole_within}
 use Rattle.script_text.specs.declared.form.Form.{Form}
 use Rattle.covisor_proxy.specs.Chunks.{GoesOn, LinesOf}
 use Rattle.covisor_proxy.specs.Outcomes.{Counts, Moment}
@@ -18,54 +18,33 @@ use Rattle.covisor_proxy.specs.declared.lines.Taken.TheVariants.{Whole}
 pub none-counted : (n : ℕ) (old new : Moment) → new.steps ≡ old.steps → Counts n old new
 none-counted n old new e = omega (arith, e)
 
--- a line takes at most what it and what follows it take
-in_on : (r : Result Played Kind) (used : ℕ) (at : Progress) (next : Progress → ℕ) → steps_in r ≤ steps_on r used at next
-in_on (Err kind) used at next = omega arith
-in_on (Ok played) used at next = omega arith
-
+-- a line, where what follows takes less
 on_less : (r : Result Played Kind) (used : ℕ) (at : Progress) (f g : Progress → ℕ) → ((x : Progress) → f x ≤ g x) → steps_on r used at f ≤ steps_on r used at g
 on_less (Err kind) used at f g h = omega arith
 on_less (Ok played) used at f g h = omega (arith, h (further used at played.stand))
 
 -- ---- a line
 
--- a line is there: the steps are those of it and of what follows it
-whole_counts : (form : Form) (p : PolicyOf) (ending : List ℕ → Progress → ℕ) (at : Progress) (line bytes more : List ℕ) → before bytes < length bytes →
-    steps_from form p ending at line (bytes ++ more)
-    ≡ steps_on (taken form p at (line_at line bytes) (length (line_at line bytes) + 1)) (length (line_at line bytes) + 1) at (λ next. steps_from form p ending next [] (behind_feed bytes ++ more))
-whole_counts form p ending at line bytes more h =
-    (λ i. steps_of_lines form p (ending (rest_at line bytes more h i)) at (whole_at line bytes more h i))
-
--- a part of a line is there
-pub part-counts : (form : Form) (p : PolicyOf) (ending : List ℕ → Progress → ℕ) (at : Progress) (line bytes more : List ℕ) → length bytes ≤ before bytes →
-    steps_from form p ending at (line ++ bytes) more ≡ steps_from form p ending at line (bytes ++ more)
-part-counts form p ending at line bytes more h =
-    sym (λ i. steps_of_lines form p (ending (part_rest line bytes more h i)) at (part_lines line bytes more h i))
-
-line_counts : (form : Form) (p : PolicyOf) (ending : List ℕ → Progress → ℕ) (at : Progress) (lines next : LinesOf) (rest : List ℕ) → GoesOn Whole lines next →
-    steps_from form p ending at lines.line (lines.unread ++ rest)
-    ≡ steps_on (taken form p at next.line (length next.line + 1)) (length next.line + 1) at (λ x. steps_from form p ending x [] (next.unread ++ rest))
-line_counts form p ending at lines next rest g =
-    whole_counts form p ending at lines.line lines.unread rest g.0
-    ∙ ap (λ (x : List ℕ). steps_on (taken form p at x (length x + 1)) (length x + 1) at (λ y. steps_from form p ending y [] (behind_feed lines.unread ++ rest))) (sym g.1)
-    ∙ ap (λ (x : List ℕ). steps_on (taken form p at next.line (length next.line + 1)) (length next.line + 1) at (λ y. steps_from form p ending y [] (x ++ rest))) (sym g.2)
-
 -- a line whose line feed is there takes at most what the script takes from it on
-pub line-most : (form : Form) (p : PolicyOf) (ending : List ℕ → Progress → ℕ) (at : Progress) (lines next : LinesOf) (rest : List ℕ) → GoesOn Whole lines next →
-    steps_in (taken form p at next.line (length next.line + 1)) ≤ steps_from form p ending at lines.line (lines.unread ++ rest)
+pub line-most : (form : Form) (p : PolicyOf) (ending : List ℕ → Progress → ℕ) (at : Progress) (lines next : LinesOf) (rest : List ℕ) → GoesOn Whole lines next
+    → steps_in (taken form p at next.line (length next.line + 1)) ≤ steps_from form p ending at lines.line (lines.unread ++ rest)
 line-most form p ending at lines next rest g =
-    let what = taken form p at next.line (length next.line + 1) in
-    subst (λ (n : ℕ). steps_in what ≤ n) (sym (line_counts form p ending at lines next rest g))
-    (in_on what (length next.line + 1) at (λ x. steps_from form p ending x [] (next.unread ++ rest)))
+    subst (λ (x : List ℕ). steps_in (taken form p at x (length x + 1)) ≤ steps_from form p ending at lines.line (lines.unread ++ rest)) (sym g.1)
+    (whole_within form p ending at lines.line lines.unread rest g.0)
 
 -- it is done: what follows takes the others
 pub line-done : (form : Form) (p : PolicyOf) (ending : List ℕ → Progress → ℕ) (at : Progress) (lines next : LinesOf) (rest : List ℕ) (played : Played)
-    → GoesOn Whole lines next → taken form p at next.line (length next.line + 1) ≡ Ok played →
-    steps_from form p ending at lines.line (lines.unread ++ rest)
-    ≡ played.steps + steps_from form p ending (further (length next.line + 1) at played.stand) [] (next.unread ++ rest)
+    → GoesOn Whole lines next → taken form p at next.line (length next.line + 1) ≡ Ok played
+    → played.steps + steps_from form p ending (further (length next.line + 1) at played.stand) [] (next.unread ++ rest)
+    ≡ steps_from form p ending at lines.line (lines.unread ++ rest)
 line-done form p ending at lines next rest played g t =
-    line_counts form p ending at lines next rest g
-    ∙ ap (λ (r : Result Played Kind). steps_on r (length next.line + 1) at (λ x. steps_from form p ending x [] (next.unread ++ rest))) t
+    subst (λ (x : List ℕ). taken form p at x (length x + 1) ≡ Ok played
+    → played.steps + steps_from form p ending (further (length x + 1) at played.stand) [] (next.unread ++ rest)
+    ≡ steps_from form p ending at lines.line (lines.unread ++ rest))
+    (sym g.1)
+    (λ e. ap (λ (x : List ℕ). played.steps + steps_from form p ending (further (length (line_at lines.line lines.unread) + 1) at played.stand) [] (x ++ rest)) g.2
+    ∙ whole_sums form p ending at lines.line lines.unread rest played g.0 e)
+    t
 
 -- ---- a script
 

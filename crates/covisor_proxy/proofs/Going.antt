@@ -12,6 +12,7 @@ use Rattle.replay_report.specs.declared.kind.Kind.{Kind}
 use Rattle.replay_report.specs.declared.kind.Kind.TheVariants.{Long}
 use Rattle.replay_report.proofs.Followed.{behind_feed, line_at, long_refused, part_goes_on, whole_done, whole_refused}
 use Rattle.replay_report.proofs.Splitting.{before}
+use Rattle.replay_report.proofs.Summing.{part_counts}
 use Rattle.script_text.specs.declared.form.Form.{Form}
 use Rattle.covisor_proxy.specs.Asked.{cut_given_of, given_of}
 use Rattle.covisor_proxy.specs.Chunks.{Gave, GoesOn, IsAtEnd, LinesOf}
@@ -20,7 +21,7 @@ use Rattle.covisor_proxy.specs.Outcomes.{Begins, Counts, Moment, bytes_of, momen
 use Rattle.covisor_proxy.specs.Written.{Appends, AppendsSome}
 use Rattle.covisor_proxy.specs.declared.lines.Taken.TheVariants.{Whole, Part}
 use Rattle.covisor_proxy.proofs.Appending.{appends_both, appends_none, some_after, some_more}
-use Rattle.covisor_proxy.proofs.Counting.{cut-steps-are, line-done, line-most, part-counts, steps-are}
+use Rattle.covisor_proxy.proofs.Counting.{cut-steps-are, line-done, line-most, steps-are}
 use Rattle.covisor_proxy.proofs.Reading.{gave-both, gave-none, rest_in, script-is}
 
 -- a text before another
@@ -71,7 +72,7 @@ follows-part form p old new at lines next w f g = record {
       subst (λ (n : ℕ). new.steps + n ≤ old.steps + steps_from form p ending (start p) [] (f.read ++ rest))
       (sym (ap (λ (x : List ℕ). steps_from form p ending at x (next.unread ++ rest)) g.1
       ∙ ap (λ (x : List ℕ). steps_from form p ending at (lines.line ++ lines.unread) (x ++ rest)) g.2
-      ∙ part-counts form p ending at lines.line lines.unread rest g.0))
+      ∙ part_counts form p ending at lines.line lines.unread rest g.0))
       (f.counts ending rest);
 }
 
@@ -97,7 +98,7 @@ refused_onward form p ending at lines next rest kind g t =
     (subst (λ (x : List ℕ). taken form p at x (length x + 1) ≡ Err kind) g.1 t))
 
 -- the steps of a line that was done come before those that follow it
-line_after : (before steps line played after here most : ℕ) → steps ≤ before + line → line ≡ played → here ≡ played + after → before + here ≤ most
+line_after : (before steps line played after here most : ℕ) → steps ≤ before + line → line ≡ played → played + after ≡ here → before + here ≤ most
     → steps + after ≤ most
 line_after before steps line played after here most a b c d = omega (arith, a, b, c, d)
 
@@ -127,8 +128,8 @@ follows-line form p old new held writes steps at at' lines next w w' f g d s =
           (old.steps + steps_from form p ending (start p) [] (f.read ++ rest))
           s
           (ap steps_in d.is)
-          (line-done form p ending at lines next rest d.played g d.is
-          ∙ ap (λ (x : Progress). d.played.steps + steps_from form p ending x [] (next.unread ++ rest)) (sym d.progress))
+          (ap (λ (x : Progress). d.played.steps + steps_from form p ending x [] (next.unread ++ rest)) d.progress
+          ∙ line-done form p ending at lines next rest d.played g d.is)
           (f.counts ending rest);
     }
 
