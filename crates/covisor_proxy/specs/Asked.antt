@@ -1,5 +1,5 @@
--- What the program writes and answers, and how many steps of composition it takes at most, as one function of its words,
--- of what its files answer, and of its script.
+-- What the program writes and answers, and how many steps of composition it takes at most, as one function of its
+-- words, of what its files answer, and of its script.
 use Rattle.std.specs.Prelude.{◌≡◌, ℕ, List, [], ◌++◌, Option, Some, None, Result, Ok, Err, codes}
 use Rattle.cv_io.specs.declared.files.FileFault.{FileFault}
 use Rattle.cv_io.specs.declared.files.FileFault.TheVariants.{Absent, Failed, Memory}

@@ -1,10 +1,12 @@
 -- What only the proof keeps inside: how far a replay is with its script, its report and its steps of composition.
-use Rattle.std.specs.Prelude.{◌≡◌, ◌<◌, ◌≤◌, ◌+◌, ⊤, ◌⊎◌, ℕ, Bool, false, List, [], ◌++◌, Option, Some, Result, Ok, Err, codes, length, take}
+use Rattle.std.specs.Prelude.{◌≡◌, ◌<◌, ◌≤◌, ◌+◌, ⊤, ◌⊎◌, ℕ, Bool, false, List, [], ◌++◌, Option, Some, Result, Ok, Err}
+use Rattle.std.specs.Prelude.{codes, length, take}
 use Rattle.cv_io.specs.Outside.{Rose}
 use Rattle.policy_file.specs.Policies.{PolicyOf}
 use Rattle.replay_report.specs.Players.{Takes}
 use Rattle.replay_report.specs.Playing.{Played}
-use Rattle.replay_report.specs.Reports.{Progress, Report, after_text, ended, further, plays_from, plays_last, refused, start, steps_from}
+use Rattle.replay_report.specs.Reports.{Progress, Report, after_text, ended, further, plays_from, plays_last, refused}
+use Rattle.replay_report.specs.Reports.{start, steps_from}
 use Rattle.replay_report.specs.Takings.{as_line}
 use Rattle.replay_report.specs.declared.kind.Kind.{Kind}
 use Rattle.replay_report.specs.declared.kind.Kind.TheVariants.{Long}

@@ -59,7 +59,8 @@ pub record Runs {M : Type 0} (g : Ghosts M Event Reply StateData) (links : Links
 
 -- the steps of composition that were counted are at most those of the command, over what the files answered and the
 -- script
-pub record IsCounted (command : Option Command) (files : Option (List MemFile)) (fails fails' : ℕ) (left : Option (List ℕ)) (before after : ℕ) : Type 0 where
+pub record IsCounted (command : Option Command) (files : Option (List MemFile)) (fails fails' : ℕ)
+    (left : Option (List ℕ)) (before after : ℕ) : Type 0 where
   pub file : Result (List ℕ) FileFault
   pub script : List ℕ
   pub answers : AnswersTo command files fails fails' file

@@ -36,8 +36,10 @@ pub(crate) fn conclude<K: Sink>(
     out: &mut K,
 ) -> Status
     ensures ends { (form : Form) (p : PolicyOf) (old : Moment) (left : Option (List ℕ)) (reads steps : ℕ)
-        → Reaches outcome form p (progress_of player.old) (reported player.old) old (moment left reads (K.held out.old) (K.faults out.old) steps)
-        → Ends result (given_of form p) (cut_given_of form p) old (moment left reads (K.held out.new) (K.faults out.new) steps) }
+        → Reaches outcome form p (progress_of player.old) (reported player.old) old
+        (moment left reads (K.held out.old) (K.faults out.old) steps)
+        → Ends result (given_of form p) (cut_given_of form p) old
+        (moment left reads (K.held out.new) (K.faults out.new) steps) }
     ensures form { result ≢ Status.Usage }
     ensures done { result ≡ Status.Done → IsOk outcome }
 {
@@ -64,8 +66,10 @@ fn end<K: Sink>(alloc: Global, player: &mut Player, out: &mut K) -> Status
 /// A script that wasn't read to its end.
 fn stopped<K: Sink>(alloc: Global, player: &mut Player, stop: Stop, out: &mut K) -> Status
     ensures ends { (form : Form) (p : PolicyOf) (old : Moment) (left : Option (List ℕ)) (reads steps : ℕ)
-        → Reaches (Err stop) form p (progress_of player.old) (reported player.old) old (moment left reads (K.held out.old) (K.faults out.old) steps)
-        → Ends result (given_of form p) (cut_given_of form p) old (moment left reads (K.held out.new) (K.faults out.new) steps) }
+        → Reaches (Err stop) form p (progress_of player.old) (reported player.old) old
+        (moment left reads (K.held out.old) (K.faults out.old) steps)
+        → Ends result (given_of form p) (cut_given_of form p) old
+        (moment left reads (K.held out.new) (K.faults out.new) steps) }
     ensures form { result ≢ Status.Usage }
     ensures done { result ≢ Status.Done }
 {

@@ -99,8 +99,8 @@ fn whole_line<R: Threads + Sync, K: Sink, G: Ledger>(
     ensures form { form_of player.new ≡ form_of player.old }
     ensures plan { plan_of player.new ≡ plan_of player.old }
     ensures ready { OnOk result (is_ready player.new) }
-    ensures steps { steps.new ≤ steps.old + steps_in
-        (taken (form_of player.old) (plan_of player.old) (progress_of player.old) lines.old.line (length lines.old.line + 1)) }
+    ensures steps { steps.new ≤ steps.old + steps_in (taken (form_of player.old) (plan_of player.old)
+        (progress_of player.old) lines.old.line (length lines.old.line + 1)) }
 {
     do_line(rt, player, lines.line(), lines.line().len() + 1, steps)?;
     lines.clear();

@@ -26,7 +26,8 @@ pub(crate) fn tell<K: Sink>(alloc: Global, name: &Text, fault: NoPolicy, out: &m
         (left : Option (List ℕ)) (reads steps : ℕ)
         → Opens files fails fails' name.now (Err fault)
         → EndsUnopened result all cut form name.now files fails fails'
-        (moment left reads (K.held out.old) (K.faults out.old) steps) (moment left reads (K.held out.new) (K.faults out.new) steps) }
+        (moment left reads (K.held out.old) (K.faults out.old) steps)
+        (moment left reads (K.held out.new) (K.faults out.new) steps) }
     ensures form { result ≢ Status.Usage }
     ensures done { result ≢ Status.Done }
 {
