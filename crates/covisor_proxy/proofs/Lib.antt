@@ -1,5 +1,6 @@
 pub mod Appending
 pub mod Reading
+pub mod Counting
 pub mod Going
 pub mod Doing
 pub mod Reaching

@@ -33,7 +33,7 @@ unfolding report_of
 either_report form p script =
     either_plays form p (plays_last form p (unfinished [] script)) (λ x. either_last form p (unfinished [] script) x) (whole_lines [] script) (start p)
 
-pub either_none : (form : Form) (p : PolicyOf) (script : List ℕ) → IsEither (no_report form p script)
+pub either_none : (form : Form) (p : PolicyOf) (script : List ℕ) → IsEither (no_report form p script).report
 either_none form p script = inl refl
 
 -- a status is known by its code

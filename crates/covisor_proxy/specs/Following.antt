@@ -1,17 +1,19 @@
--- What only the proof keeps inside: how far a replay is with its script and its report.
-use Rattle.std.specs.Prelude.{◌≡◌, ◌<◌, ⊤, ◌⊎◌, ℕ, Bool, false, List, [], ◌++◌, Option, Some, Result, Ok, Err, codes, length, take}
+-- What only the proof keeps inside: how far a replay is with its script, its report and its steps of composition.
+use Rattle.std.specs.Prelude.{◌≡◌, ◌<◌, ◌≤◌, ◌+◌, ⊤, ◌⊎◌, ℕ, Bool, false, List, [], ◌++◌, Option, Some, Result, Ok, Err}
+use Rattle.std.specs.Prelude.{codes, length, take}
 use Rattle.cv_io.specs.Outside.{Rose}
 use Rattle.policy_file.specs.Policies.{PolicyOf}
 use Rattle.replay_report.specs.Players.{Takes}
 use Rattle.replay_report.specs.Playing.{Played}
-use Rattle.replay_report.specs.Reports.{Progress, Report, after_text, cut_report_of, ended, further, plays_from}
-use Rattle.replay_report.specs.Reports.{plays_last, refused, report_of, start}
+use Rattle.replay_report.specs.Reports.{Progress, Report, after_text, ended, further, plays_from, plays_last, refused}
+use Rattle.replay_report.specs.Reports.{start, steps_from}
 use Rattle.replay_report.specs.Takings.{as_line}
 use Rattle.replay_report.specs.declared.kind.Kind.{Kind}
 use Rattle.replay_report.specs.declared.kind.Kind.TheVariants.{Long}
 use Rattle.script_text.specs.declared.form.Form.{Form}
+use Rattle.covisor_proxy.specs.Asked.{Given, cut_given_of, given_of}
 use Rattle.covisor_proxy.specs.Chunks.{Gave, IsAtEnd, LinesOf}
-use Rattle.covisor_proxy.specs.Outcomes.{Begins, IsScript, Moment}
+use Rattle.covisor_proxy.specs.Outcomes.{Begins, Counts, IsScript, Moment}
 use Rattle.covisor_proxy.specs.Written.{Appends, AppendsSome}
 use Rattle.covisor_proxy.specs.declared.status.Status.{Status}
 use Rattle.covisor_proxy.specs.declared.status.Status.TheVariants as statuses
@@ -24,8 +26,9 @@ use Rattle.covisor_proxy.specs.declared.stop.Stop.TheVariants.{Refused, Read, Wr
 unfoldable pub IsBegun : Progress → PolicyOf → Type 0
 IsBegun at p = at ≡ start p
 
--- so much was read and written, so much of the report waits: whatever follows in the script, and however it ends, what
--- was written, what waits, and the report from here on are the whole report
+-- so much was read, written and counted, so much of the report waits: whatever follows in the script, and however it
+-- ends, what was written, what waits, and the report from here on are the whole report, and the steps that were counted
+-- and those from here on are at most those of the whole
 pub record Follows (form : Form) (p : PolicyOf) (old new : Moment) (at : Progress) (lines : LinesOf) (waiting : List ℕ) : Type 0 where
   pub read : List ℕ
   pub written : List ℕ
@@ -34,34 +37,40 @@ pub record Follows (form : Form) (p : PolicyOf) (old new : Moment) (at : Progres
   pub goes : (ending : List ℕ → Progress → Report) (rest : List ℕ)
       → after_text (written ++ waiting) (plays_from form p ending at lines.line (lines.unread ++ rest))
       ≡ plays_from form p ending (start p) [] (read ++ rest)
+  pub counts : (ending : List ℕ → Progress → ℕ) (rest : List ℕ)
+      → new.steps + steps_from form p ending at lines.line (lines.unread ++ rest)
+      ≤ old.steps + steps_from form p ending (start p) [] (read ++ rest)
 
 -- ---- where it ends
 
--- what was written and what waits are the script's report but for this end of it
-pub record Comes (all : List ℕ → Report) (last : Report) (old new : Moment) (waiting : List ℕ) : Type 0 where
+-- what was written and what waits are the script's report but for this end of it; no more steps were counted than the
+-- script takes
+pub record Comes (all : List ℕ → Given) (last : Report) (old new : Moment) (waiting : List ℕ) : Type 0 where
   pub script : List ℕ
   pub written : List ℕ
   pub is : IsScript old.left script
   pub appends : Appends old.held new.held written
-  pub report : all script ≡ after_text (written ++ waiting) last
+  pub report : (all script).report ≡ after_text (written ++ waiting) last
+  pub counts : Counts (all script).steps old new
 
--- what was written is the report of what was read, but for its last line
-pub record Breaks (cut : List ℕ → Report) (old new : Moment) : Type 0 where
+-- the same of what was read, but for the last line
+pub record Breaks (cut : List ℕ → Given) (old new : Moment) : Type 0 where
   pub read : List ℕ
   pub gave : Gave old.left new.left read
-  pub appends : Appends old.held new.held (cut read).told
-  pub last : (cut read).last ≡ as_line (codes "fault read")
+  pub appends : Appends old.held new.held (cut read).report.told
+  pub last : (cut read).report.last ≡ as_line (codes "fault read")
+  pub counts : Counts (cut read).steps old new
 
 -- a replay ended so: at the end of its script, at a line, at a read, at a write, or for want of memory
 abbrev pub Reaches : Result (Unit {0}) Stop → Form → PolicyOf → Progress → List ℕ → Moment → Moment → Type 0
 Reaches (Ok _) form p at waiting old new =
-    Comes (report_of form p) (ended at) old new waiting × IsAtEnd new.left × (new.reads ≡ old.reads) × (new.writes ≡ old.writes)
+    Comes (given_of form p) (ended at) old new waiting × IsAtEnd new.left × (new.reads ≡ old.reads) × (new.writes ≡ old.writes)
 Reaches (Err (Refused kind)) form p at waiting old new =
-    Comes (report_of form p) (refused kind at) old new waiting × (new.writes ≡ old.writes)
+    Comes (given_of form p) (refused kind at) old new waiting × (new.writes ≡ old.writes)
 Reaches (Err Read) form p at waiting old new =
-    Breaks (cut_report_of form p) old new × Rose old.reads new.reads × (new.writes ≡ old.writes)
-Reaches (Err Write) form p at waiting old new = Rose old.writes new.writes × Begins (report_of form p) old new
-Reaches (Err Memory) form p at waiting old new = Begins (report_of form p) old new
+    Breaks (cut_given_of form p) old new × Rose old.reads new.reads × (new.writes ≡ old.writes)
+Reaches (Err Write) form p at waiting old new = Rose old.writes new.writes × Begins (given_of form p) old new
+Reaches (Err Memory) form p at waiting old new = Begins (given_of form p) old new
 
 -- ---- a line
 

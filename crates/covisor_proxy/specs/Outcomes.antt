@@ -1,22 +1,28 @@
--- How a run ends: what was read and what was written with each status.
-use Rattle.std.specs.Prelude.{◌≡◌, ◌⊎◌, ⊤, ℕ, List, ◌++◌, Option, Some, None, take}
+-- How a run ends: what was read, what was written and what was counted with each status.
+use Rattle.std.specs.Prelude.{◌≡◌, ◌≤◌, ◌+◌, ◌⊎◌, ⊤, ℕ, List, ◌++◌, Option, Some, None, take}
 use Rattle.cv_io.specs.Outside.{Rose}
 use Rattle.replay_report.specs.Reports.{Report}
+use Rattle.covisor_proxy.specs.Asked.{Given}
 use Rattle.covisor_proxy.specs.Chunks.{Gave}
 use Rattle.covisor_proxy.specs.Written.{Appends, AppendsSome}
 use Rattle.covisor_proxy.specs.declared.status.Status.{Status}
 use Rattle.covisor_proxy.specs.declared.status.Status.TheVariants.{Done, Usage, Policy, Line, Read, Write, Absent, Link, Spawn, Memory}
 
--- the outside at a moment: what is left of the script and what was written, where these are told, and how many reads
--- and writes failed
+-- the outside at a moment: what is left of the script and what was written, where these are told, how many reads and
+-- writes failed, and how many steps of composition were counted
 pub record Moment : Type 0 where
   pub left : Option (List ℕ)
   pub reads : ℕ
   pub held : Option (List ℕ)
   pub writes : ℕ
+  pub steps : ℕ
 
-abbrev pub moment : Option (List ℕ) → ℕ → Option (List ℕ) → ℕ → Moment
-moment left reads held writes = record { left = left; reads = reads; held = held; writes = writes }
+abbrev pub moment : Option (List ℕ) → ℕ → Option (List ℕ) → ℕ → ℕ → Moment
+moment left reads held writes steps = record { left = left; reads = reads; held = held; writes = writes; steps = steps }
+
+-- at most so many steps were counted
+abbrev pub Counts : ℕ → Moment → Moment → Type 0
+Counts most old new = new.steps ≤ old.steps + most
 
 -- all bytes of a report
 abbrev pub bytes_of : Report → List ℕ
@@ -33,37 +39,41 @@ abbrev pub IsScript : Option (List ℕ) → List ℕ → Type 0
 IsScript None script = ⊤
 IsScript (Some left) script = left ≡ script
 
--- the script's report has this status, and is written
-pub record Settles (code : ℕ) (all : List ℕ → Report) (old new : Moment) : Type 0 where
+-- the script's report has this status, and is written; no more steps were counted than the script takes
+pub record Settles (code : ℕ) (all : List ℕ → Given) (old new : Moment) : Type 0 where
   pub script : List ℕ
   pub is : IsScript old.left script
-  pub status : (all script).status ≡ code
-  pub tells : Tells (all script) old new
+  pub status : (all script).report.status ≡ code
+  pub tells : Tells (all script).report old new
+  pub counts : Counts (all script).steps old new
 
 -- the script's report has status 0, and is written whole; no read and no write failed
-pub record Finishes (all : List ℕ → Report) (old new : Moment) : Type 0 where
+pub record Finishes (all : List ℕ → Given) (old new : Moment) : Type 0 where
   pub script : List ℕ
   pub is : IsScript old.left script
-  pub status : (all script).status ≡ 0
-  pub written : Appends old.held new.held (bytes_of (all script))
+  pub status : (all script).report.status ≡ 0
+  pub written : Appends old.held new.held (bytes_of (all script).report)
   pub reads : new.reads ≡ old.reads
   pub writes : new.writes ≡ old.writes
+  pub counts : Counts (all script).steps old new
 
 -- a read failed behind the bytes that were read, and the report that breaks off there is written
-pub record BreaksOff (cut : List ℕ → Report) (old new : Moment) : Type 0 where
+pub record BreaksOff (cut : List ℕ → Given) (old new : Moment) : Type 0 where
   pub read : List ℕ
   pub gave : Gave old.left new.left read
   pub fault : Rose old.reads new.reads
-  pub tells : Tells (cut read) old new
+  pub tells : Tells (cut read).report old new
+  pub counts : Counts (cut read).steps old new
 
 -- the beginning of the script's report is written
-pub record Begins (all : List ℕ → Report) (old new : Moment) : Type 0 where
+pub record Begins (all : List ℕ → Given) (old new : Moment) : Type 0 where
   pub script : List ℕ
   pub is : IsScript old.left script
-  pub written : AppendsSome old.held new.held (bytes_of (all script))
+  pub written : AppendsSome old.held new.held (bytes_of (all script).report)
+  pub counts : Counts (all script).steps old new
 
--- how a run ends with a status, where the reports of scripts are these
-abbrev pub Ends : Status → (all cut : List ℕ → Report) → Moment → Moment → Type 0
+-- how a run ends with a status, where scripts give this
+abbrev pub Ends : Status → (all cut : List ℕ → Given) → Moment → Moment → Type 0
 Ends Done all cut old new = Finishes all old new
 Ends Usage all cut old new = Settles 2 all old new
 Ends Policy all cut old new = Settles 3 all old new

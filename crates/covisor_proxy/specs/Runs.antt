@@ -1,5 +1,5 @@
--- What a run is: its status, why it comes, and what was written.
-use Rattle.std.specs.Prelude.{◌≡◌, ◌≢◌, ◌⊎◌, ℕ, Bool, true, false, List, Option, Some, None, Result, Ok, Err}
+-- What a run is: its status, why it comes, what was written, and what was counted.
+use Rattle.std.specs.Prelude.{◌≡◌, ◌≢◌, ◌≤◌, ◌+◌, ◌⊎◌, ℕ, Bool, true, false, List, Option, Some, None, Result, Ok, Err}
 use Rattle.cv_io.specs.Outside.{Rose}
 use Rattle.cv_io.specs.declared.files.FileFault.{FileFault}
 use Rattle.cv_io.specs.declared.files.FileFault.TheVariants.{Memory}
@@ -9,9 +9,8 @@ use Rattle.events.specs.declared.event.Reply.{Reply}
 use Rattle.hyper_core.specs.Meanings.{StateData}
 use Rattle.policy_lock.specs.declared.machine.Machine.{Ghosts}
 use Rattle.policy_file.specs.declared.fault.PolicyFault.{PolicyFault}
-use Rattle.replay_report.specs.Reports.{cut_report_of, report_of}
 use Rattle.script_text.specs.declared.form.Form.{Form}
-use Rattle.covisor_proxy.specs.Asked.{over_file, report_for, stated}
+use Rattle.covisor_proxy.specs.Asked.{cut_given_of, given_of, over_file, report_for, stated, steps_for}
 use Rattle.covisor_proxy.specs.Opening.{Answers, AnswersTo, Holds}
 use Rattle.covisor_proxy.specs.Outcomes.{Ends, IsScript, Moment, code_of}
 use Rattle.covisor_proxy.specs.Serving.{EndsFor, LinksOf, NeverFail}
@@ -47,9 +46,9 @@ Ended g links status command files fails fails' old new =
 abbrev pub EndsOver : Status → Form → List ℕ → Option (List MemFile) → (fails fails' : ℕ) → Moment → Moment → Type 0
 EndsOver status form name files fails fails' old new =
     (file : Result (List ℕ) FileFault) × Answers files fails fails' name file
-    × Ends status (over_file report_of form name file) (over_file cut_report_of form name file) old new
+    × Ends status (over_file given_of form name file) (over_file cut_given_of form name file) old new
 
--- the exit status is that of an end, and so the run ended: what was read, and what was written
+-- the exit status is that of an end, and so the run ended: what was read, what was written, and what was counted
 pub record Runs {M : Type 0} (g : Ghosts M Event Reply StateData) (links : LinksOf) (answer : ℕ) (command : Option Command)
     (files : Option (List MemFile)) (fails fails' : ℕ) (old new : Moment) : Type 0 where
   pub status : Status
@@ -57,6 +56,16 @@ pub record Runs {M : Type 0} (g : Ghosts M Event Reply StateData) (links : Links
   pub code : answer ≡ code_of status
   pub answers : AnswersTo command files fails fails' file
   pub ends : EndsFor g links status command file old new
+
+-- the steps of composition that were counted are at most those of the command, over what the files answered and the
+-- script
+pub record IsCounted (command : Option Command) (files : Option (List MemFile)) (fails fails' : ℕ)
+    (left : Option (List ℕ)) (before after : ℕ) : Type 0 where
+  pub file : Result (List ℕ) FileFault
+  pub script : List ℕ
+  pub answers : AnswersTo command files fails fails' file
+  pub is : IsScript left script
+  pub most : after ≤ before + steps_for command file script
 
 -- the file of the command states no policy: it is refused for another cause than memory
 pub record IsRefused (command : Option Command) (files : Option (List MemFile)) : Type 0 where

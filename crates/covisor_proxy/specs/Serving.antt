@@ -12,15 +12,14 @@ use Rattle.policy_file.specs.Policies.{PolicyOf}
 use Rattle.policy_file.specs.declared.fault.PolicyFault.{PolicyFault}
 use Rattle.policy_lock.specs.declared.machine.Machine.{Ghosts}
 use Rattle.policy_serving.specs.Served.{ServesPolicy}
-use Rattle.replay_report.specs.Reports.{Report}
 use Rattle.replay_report.specs.Takings.{as_line}
 use Rattle.script_text.specs.declared.form.Form.{Form}
 use Rattle.serving.specs.declared.run.Served.{Served}
 use Rattle.serving.specs.declared.run.Served.TheVariants as serveds
-use Rattle.covisor_proxy.specs.Asked.{Scripts, cut_report_for, over_file, report_for, stated}
+use Rattle.covisor_proxy.specs.Asked.{Given, Scripts, cut_given_for, given_for, over_file, stated}
 use Rattle.covisor_proxy.specs.Following.{Writes}
 use Rattle.covisor_proxy.specs.Opening.{Answers}
-use Rattle.covisor_proxy.specs.Outcomes.{Ends, Moment}
+use Rattle.covisor_proxy.specs.Outcomes.{Counts, Ends, Moment}
 use Rattle.covisor_proxy.specs.declared.status.Status.{Status}
 use Rattle.covisor_proxy.specs.declared.status.Status.TheVariants.{Done, Usage, Policy, Line, Read, Write, Absent, Link, Spawn, Memory}
 use Rattle.command_line.specs.declared.command.Command.{Command}
@@ -78,14 +77,15 @@ module _ {M : Type 0} (g : Ghosts M Event Reply StateData) (links : LinksOf) whe
   EndsServing Read p old new = ⊥
   EndsServing Absent p old new = ⊥
 
-  -- how a run ends that serves this policy, or none
-  abbrev pub EndsAs : Option PolicyOf → Status → (all cut : List ℕ → Report) → Moment → Moment → Type 0
-  EndsAs (Some p) status all cut old new = EndsServing status p old new
+  -- how a run ends that serves this policy, or none; a policy that is served has its steps counted in no counter of the
+  -- caller's
+  abbrev pub EndsAs : Option PolicyOf → Status → (all cut : List ℕ → Given) → Moment → Moment → Type 0
+  EndsAs (Some p) status all cut old new = EndsServing status p old new × Counts 0 old new
   EndsAs None status all cut old new = Ends status all cut old new
 
   abbrev pub EndsFor : Status → Option Command → Result (List ℕ) FileFault → Moment → Moment → Type 0
   EndsFor status command file old new =
-      EndsAs (served_by command file) status (report_for command file) (cut_report_for command file) old new
+      EndsAs (served_by command file) status (given_for command file) (cut_given_for command file) old new
 
 -- a run ends where the file of a policy states none, whatever scripts would give over one
 abbrev pub EndsUnopened : Status → (all cut : Scripts) → Form → List ℕ → Option (List MemFile) → (fails fails' : ℕ)

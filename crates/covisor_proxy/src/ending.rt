@@ -3,9 +3,10 @@ ghost use Rattle.std.specs.Prelude.{◌≡◌, ◌≢◌, ◌+◌, ◌++◌, Err
 ghost use Rattle.cv_io.specs.Outside.{Rose};
 ghost use Rattle.policy_file.specs.Policies.{PolicyOf};
 ghost use Rattle.replay_report.specs.Players.{progress_of, reported};
-ghost use Rattle.replay_report.specs.Reports.{cut_report_of, end_text, refusal_text, report_of};
+ghost use Rattle.replay_report.specs.Reports.{end_text, refusal_text};
 ghost use Rattle.replay_report.specs.Takings.{as_line};
 ghost use Rattle.script_text.specs.declared.form.Form.{Form};
+ghost use Rattle.covisor_proxy.specs.Asked.{cut_given_of, given_of};
 ghost use Rattle.covisor_proxy.specs.Following.{EndsWith, Reaches, StopsWith, Writes};
 ghost use Rattle.covisor_proxy.specs.Outcomes.{Ends, Moment, moment};
 ghost use Rattle.covisor_proxy.specs.Written.{Appends, AppendsSome};
@@ -34,9 +35,11 @@ pub(crate) fn conclude<K: Sink>(
     outcome: Result<(), Stop>,
     out: &mut K,
 ) -> Status
-    ensures ends { (form : Form) (p : PolicyOf) (old : Moment) (left : Option (List ℕ)) (reads : ℕ)
-        → Reaches outcome form p (progress_of player.old) (reported player.old) old (moment left reads (K.held out.old) (K.faults out.old))
-        → Ends result (report_of form p) (cut_report_of form p) old (moment left reads (K.held out.new) (K.faults out.new)) }
+    ensures ends { (form : Form) (p : PolicyOf) (old : Moment) (left : Option (List ℕ)) (reads steps : ℕ)
+        → Reaches outcome form p (progress_of player.old) (reported player.old) old
+        (moment left reads (K.held out.old) (K.faults out.old) steps)
+        → Ends result (given_of form p) (cut_given_of form p) old
+        (moment left reads (K.held out.new) (K.faults out.new) steps) }
     ensures form { result ≢ Status.Usage }
     ensures done { result ≡ Status.Done → IsOk outcome }
 {
@@ -62,9 +65,11 @@ fn end<K: Sink>(alloc: Global, player: &mut Player, out: &mut K) -> Status
 
 /// A script that wasn't read to its end.
 fn stopped<K: Sink>(alloc: Global, player: &mut Player, stop: Stop, out: &mut K) -> Status
-    ensures ends { (form : Form) (p : PolicyOf) (old : Moment) (left : Option (List ℕ)) (reads : ℕ)
-        → Reaches (Err stop) form p (progress_of player.old) (reported player.old) old (moment left reads (K.held out.old) (K.faults out.old))
-        → Ends result (report_of form p) (cut_report_of form p) old (moment left reads (K.held out.new) (K.faults out.new)) }
+    ensures ends { (form : Form) (p : PolicyOf) (old : Moment) (left : Option (List ℕ)) (reads steps : ℕ)
+        → Reaches (Err stop) form p (progress_of player.old) (reported player.old) old
+        (moment left reads (K.held out.old) (K.faults out.old) steps)
+        → Ends result (given_of form p) (cut_given_of form p) old
+        (moment left reads (K.held out.new) (K.faults out.new) steps) }
     ensures form { result ≢ Status.Usage }
     ensures done { result ≢ Status.Done }
 {

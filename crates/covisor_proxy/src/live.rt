@@ -42,10 +42,11 @@ where
     L::Dial: Drop,
     <L::Dial as Dial>::In: Drop + Send,
     <L::Dial as Dial>::Out: Drop + Send,
-    ensures ends { (left : Option (List ℕ)) (reads : ℕ) → Ended ⟦<Hyper as Machine>⟧
+    ensures ends { (left : Option (List ℕ)) (reads steps : ℕ) → Ended ⟦<Hyper as Machine>⟧
         (links_of (L.told links.old) (L.is_reliable links.old) (L.faults links.old) (L.faults links.new)) result
         (Some (commands.Serve name.now)) (F.files files.old) (F.faults files.old) (F.faults files.new)
-        (moment left reads (K.held out.old) (K.faults out.old)) (moment left reads (K.held out.new) (K.faults out.new)) }
+        (moment left reads (K.held out.old) (K.faults out.old) steps)
+        (moment left reads (K.held out.new) (K.faults out.new) steps) }
     ensures form { result ≢ Status.Usage }
     ensures link { result ≡ Status.Link
         → NeverFail (links_of (L.told links.old) (L.is_reliable links.old) (L.faults links.old) (L.faults links.new))
@@ -72,9 +73,10 @@ where
     L::Dial: Drop,
     <L::Dial as Dial>::In: Drop + Send,
     <L::Dial as Dial>::Out: Drop + Send,
-    ensures ends { (left : Option (List ℕ)) (reads : ℕ) → EndsServing ⟦<Hyper as Machine>⟧
+    ensures ends { (left : Option (List ℕ)) (reads steps : ℕ) → EndsServing ⟦<Hyper as Machine>⟧
         (links_of (L.told links.old) (L.is_reliable links.old) (L.faults links.old) (L.faults links.new)) result policy
-        (moment left reads (K.held out.old) (K.faults out.old)) (moment left reads (K.held out.new) (K.faults out.new)) }
+        (moment left reads (K.held out.old) (K.faults out.old) steps)
+        (moment left reads (K.held out.new) (K.faults out.new) steps) }
     ensures link { result ≡ Status.Link
         → NeverFail (links_of (L.told links.old) (L.is_reliable links.old) (L.faults links.old) (L.faults links.new))
         → Rose (L.faults links.old) (L.faults links.new) }

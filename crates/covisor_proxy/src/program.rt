@@ -3,7 +3,7 @@ ghost use Rattle.std.specs.Prelude.{◌≡◌, ◌≢◌, ◌↔◌, ◌⊎◌, 
 ghost use Rattle.cv_io.specs.Outside.{Rose};
 ghost use Rattle.covisor_proxy.specs.Chunks.{IsAtEnd};
 ghost use Rattle.covisor_proxy.specs.Outcomes.{moment};
-ghost use Rattle.covisor_proxy.specs.Runs.{Ended, IsAbsent, IsComplete, IsRefused, Runs, calls, has_script};
+ghost use Rattle.covisor_proxy.specs.Runs.{Ended, IsAbsent, IsComplete, IsCounted, IsRefused, Runs, calls, has_script};
 ghost use Rattle.covisor_proxy.specs.Serving.{NeverFail, links_of};
 ghost use Rattle.command_line.specs.Forms.{command_of};
 
@@ -35,6 +35,9 @@ pub const MEMORY: u8 = 10;
 /// line that isn't done; 5 where a file or the script can't be read; 6 where the report or the audit can't be written; 7
 /// where there is no such file; 8 where an endpoint can't be dialled, and the others were served; 9 where the works that
 /// serve can't be run; 10 for want of memory. With 2, 3, 4, 5, 7, 8 and 9 the last line tells the fault.
+///
+/// The steps of composition that the lines of a script take are counted in `steps`; those of a policy that is served
+/// are not.
 pub fn run<
     R: Wait + Threads + Sync,
     F: Files,
@@ -54,7 +57,7 @@ pub fn run<
     links: &mut L,
     spawner: &mut P,
     clock: &mut C,
-    _steps: &mut Steps<G>,
+    steps: &mut Steps<G>,
 ) -> u8
 where
     L::Dial: Drop,
@@ -63,8 +66,10 @@ where
     ensures runs { Runs ⟦<Hyper as Machine>⟧
         (links_of (L.told links.old) (L.is_reliable links.old) (L.faults links.old) (L.faults links.new)) result
         (command_of words.now) (F.files files.old) (F.faults files.old) (F.faults files.new)
-        (moment (S.remaining input.old) (S.faults input.old) (K.held out.old) (K.faults out.old))
-        (moment (S.remaining input.new) (S.faults input.new) (K.held out.new) (K.faults out.new)) }
+        (moment (S.remaining input.old) (S.faults input.old) (K.held out.old) (K.faults out.old) steps.old)
+        (moment (S.remaining input.new) (S.faults input.new) (K.held out.new) (K.faults out.new) steps.new) }
+    ensures steps { IsCounted (command_of words.now) (F.files files.old) (F.faults files.old) (F.faults files.new)
+        (S.remaining input.old) steps.old steps.new }
     ensures usage { (result ≡ 2) ↔ (command_of words.now ≡ None) }
     ensures refused { result ≡ 3 → IsRefused (command_of words.now) (F.files files.old) }
     ensures absent { result ≡ 7 → IsAbsent (command_of words.now) (F.files files.old) }
@@ -80,10 +85,13 @@ where
         (command_of words.now) (F.files files.old)
         (calls (F.faults files.old) (L.faults links.old) (P.faults spawner.old))
         (calls (F.faults files.new) (L.faults links.new) (P.faults spawner.new))
-        (moment (S.remaining input.old) (S.faults input.old) (K.held out.old) (K.faults out.old))
-        (moment (S.remaining input.new) (S.faults input.new) (K.held out.new) (K.faults out.new)) }
+        (moment (S.remaining input.old) (S.faults input.old) (K.held out.old) (K.faults out.old) steps.old)
+        (moment (S.remaining input.new) (S.faults input.new) (K.held out.new) (K.faults out.new) steps.new) }
 {
-    answer(rt, alloc, words, files, input, out, links, spawner, clock).code()
+    answer(
+        rt, alloc, words, files, input, out, links, spawner, clock, steps,
+    )
+    .code()
 }
 
 /// Does what the words say.
@@ -95,6 +103,7 @@ fn answer<
     L: Links,
     P: Spawner,
     C: Clock + Send,
+    G: Ledger,
 >(
     rt: &R,
     alloc: Global,
@@ -105,6 +114,7 @@ fn answer<
     links: &mut L,
     spawner: &mut P,
     clock: &mut C,
+    steps: &mut Steps<G>,
 ) -> Status
 where
     L::Dial: Drop,
@@ -113,8 +123,8 @@ where
     ensures ends { Ended ⟦<Hyper as Machine>⟧
         (links_of (L.told links.old) (L.is_reliable links.old) (L.faults links.old) (L.faults links.new)) result
         (command_of words.now) (F.files files.old) (F.faults files.old) (F.faults files.new)
-        (moment (S.remaining input.old) (S.faults input.old) (K.held out.old) (K.faults out.old))
-        (moment (S.remaining input.new) (S.faults input.new) (K.held out.new) (K.faults out.new)) }
+        (moment (S.remaining input.old) (S.faults input.old) (K.held out.old) (K.faults out.old) steps.old)
+        (moment (S.remaining input.new) (S.faults input.new) (K.held out.new) (K.faults out.new) steps.new) }
     ensures usage { (result ≡ Status.Usage) ↔ (command_of words.now ≡ None) }
     ensures link { result ≡ Status.Link
         → NeverFail (links_of (L.told links.old) (L.is_reliable links.old) (L.faults links.old) (L.faults links.new))
@@ -123,7 +133,9 @@ where
     ensures whole { result ≡ Status.Done → has_script (command_of words.now) ≡ true → IsAtEnd (S.remaining input.new) }
 {
     match asked(alloc, words) {
-        Ok(command) => respond(rt, alloc, command, files, input, out, links, spawner, clock),
+        Ok(command) => respond(
+            rt, alloc, command, files, input, out, links, spawner, clock, steps,
+        ),
         Err(_) => Status::Memory,
     }
 }
@@ -137,6 +149,7 @@ fn respond<
     L: Links,
     P: Spawner,
     C: Clock + Send,
+    G: Ledger,
 >(
     rt: &R,
     alloc: Global,
@@ -147,6 +160,7 @@ fn respond<
     links: &mut L,
     spawner: &mut P,
     clock: &mut C,
+    steps: &mut Steps<G>,
 ) -> Status
 where
     L::Dial: Drop,
@@ -155,8 +169,8 @@ where
     ensures ends { Ended ⟦<Hyper as Machine>⟧
         (links_of (L.told links.old) (L.is_reliable links.old) (L.faults links.old) (L.faults links.new)) result
         (command) (F.files files.old) (F.faults files.old) (F.faults files.new)
-        (moment (S.remaining input.old) (S.faults input.old) (K.held out.old) (K.faults out.old))
-        (moment (S.remaining input.new) (S.faults input.new) (K.held out.new) (K.faults out.new)) }
+        (moment (S.remaining input.old) (S.faults input.old) (K.held out.old) (K.faults out.old) steps.old)
+        (moment (S.remaining input.new) (S.faults input.new) (K.held out.new) (K.faults out.new) steps.new) }
     ensures usage { (result ≡ Status.Usage) ↔ (command ≡ None) }
     ensures link { result ≡ Status.Link
         → NeverFail (links_of (L.told links.old) (L.is_reliable links.old) (L.faults links.old) (L.faults links.new))
@@ -165,7 +179,9 @@ where
     ensures whole { result ≡ Status.Done → has_script (command) ≡ true → IsAtEnd (S.remaining input.new) }
 {
     match command {
-        Some(command) => obey(rt, alloc, command, files, input, out, links, spawner, clock),
+        Some(command) => obey(
+            rt, alloc, command, files, input, out, links, spawner, clock, steps,
+        ),
         None => write_fault(out, b"fault usage\n", Status::Usage),
     }
 }
@@ -179,6 +195,7 @@ fn obey<
     L: Links,
     P: Spawner,
     C: Clock + Send,
+    G: Ledger,
 >(
     rt: &R,
     alloc: Global,
@@ -189,6 +206,7 @@ fn obey<
     links: &mut L,
     spawner: &mut P,
     clock: &mut C,
+    steps: &mut Steps<G>,
 ) -> Status
 where
     L::Dial: Drop,
@@ -197,8 +215,8 @@ where
     ensures ends { Ended ⟦<Hyper as Machine>⟧
         (links_of (L.told links.old) (L.is_reliable links.old) (L.faults links.old) (L.faults links.new)) result
         (Some command) (F.files files.old) (F.faults files.old) (F.faults files.new)
-        (moment (S.remaining input.old) (S.faults input.old) (K.held out.old) (K.faults out.old))
-        (moment (S.remaining input.new) (S.faults input.new) (K.held out.new) (K.faults out.new)) }
+        (moment (S.remaining input.old) (S.faults input.old) (K.held out.old) (K.faults out.old) steps.old)
+        (moment (S.remaining input.new) (S.faults input.new) (K.held out.new) (K.faults out.new) steps.new) }
     ensures form { result ≢ Status.Usage }
     ensures link { result ≡ Status.Link
         → NeverFail (links_of (L.told links.old) (L.is_reliable links.old) (L.faults links.old) (L.faults links.new))
@@ -207,16 +225,16 @@ where
     ensures whole { result ≡ Status.Done → has_script (Some command) ≡ true → IsAtEnd (S.remaining input.new) }
 {
     match command {
-        Command::Replay => replay_built_in(rt, alloc, input, out),
+        Command::Replay => replay_built_in(rt, alloc, input, out, steps),
         Command::ReplayPolicy { name } => {
-            replay_file(rt, alloc, Form::Replay, &name, files, input, out)
+            replay_file(rt, alloc, Form::Replay, &name, files, input, out, steps)
         }
         Command::ExplainPolicy { name } => {
-            replay_file(rt, alloc, Form::Explain, &name, files, input, out)
+            replay_file(rt, alloc, Form::Explain, &name, files, input, out, steps)
         }
         Command::Serve { name } => {
             serve_file(rt, alloc, &name, files, out, links, spawner, clock)
         }
-        Command::Make { seed, count } => make(rt, alloc, seed, count, out),
+        Command::Make { seed, count } => make(rt, alloc, seed, count, out, steps),
     }
 }

@@ -23,10 +23,11 @@ use std::alloc::Global;
 /// There is no policy of a name.
 pub(crate) fn tell<K: Sink>(alloc: Global, name: &Text, fault: NoPolicy, out: &mut K) -> Status
     ensures ends { (files : Option (List MemFile)) (fails fails' : ℕ) (all cut : Scripts) (form : Form)
-        (left : Option (List ℕ)) (reads : ℕ)
+        (left : Option (List ℕ)) (reads steps : ℕ)
         → Opens files fails fails' name.now (Err fault)
         → EndsUnopened result all cut form name.now files fails fails'
-        (moment left reads (K.held out.old) (K.faults out.old)) (moment left reads (K.held out.new) (K.faults out.new)) }
+        (moment left reads (K.held out.old) (K.faults out.old) steps)
+        (moment left reads (K.held out.new) (K.faults out.new) steps) }
     ensures form { result ≢ Status.Usage }
     ensures done { result ≢ Status.Done }
 {

@@ -1,7 +1,7 @@
 //! What is written.
 ghost use Rattle.std.specs.Prelude.{◌≡◌, [], OnErr, OnOk};
 ghost use Rattle.cv_io.specs.Outside.{Rose};
-ghost use Rattle.replay_report.specs.Players.{form_of, plan_of, progress_of, reported};
+ghost use Rattle.replay_report.specs.Players.{form_of, is_ready, plan_of, progress_of, reported};
 ghost use Rattle.covisor_proxy.specs.Written.{Appends, AppendsSome};
 
 use cv_io::{Failed, Sink};
@@ -31,6 +31,7 @@ pub(crate) fn flush<K: Sink>(player: &mut Player, out: &mut K) -> Result<(), Fai
     ensures progress { progress_of player.new ≡ progress_of player.old }
     ensures form { form_of player.new ≡ form_of player.old }
     ensures plan { plan_of player.new ≡ plan_of player.old }
+    ensures ready { is_ready player.old → is_ready player.new }
 {
     write_all(out, player.report())?;
     player.clear();

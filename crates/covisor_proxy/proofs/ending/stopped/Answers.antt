@@ -1,6 +1,7 @@
 use Rattle.std.proofs.Common.{◌+◌, Err, inr, refl, subst, sym}
 use Rattle.replay_report.specs.Players.{progress_of, reported}
-use Rattle.replay_report.specs.Reports.{cut_report_of, refusal_text, report_of}
+use Rattle.replay_report.specs.Reports.{refusal_text}
+use Rattle.covisor_proxy.specs.Asked.{cut_given_of, given_of}
 use Rattle.covisor_proxy.specs.Following.{Reaches}
 use Rattle.covisor_proxy.specs.Outcomes.{Ends, moment}
 use Rattle.covisor_proxy.specs.declared.status.Status.{Status}
@@ -10,20 +11,20 @@ use Rattle.covisor_proxy.proofs.Finishing.{breaks-off, ends-stopped}
 use Rattle.covisor_proxy.proofs.ending.stopped.Goals as goal
 
 pub returns-in-Refused-clause-ends : goal.returns-in-Refused-clause-ends
-returns-in-Refused-clause-ends g c = λ form p old left reads r.
+returns-in-Refused-clause-ends g c = λ form p old left reads steps r.
     let at = progress_of c.args.player.now in
     let w = reported c.args.player.now in
-    let mid = moment left reads (g.K.Sink.held c.args.out.now) (g.K.Sink.faults c.args.out.now) in
-    let new = moment left reads (g.K.Sink.held c.refuse.new.out) (g.K.Sink.faults c.refuse.new.out) in
+    let mid = moment left reads (g.K.Sink.held c.args.out.now) (g.K.Sink.faults c.args.out.now) steps in
+    let new = moment left reads (g.K.Sink.held c.refuse.new.out) (g.K.Sink.faults c.refuse.new.out) steps in
     let there : Reaches (Err (Refused c.in-Refused.kind)) form p at w old mid = subst (λ (x : Stop). Reaches (Err x) form p at w old mid) c.in-Refused.is r in
-    ends-stopped c.refuse.result (report_of form p) (cut_report_of form p) (refusal_text (at.number + 1) c.in-Refused.kind) old mid new w there.0 there.1 c.refuse.ensures
+    ends-stopped c.refuse.result (given_of form p) (cut_given_of form p) (refusal_text (at.number + 1) c.in-Refused.kind) old mid new w there.0 refl there.1 c.refuse.ensures
 
 pub returns-in-Read-clause-ends : goal.returns-in-Read-clause-ends
-returns-in-Read-clause-ends g c = λ form p old left reads r.
+returns-in-Read-clause-ends g c = λ form p old left reads steps r.
     let at = progress_of c.args.player.now in
     let w = reported c.args.player.now in
-    let mid = moment left reads (g.K.Sink.held c.args.out.now) (g.K.Sink.faults c.args.out.now) in
-    let new = moment left reads (g.K.Sink.held c.write_fault.new.out) (g.K.Sink.faults c.write_fault.new.out) in
+    let mid = moment left reads (g.K.Sink.held c.args.out.now) (g.K.Sink.faults c.args.out.now) steps in
+    let new = moment left reads (g.K.Sink.held c.write_fault.new.out) (g.K.Sink.faults c.write_fault.new.out) steps in
     let there : Reaches (Err Read) form p at w old mid = subst (λ (x : Stop). Reaches (Err x) form p at w old mid) c.in-Read.is r in
-    subst (λ (x : Status). Ends x (report_of form p) (cut_report_of form p) old new) (sym c.write_fault.ensures.status)
-    (inr (breaks-off (cut_report_of form p) old mid new there.0 there.1 there.2 refl refl c.write_fault.ensures.writes))
+    subst (λ (x : Status). Ends x (given_of form p) (cut_given_of form p) old new) (sym c.write_fault.ensures.status)
+    (inr (breaks-off (cut_given_of form p) old mid new there.0 there.1 there.2 refl refl refl c.write_fault.ensures.writes))

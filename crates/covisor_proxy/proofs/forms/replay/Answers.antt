@@ -1,6 +1,6 @@
 use Rattle.std.proofs.Common.{refl, subst, sym}
-use Rattle.replay_report.specs.Reports.{report_of}
 use Rattle.replay_report.specs.Players.{form_of, plan_of, progress_of, reported}
+use Rattle.covisor_proxy.specs.Asked.{given_of}
 use Rattle.covisor_proxy.specs.Following.{IsBegun}
 use Rattle.covisor_proxy.specs.Outcomes.{moment}
 use Rattle.covisor_proxy.proofs.Finishing.{begins-none, reached-end, reaches-of}
@@ -8,13 +8,13 @@ use Rattle.covisor_proxy.proofs.forms.replay.Goals as goal
 
 pub returns-in_default-clause-ends : goal.returns-in_default-clause-ends
 returns-in_default-clause-ends g c =
-    let here = moment (g.S.Source.remaining c.args.input.now) (g.S.Source.faults c.args.input.now) (g.K.Sink.held c.args.out.now) (g.K.Sink.faults c.args.out.now) in
-    begins-none (report_of c.args.form c.args.policy) here here refl
+    let here = moment (g.S.Source.remaining c.args.input.now) (g.S.Source.faults c.args.input.now) (g.K.Sink.held c.args.out.now) (g.K.Sink.faults c.args.out.now) c.args.steps.now in
+    begins-none (given_of c.args.form c.args.policy) here here refl refl
 
 pub returns-in_default-begin-clause-ends : goal.returns-in_default-begin-clause-ends
 returns-in_default-begin-clause-ends g c =
-    let here = moment (g.S.Source.remaining c.args.input.now) (g.S.Source.faults c.args.input.now) (g.K.Sink.held c.args.out.now) (g.K.Sink.faults c.args.out.now) in
-    begins-none (report_of c.args.form c.args.policy) here here refl
+    let here = moment (g.S.Source.remaining c.args.input.now) (g.S.Source.faults c.args.input.now) (g.K.Sink.held c.args.out.now) (g.K.Sink.faults c.args.out.now) c.args.steps.now in
+    begins-none (given_of c.args.form c.args.policy) here here refl refl
 
 pub replay_over-outcome-requires-clause-begins : goal.replay_over-outcome-requires-clause-begins
 replay_over-outcome-requires-clause-begins g c ks lives =
@@ -27,9 +27,9 @@ returns-clause-ends g c =
     let player = c.replay_over-outcome.new.player in
     let left = g.S.Source.remaining c.replay_over-outcome.new.input in
     let reads = g.S.Source.faults c.replay_over-outcome.new.input in
-    let old = moment (g.S.Source.remaining c.args.input.now) (g.S.Source.faults c.args.input.now) (g.K.Sink.held c.args.out.now) (g.K.Sink.faults c.args.out.now) in
-    let mid = moment left reads (g.K.Sink.held c.replay_over-outcome.new.out) (g.K.Sink.faults c.replay_over-outcome.new.out) in
-    c.conclude-status.ensures.ends c.args.form c.args.policy old left reads
+    let old = moment (g.S.Source.remaining c.args.input.now) (g.S.Source.faults c.args.input.now) (g.K.Sink.held c.args.out.now) (g.K.Sink.faults c.args.out.now) c.args.steps.now in
+    let mid = moment left reads (g.K.Sink.held c.replay_over-outcome.new.out) (g.K.Sink.faults c.replay_over-outcome.new.out) c.replay_over-outcome.new.steps in
+    c.conclude-status.ensures.ends c.args.form c.args.policy old left reads c.replay_over-outcome.new.steps
     (reaches-of c.replay_over-outcome.result c.args.form (form_of begun) c.args.policy (plan_of begun) (progress_of player) (reported player) old mid
     c.in-Ok-begin.ensures.form c.in-Ok-begin.ensures.plan c.replay_over-outcome.ensures.reaches)
 
@@ -37,8 +37,8 @@ pub returns-clause-whole : goal.returns-clause-whole
 returns-clause-whole g c = λ done.
     let begun = c.in-Ok-begin.player in
     let player = c.replay_over-outcome.new.player in
-    let old = moment (g.S.Source.remaining c.args.input.now) (g.S.Source.faults c.args.input.now) (g.K.Sink.held c.args.out.now) (g.K.Sink.faults c.args.out.now) in
+    let old = moment (g.S.Source.remaining c.args.input.now) (g.S.Source.faults c.args.input.now) (g.K.Sink.held c.args.out.now) (g.K.Sink.faults c.args.out.now) c.args.steps.now in
     let mid = moment (g.S.Source.remaining c.replay_over-outcome.new.input) (g.S.Source.faults c.replay_over-outcome.new.input)
-    (g.K.Sink.held c.replay_over-outcome.new.out) (g.K.Sink.faults c.replay_over-outcome.new.out) in
+    (g.K.Sink.held c.replay_over-outcome.new.out) (g.K.Sink.faults c.replay_over-outcome.new.out) c.replay_over-outcome.new.steps in
     reached-end c.replay_over-outcome.result (form_of begun) (plan_of begun) (progress_of player) (reported player) old mid
     (c.conclude-status.ensures.done done) c.replay_over-outcome.ensures.reaches

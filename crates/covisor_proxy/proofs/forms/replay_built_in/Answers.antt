@@ -1,6 +1,5 @@
 use Rattle.std.proofs.Common.{refl}
-use Rattle.replay_report.specs.Reports.{report_of}
-use Rattle.covisor_proxy.specs.Asked.{over_built_in}
+use Rattle.covisor_proxy.specs.Asked.{given_of, over_built_in}
 use Rattle.covisor_proxy.specs.BuiltIn.{built_in_read}
 use Rattle.covisor_proxy.specs.Outcomes.{moment}
 use Rattle.covisor_proxy.proofs.Finishing.{begins-none, over-built-in}
@@ -8,11 +7,11 @@ use Rattle.covisor_proxy.proofs.forms.replay_built_in.Goals as goal
 
 pub returns-in-Ok-clause-ends : goal.returns-in-Ok-clause-ends
 returns-in-Ok-clause-ends g c =
-    let old = moment (g.S.Source.remaining c.args.input.now) (g.S.Source.faults c.args.input.now) (g.K.Sink.held c.args.out.now) (g.K.Sink.faults c.args.out.now) in
-    let new = moment (g.S.Source.remaining c.replay.new.input) (g.S.Source.faults c.replay.new.input) (g.K.Sink.held c.replay.new.out) (g.K.Sink.faults c.replay.new.out) in
+    let old = moment (g.S.Source.remaining c.args.input.now) (g.S.Source.faults c.args.input.now) (g.K.Sink.held c.args.out.now) (g.K.Sink.faults c.args.out.now) c.args.steps.now in
+    let new = moment (g.S.Source.remaining c.replay.new.input) (g.S.Source.faults c.replay.new.input) (g.K.Sink.held c.replay.new.out) (g.K.Sink.faults c.replay.new.out) c.replay.new.steps in
     over-built-in c.replay.result built_in_read c.in-Ok.policy old new c.in-Ok.ensures c.replay.ensures.ends
 
 pub returns-in-Err-clause-ends : goal.returns-in-Err-clause-ends
 returns-in-Err-clause-ends g c =
-    let here = moment (g.S.Source.remaining c.args.input.now) (g.S.Source.faults c.args.input.now) (g.K.Sink.held c.args.out.now) (g.K.Sink.faults c.args.out.now) in
-    begins-none (over_built_in report_of built_in_read) here here refl
+    let here = moment (g.S.Source.remaining c.args.input.now) (g.S.Source.faults c.args.input.now) (g.K.Sink.held c.args.out.now) (g.K.Sink.faults c.args.out.now) c.args.steps.now in
+    begins-none (over_built_in given_of built_in_read) here here refl refl

@@ -9,7 +9,7 @@ use Rattle.covisor_proxy.proofs.Linking.{all_reliable}
 use Rattle.covisor_proxy.proofs.live.serve.Goals as goal
 
 pub returns-in-Done-clause-ends : goal.returns-in-Done-clause-ends
-returns-in-Done-clause-ends g c = λ left reads.
+returns-in-Done-clause-ends g c = λ left reads steps.
     let told = g.L.Links.told c.args.links.now in
     let reliable = g.L.Links.is_reliable c.args.links.now in
     let held = g.K.Sink.held c.args.out.now in
@@ -19,7 +19,7 @@ returns-in-Done-clause-ends g c = λ left reads.
     subst (ServesPolicy hyper told reliable c.args.policy held between faults risen) c.in-Done.is c.serve_policy.ensures.serves
 
 pub returns-in-Memory-clause-ends : goal.returns-in-Memory-clause-ends
-returns-in-Memory-clause-ends g c = λ left reads.
+returns-in-Memory-clause-ends g c = λ left reads steps.
     let told = g.L.Links.told c.args.links.now in
     let reliable = g.L.Links.is_reliable c.args.links.now in
     let held = g.K.Sink.held c.args.out.now in
@@ -29,7 +29,7 @@ returns-in-Memory-clause-ends g c = λ left reads.
     subst (ServesPolicy hyper told reliable c.args.policy held between faults risen) c.in-Memory.is c.serve_policy.ensures.serves
 
 pub returns-in-Write-clause-ends : goal.returns-in-Write-clause-ends
-returns-in-Write-clause-ends g c = λ left reads.
+returns-in-Write-clause-ends g c = λ left reads steps.
     let told = g.L.Links.told c.args.links.now in
     let reliable = g.L.Links.is_reliable c.args.links.now in
     let held = g.K.Sink.held c.args.out.now in
@@ -39,15 +39,15 @@ returns-in-Write-clause-ends g c = λ left reads.
     (c.serve_policy.ensures.write c.in-Write.is, subst (ServesPolicy hyper told reliable c.args.policy held between faults risen) c.in-Write.is c.serve_policy.ensures.serves)
 
 pub returns-in-Link-clause-ends : goal.returns-in-Link-clause-ends
-returns-in-Link-clause-ends g c = λ left reads.
+returns-in-Link-clause-ends g c = λ left reads steps.
     let told = g.L.Links.told c.args.links.now in
     let reliable = g.L.Links.is_reliable c.args.links.now in
     let held = g.K.Sink.held c.args.out.now in
     let between = g.K.Sink.held c.serve_policy.new.out in
     let faults = g.L.Links.faults c.args.links.now in
     let risen = g.L.Links.faults c.serve_policy.new.links in
-    let old = moment left reads held (g.K.Sink.faults c.args.out.now) in
-    let new = moment left reads (g.K.Sink.held c.write_fault.new.out) (g.K.Sink.faults c.write_fault.new.out) in
+    let old = moment left reads held (g.K.Sink.faults c.args.out.now) steps in
+    let new = moment left reads (g.K.Sink.held c.write_fault.new.out) (g.K.Sink.faults c.write_fault.new.out) steps in
     subst (λ (x : Status). EndsServing hyper (links_of told reliable faults risen) x c.args.policy old new) (sym c.write_fault.ensures.status)
     (record {
       between = between;
@@ -57,15 +57,15 @@ returns-in-Link-clause-ends g c = λ left reads.
     })
 
 pub returns-in-Spawn-clause-ends : goal.returns-in-Spawn-clause-ends
-returns-in-Spawn-clause-ends g c = λ left reads.
+returns-in-Spawn-clause-ends g c = λ left reads steps.
     let told = g.L.Links.told c.args.links.now in
     let reliable = g.L.Links.is_reliable c.args.links.now in
     let held = g.K.Sink.held c.args.out.now in
     let between = g.K.Sink.held c.serve_policy.new.out in
     let faults = g.L.Links.faults c.args.links.now in
     let risen = g.L.Links.faults c.serve_policy.new.links in
-    let old = moment left reads held (g.K.Sink.faults c.args.out.now) in
-    let new = moment left reads (g.K.Sink.held c.write_fault-in-Spawn.new.out) (g.K.Sink.faults c.write_fault-in-Spawn.new.out) in
+    let old = moment left reads held (g.K.Sink.faults c.args.out.now) steps in
+    let new = moment left reads (g.K.Sink.held c.write_fault-in-Spawn.new.out) (g.K.Sink.faults c.write_fault-in-Spawn.new.out) steps in
     subst (λ (x : Status). EndsServing hyper (links_of told reliable faults risen) x c.args.policy old new) (sym c.write_fault-in-Spawn.ensures.status)
     (record {
       between = between;
