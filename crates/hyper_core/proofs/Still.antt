@@ -155,5 +155,5 @@ still_none None (Replace v text) = refl
 pub still_takes_none : StillTakesNone
 unfolding cost_in
 still_takes_none d e h =
-    ap (unless_still 0 (glance_of d.plan (state_in d) e) e) (still_cost d.plan (state_in d) e h)
+    ap (λ (n : ℕ). unless_still 0 (glance_of d.plan (state_in d) e) e n) (still_cost d.plan (state_in d) e h)
     ∙ still_none (glance_of d.plan (state_in d) e) e

@@ -17,7 +17,7 @@ use crate::sources::Source;
 use crate::turning::turn;
 use crate::views::present;
 use composed_tables::Composed;
-use cv_io::{Memory, Steps};
+use cv_io::{List, Memory, Steps};
 use machine_drafts::held::Held;
 use machine_drafts::outcome::Outcome;
 use machine_drafts::session::Member;
@@ -119,10 +119,10 @@ fn has_serial(member: &Member)
 }
 
 /// So it is for each member.
-fn have_serials(members: &[Member])
+fn have_serials(members: &List<Member>)
     ensures { StandingHaveSerials members.now }
 {
-    for member in members {
+    for member in members.as_slice() {
         has_serial(member);
     }
 }
@@ -131,7 +131,7 @@ fn have_serials(members: &[Member])
 fn has_numbers(held: &Held) -> bool
     ensures { (result ≡ true) ↔ HasNumbers (state_in_held held.now) }
 {
-    have_serials(held.members.as_slice());
+    have_serials(&held.members);
     held.next_cookie < u64::MAX
 }
 

@@ -6,5 +6,5 @@ use Rattle.hyper_core.proofs.keeping.have_serials.Goals as goal
 
 pub loop-member-preserved : goal.loop-member-preserved
 loop-member-preserved c =
-    all-more (λ (m : Member). HasSerial (member_of m)) c.into_iter-member-items.result.now c.loop-member.member-index
+    all-more (λ (m : Member). HasSerial (member_of m)) c.as_slice-member-items.result.now c.loop-member.member-index
     c.member-item.result c.loop-member-test.true c.member-item.is c.has_serial.ensures c.loop-member.invariant
