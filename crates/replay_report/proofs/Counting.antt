@@ -1,5 +1,5 @@
 -- What is counted of an event, of a session's bytes, and of a line.
-use Rattle.std.proofs.Common.{◌≡◌, ℕ, ◌+◌, ◌≤◌, Bool, true, false, List, ◌∷◌, ◌++◌, Option, Some, None, Result, Ok, Err, refl}
+use Rattle.std.proofs.Common.{◌≡◌, ℕ, ◌+◌, ◌≤◌, Bool, true, false, List, ◌∷◌, ◌++◌, Option, Some, None, Result, refl}
 use Rattle.std.proofs.Common.{sym, ap, subst, ◌∙◌, arith}
 use Rattle.std.specs.Prelude.{if◌then◌else◌, option_map}
 use Rattle.cv_io.specs.declared.leaf.Session.{Session}
@@ -13,7 +13,7 @@ use Rattle.machine_meaning.specs.Runs.{after}
 use Rattle.machine_meaning.specs.States.{State}
 use Rattle.policy_file.specs.Policies.{PolicyOf}
 use Rattle.replay_report.specs.Cuts.{frames_of, is_short, rest_of}
-use Rattle.replay_report.specs.Playing.{Played, goes, heard, heard_of, hears, present, sends, unless_short}
+use Rattle.replay_report.specs.Playing.{Heard, Played, goes, heard, heard_of, hears, present, sends, unless_short}
 use Rattle.replay_report.specs.Reports.{or_unknown, steps_in}
 use Rattle.replay_report.specs.Sessions.{sessions_of}
 use Rattle.replay_report.specs.Takings.{Done, does, quietly, takes_all}
@@ -53,15 +53,15 @@ pub frame_counts : (p q : PolicyOf) (who : Who) (session : Session) (frame : Lis
     (frames rest : List (List ℕ)) (old new all : ℕ) → frames ≡ frame ∷ rest → session ≡ present s who → q ≡ p
     → t ≡ (does p (Msg session frame) s).state → new ≤ old + (does p (Msg session frame) s).steps
     → old + (sends p who frames s).steps ≤ all → new + (sends q who rest t).steps ≤ all
-frame_counts p q who session frame s t frames rest old new all next is same after counted within =
+frame_counts p q who session frame s t frames rest old new all next is same stands counted within =
     let one = does p (Msg (present s who) frame) s in
-    let now : does p (Msg session frame) s ≡ one = ap (λ x. does p (Msg x frame) s) is in
-    let then : t ≡ one.state = after ∙ ap (λ d. d.state) now in
-    let first : (does p (Msg session frame) s).steps ≡ one.steps = ap (λ d. d.steps) now in
+    let now : does p (Msg session frame) s ≡ one = ap (λ (x : Session). does p (Msg x frame) s) is in
+    let there : t ≡ one.state = stands ∙ ap (λ (d : Done). d.state) now in
+    let first : (does p (Msg session frame) s).steps ≡ one.steps = ap (λ (d : Done). d.steps) now in
     let whole : (sends p who frames s).steps ≡ one.steps + (sends p who rest one.state).steps =
-    ap (λ fs. (sends p who fs s).steps) next in
+    ap (λ (fs : List (List ℕ)). (sends p who fs s).steps) next in
     let left : (sends q who rest t).steps ≡ (sends p who rest one.state).steps =
-    (λ i. (sends (same i) who rest (then i)).steps) in
+    (λ i. (sends (same i) who rest (there i)).steps) in
     omega (arith, first, whole, left, counted, within)
 
 -- and its own are
@@ -71,9 +71,9 @@ pub frame_within : (p : PolicyOf) (who : Who) (session : Session) (frame : List 
 frame_within p who session frame s frames rest old new all next is counted within =
     let one = does p (Msg (present s who) frame) s in
     let first : (does p (Msg session frame) s).steps ≡ one.steps =
-    ap (λ x. (does p (Msg x frame) s).steps) is in
+    ap (λ (x : Session). (does p (Msg x frame) s).steps) is in
     let whole : (sends p who frames s).steps ≡ one.steps + (sends p who rest one.state).steps =
-    ap (λ fs. (sends p who fs s).steps) next in
+    ap (λ (fs : List (List ℕ)). (sends p who fs s).steps) next in
     omega (arith, first, whole, counted, within)
 
 -- frames, and the session goes behind a short length
@@ -100,7 +100,7 @@ pub hears_within : (p : PolicyOf) (name : List ℕ) (who : Who) (bytes : List �
 unfolding hears
 hears_within p name who bytes stream s e =
     let kept = stream.framer ++ bytes in
-    subst (λ h. (sends p who (frames_of kept) s).steps ≤ h.steps)
+    subst (λ (h : Heard). (sends p who (frames_of kept) s).steps ≤ h.steps)
     (sym (heard_by stream.is_short p name who kept stream s e))
     (sends_within (is_short (rest_of kept)) p name who (rest_of kept) (sends p who (frames_of kept) s))
 
@@ -113,7 +113,7 @@ pub hears_all : (p : PolicyOf) (name : List ℕ) (who : Who) (bytes : List ℕ) 
 unfolding hears
 hears_all p name who bytes stream s e f =
     let kept = stream.framer ++ bytes in
-    ap (λ h. h.steps) (heard_by stream.is_short p name who kept stream s e)
+    ap (λ (h : Heard). h.steps) (heard_by stream.is_short p name who kept stream s e)
     ∙ sends_all (is_short (rest_of kept)) p name who (rest_of kept) (sends p who (frames_of kept) s) f
 
 -- what was counted of its frames
@@ -122,7 +122,7 @@ pub heard_counts : (p : PolicyOf) (name : List ℕ) (who : Who) (bytes kept : Li
     → new ≤ old + (sends p who (frames_of kept) s).steps → new ≤ old + (hears p name who bytes stream s).steps
 heard_counts p name who bytes kept stream s old new e is counted =
     let here : (sends p who (frames_of kept) s).steps ≡ (sends p who (frames_of (stream.framer ++ bytes)) s).steps =
-    ap (λ k. (sends p who (frames_of k) s).steps) is in
+    ap (λ (k : List ℕ). (sends p who (frames_of k) s).steps) is in
     let more = hears_within p name who bytes stream s e in
     omega (arith, here, more, counted)
 
@@ -132,14 +132,15 @@ pub gone_counts : (p q : PolicyOf) (name : List ℕ) (who : Who) (session : Sess
     → is_short (rest_of kept) ≡ true → session ≡ present t who → q ≡ p
     → t ≡ (sends p who (frames_of kept) s).state → mid ≤ old + (sends p who (frames_of kept) s).steps
     → new ≤ mid + (does q (Gone session) t).steps → new ≤ old + (hears p name who bytes stream s).steps
-gone_counts p q name who session bytes kept stream s t old mid new e is short of same after counted more =
+gone_counts p q name who session bytes kept stream s t old mid new e is short round same stands counted more =
     let all = stream.framer ++ bytes in
-    let whole = hears_all p name who bytes stream s e (ap (λ k. is_short (rest_of k)) (sym is) ∙ short) in
+    let whole = hears_all p name who bytes stream s e (ap (λ (k : List ℕ). is_short (rest_of k)) (sym is) ∙ short) in
     let here : (sends p who (frames_of kept) s).steps ≡ (sends p who (frames_of all) s).steps =
-    ap (λ k. (sends p who (frames_of k) s).steps) is in
-    let then : t ≡ (sends p who (frames_of all) s).state = after ∙ ap (λ k. (sends p who (frames_of k) s).state) is in
+    ap (λ (k : List ℕ). (sends p who (frames_of k) s).steps) is in
+    let there : t ≡ (sends p who (frames_of all) s).state =
+    stands ∙ ap (λ (k : List ℕ). (sends p who (frames_of k) s).state) is in
     let going : (does q (Gone session) t).steps ≡ (goes p who (sends p who (frames_of all) s).state).steps =
-    ap (λ x. (does q (Gone x) t).steps) of ∙ (λ i. (goes (same i) who (then i)).steps) in
+    ap (λ (x : Session). (does q (Gone x) t).steps) round ∙ (λ i. (goes (same i) who (there i)).steps) in
     omega (arith, whole, here, going, counted, more)
 
 -- ---- a line
@@ -148,7 +149,7 @@ gone_counts p q name who session bytes kept stream s t old mid new e is short of
 pub found_counts : {A : Type 0} (o : Option A) (x : A) (f : A → Played) (old new : ℕ) → Some x ≡ o
     → new ≤ old + (f x).steps → new ≤ old + steps_in (or_unknown (option_map f o))
 found_counts o x f old new is counted =
-    subst (λ (z : Option _). new ≤ old + steps_in (or_unknown (option_map f z))) is counted
+    subst (λ z. new ≤ old + steps_in (or_unknown (option_map f z))) is counted
 
 -- it was read
 pub read_counts : (r : Result Played Kind) (o : Option Played) (old new : ℕ) → r ≡ or_unknown o
