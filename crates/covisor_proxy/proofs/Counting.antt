@@ -1,6 +1,6 @@
 -- The steps of composition of a script, as far as it was read.
 use Rattle.std.proofs.Common.{◌≡◌, ◌<◌, ◌≤◌, ◌+◌, ◌==◌, ℕ, Bool, true, false, List, [], ◌∷◌, ◌++◌, Option, Some, None, Result, Ok, Err}
-use Rattle.std.proofs.Common.{length, sym, ap, ◌∙◌, subst, refl, arith}
+use Rattle.std.proofs.Common.{length, sym, ap, ◌∙◌, subst, refl, arith, le_refl}
 use Rattle.std.specs.Prelude.{if◌then◌else◌}
 use Rattle.policy_file.specs.Policies.{PolicyOf}
 use Rattle.replay_report.specs.Playing.{Played}
@@ -14,16 +14,35 @@ use Rattle.covisor_proxy.specs.Chunks.{GoesOn, LinesOf}
 use Rattle.covisor_proxy.specs.Outcomes.{Counts, Moment}
 use Rattle.covisor_proxy.specs.declared.lines.Taken.TheVariants.{Whole}
 
--- no step was counted
-pub none-counted : (n : ℕ) (old new : Moment) → new.steps ≡ old.steps → Counts n old new
-none-counted n old new e = omega (arith, e)
+-- ---- numbers
 
--- a line, where what follows takes less
-on_less : (r : Result Played Kind) (used : ℕ) (at : Progress) (f g : Progress → ℕ) → ((x : Progress) → f x ≤ g x) → steps_on r used at f ≤ steps_on r used at g
-on_less (Err kind) used at f g h = omega arith
-on_less (Ok played) used at f g h = omega (arith, h (further used at played.stand))
+least : (n : ℕ) → 0 ≤ n
+least n = omega arith
+
+more_before : (n a b : ℕ) → a ≤ b → n + a ≤ n + b
+more_before n a b h = omega (arith, h)
+
+-- no more than before
+pub still : (steps before more : ℕ) → steps ≡ before → steps ≤ before + more
+still steps before more e = omega (arith, e)
+
+-- no more than what is at most this
+pub at_most : (steps before more most : ℕ) → steps ≤ before + more → more ≤ most → steps ≤ before + most
+at_most steps before more most a b = omega (arith, a, b)
+
+pub none-counted : (n : ℕ) (old new : Moment) → new.steps ≡ old.steps → Counts n old new
+none-counted n old new e = still new.steps old.steps n e
+
+pub any-counted : (n : ℕ) (old new : Moment) → Counts 0 old new → Counts n old new
+any-counted n old new e = at_most new.steps old.steps 0 n e (least n)
 
 -- ---- a line
+
+-- what follows takes less
+on_less : (r : Result Played Kind) (used : ℕ) (at : Progress) (f g : Progress → ℕ) → ((x : Progress) → f x ≤ g x) → steps_on r used at f ≤ steps_on r used at g
+on_less (Err kind) used at f g h = le_refl 0
+on_less (Ok played) used at f g h =
+    more_before played.steps (f (further used at played.stand)) (g (further used at played.stand)) (h (further used at played.stand))
 
 -- a line whose line feed is there takes at most what the script takes from it on
 pub line-most : (form : Form) (p : PolicyOf) (ending : List ℕ → Progress → ℕ) (at : Progress) (lines next : LinesOf) (rest : List ℕ) → GoesOn Whole lines next
@@ -69,7 +88,7 @@ cut_by false form p ending at line next bytes rest h later = later
 
 cut_from : (form : Form) (p : PolicyOf) (ending : List ℕ → Progress → ℕ) (at : Progress) (line read rest : List ℕ)
     → steps_from form p no_steps at line read ≤ steps_from form p ending at line (read ++ rest)
-cut_from form p ending at line [] rest = omega arith
+cut_from form p ending at line [] rest = least (steps_from form p ending at line rest)
 cut_from form p ending at line (byte ∷ bytes) rest =
     cut_by (byte == 10) form p ending at line (line ++ byte ∷ []) bytes rest
     (λ x. cut_from form p ending x [] bytes rest) (cut_from form p ending at (line ++ byte ∷ []) bytes rest)

@@ -21,7 +21,7 @@ use Rattle.covisor_proxy.specs.Outcomes.{Begins, Counts, Moment, bytes_of, momen
 use Rattle.covisor_proxy.specs.Written.{Appends, AppendsSome}
 use Rattle.covisor_proxy.specs.declared.lines.Taken.TheVariants.{Whole, Part}
 use Rattle.covisor_proxy.proofs.Appending.{appends_both, appends_none, some_after, some_more}
-use Rattle.covisor_proxy.proofs.Counting.{cut-steps-are, line-done, line-most, steps-are}
+use Rattle.covisor_proxy.proofs.Counting.{at_most, cut-steps-are, line-done, line-most, steps-are, still}
 use Rattle.covisor_proxy.proofs.Reading.{gave-both, gave-none, rest_in, script-is}
 
 -- a text before another
@@ -170,9 +170,6 @@ left_steps form p new at lines = steps_from form p (steps_of_last form p) at lin
 within : (before steps more most : ℕ) → steps ≤ before + more → before + more ≤ most → steps ≤ most
 within before steps more most a b = omega (arith, a, b)
 
-pub still : (steps before more : ℕ) → steps ≡ before → steps ≤ before + more
-still steps before more e = omega (arith, e)
-
 all_counts : (form : Form) (p : PolicyOf) (old new next : Moment) (at : Progress) (lines : LinesOf) (w : List ℕ)
     → (f : Follows form p old new at lines w) → next.steps ≤ new.steps + left_steps form p new at lines
     → Counts (given_of form p (f.read ++ rest_in new.left)).steps old next
@@ -181,7 +178,18 @@ all_counts form p old new next at lines w f s =
     (within new.steps next.steps (left_steps form p new at lines) (old.steps + steps_from form p (steps_of_last form p) (start p) [] (f.read ++ rest_in new.left))
     s (f.counts (steps_of_last form p) (rest_in new.left)))
 
--- the report from here on is a text and an end, of which nothing more is written
+-- the report from here on is a text and an end
+report_here : (form : Form) (p : PolicyOf) (old new : Moment) (at : Progress) (lines : LinesOf) (w text : List ℕ) (last : Report)
+    → (f : Follows form p old new at lines w) → plays_from form p (plays_last form p) at lines.line (lines.unread ++ rest_in new.left) ≡ after_text text last
+    → report_of form p (f.read ++ rest_in new.left) ≡ after_text (f.written ++ (w ++ text)) last
+report_here form p old new at lines w text last f e =
+    report-is form p (f.read ++ rest_in new.left)
+    ∙ sym (f.goes (plays_last form p) (rest_in new.left))
+    ∙ ap (after_text (f.written ++ w)) e
+    ∙ after_after (f.written ++ w) text last
+    ∙ ap (λ (x : List ℕ). after_text x last) (append_assoc f.written w text)
+
+-- nothing more of it is written
 pub comes : (form : Form) (p : PolicyOf) (old new next : Moment) (at : Progress) (lines : LinesOf) (w text : List ℕ) (last : Report)
     → Follows form p old new at lines w → plays_from form p (plays_last form p) at lines.line (lines.unread ++ rest_in new.left) ≡ after_text text last
     → next.held ≡ new.held → next.steps ≤ new.steps + left_steps form p new at lines
@@ -191,12 +199,7 @@ comes form p old new next at lines w text last f e same s = record {
   written = f.written;
   is = script-is old.left new.left f.read f.gave;
   appends = subst (λ (x : Option (List ℕ)). Appends old.held x f.written) (sym same) f.appends;
-  report =
-      report-is form p (f.read ++ rest_in new.left)
-      ∙ sym (f.goes (plays_last form p) (rest_in new.left))
-      ∙ ap (after_text (f.written ++ w)) e
-      ∙ after_after (f.written ++ w) text last
-      ∙ ap (λ (x : List ℕ). after_text x last) (append_assoc f.written w text);
+  report = report_here form p old new at lines w text last f e;
   counts = all_counts form p old new next at lines w f s;
 }
 
@@ -223,15 +226,14 @@ pub begins : (form : Form) (p : PolicyOf) (old new next : Moment) (at : Progress
     → AppendsSome new.held next.held (w ++ text) → next.steps ≤ new.steps + left_steps form p new at lines
     → Begins (given_of form p) old next
 begins form p old new next at lines w text last f e a s =
-    let c = comes form p old new new at lines w text last f e refl (still new.steps new.steps (left_steps form p new at lines) refl) in
-    let whole : bytes_of (report_of form p c.script) ≡ (c.written ++ (w ++ text)) ++ (last.told ++ last.last) =
-    ap bytes_of c.report ∙ append_assoc (c.written ++ (w ++ text)) last.told last.last in
+    let whole : bytes_of (report_of form p (f.read ++ rest_in new.left)) ≡ (f.written ++ (w ++ text)) ++ (last.told ++ last.last) =
+    ap bytes_of (report_here form p old new at lines w text last f e) ∙ append_assoc (f.written ++ (w ++ text)) last.told last.last in
     record {
-      script = c.script;
-      is = c.is;
+      script = f.read ++ rest_in new.left;
+      is = script-is old.left new.left f.read f.gave;
       written = subst (AppendsSome old.held next.held) (sym whole)
-          (some_more old.held next.held (c.written ++ (w ++ text)) (last.told ++ last.last)
-          (some_after old.held new.held next.held c.written (w ++ text) c.appends a));
+          (some_more old.held next.held (f.written ++ (w ++ text)) (last.told ++ last.last)
+          (some_after old.held new.held next.held f.written (w ++ text) f.appends a));
       counts = all_counts form p old new next at lines w f s;
     }
 
@@ -253,7 +255,9 @@ begins-line form p old new next at lines mid w played f g t a s =
 -- a line takes no more than the script from it on
 pub line-left : (form : Form) (p : PolicyOf) (new : Moment) (steps : ℕ) (at : Progress) (lines mid : LinesOf) → GoesOn Whole lines mid
     → steps ≤ new.steps + steps_in (taken form p at mid.line (length mid.line + 1)) → steps ≤ new.steps + left_steps form p new at lines
-line-left form p new steps at lines mid g s = omega (arith, s, line-most form p (steps_of_last form p) at lines mid (rest_in new.left) g)
+line-left form p new steps at lines mid g s =
+    at_most steps new.steps (steps_in (taken form p at mid.line (length mid.line + 1))) (left_steps form p new at lines) s
+    (line-most form p (steps_of_last form p) at lines mid (rest_in new.left) g)
 
 -- a read failed
 cut_here : (form : Form) (p : PolicyOf) (at : Progress) (line unread : List ℕ) → unread ≡ [] → plays_from form p cut_after at line (unread ++ []) ≡ cut_off at

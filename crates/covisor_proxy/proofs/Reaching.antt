@@ -18,7 +18,8 @@ use Rattle.covisor_proxy.specs.declared.lines.Taken.TheVariants.{Whole, Part}
 use Rattle.covisor_proxy.specs.declared.stop.Stop.{Stop}
 use Rattle.covisor_proxy.specs.declared.stop.Stop.TheVariants.{Refused, Read, Write, Memory}
 use Rattle.covisor_proxy.proofs.Appending.{some_none}
-use Rattle.covisor_proxy.proofs.Going.{begins-here, begins-line, breaks, comes, comes-long, comes-refused, follows-read, left_steps, line-left, still}
+use Rattle.covisor_proxy.proofs.Going.{begins-here, begins-line, breaks, comes, comes-long, comes-refused, follows-read, left_steps, line-left}
+use Rattle.covisor_proxy.proofs.Counting.{still}
 use Rattle.covisor_proxy.proofs.Reading.{none-left, rest_in}
 
 -- nothing more was written

@@ -26,7 +26,7 @@ use Rattle.covisor_proxy.specs.declared.status.Status.{Status}
 use Rattle.covisor_proxy.specs.declared.status.Status.TheVariants as statuses
 use Rattle.command_line.specs.declared.command.Command.{Command}
 use Rattle.command_line.specs.declared.command.Command.TheVariants as commands
-use Rattle.covisor_proxy.proofs.Counting.{cut-most}
+use Rattle.covisor_proxy.proofs.Counting.{any-counted, at_most, cut-most}
 use Rattle.covisor_proxy.proofs.Finishing.{script-told}
 use Rattle.covisor_proxy.proofs.Reading.{rest_in, script-is}
 use Rattle.covisor_proxy.proofs.Statuses.{IsEither, either_none, either_report, known_by}
@@ -176,33 +176,33 @@ module _ (n : ℕ) (files : Option (List MemFile)) (fails fails' : ℕ) (old new
 -- what was read of a script takes at most what the script takes
 cut_over : (form : Form) (r : Result PolicyOf PolicyFault) (read rest : List ℕ) → (over cut_given_of form r read).steps ≤ (over given_of form r (read ++ rest)).steps
 cut_over form (Ok p) read rest = cut-most form p read rest
-cut_over form (Err fault) read rest = omega arith
+cut_over form (Err fault) read rest = le_refl 0
 
 cut_built_in : (r : Result PolicyOf PolicyFault) (read rest : List ℕ) → (over_built_in cut_given_of r read).steps ≤ (over_built_in given_of r (read ++ rest)).steps
 cut_built_in (Ok p) read rest = cut-most forms.Replay p read rest
-cut_built_in (Err fault) read rest = omega arith
+cut_built_in (Err fault) read rest = le_refl 0
 
 cut_file : (form : Form) (name : List ℕ) (file : Result (List ℕ) FileFault) (read rest : List ℕ)
     → (over_file cut_given_of form name file read).steps ≤ (over_file given_of form name file (read ++ rest)).steps
 cut_file form name (Ok bytes) read rest = cut_over form (stated bytes) read rest
-cut_file form name (Err faults.Absent) read rest = omega arith
-cut_file form name (Err faults.Failed) read rest = omega arith
-cut_file form name (Err faults.Memory) read rest = omega arith
+cut_file form name (Err faults.Absent) read rest = le_refl 0
+cut_file form name (Err faults.Failed) read rest = le_refl 0
+cut_file form name (Err faults.Memory) read rest = le_refl 0
 
 -- a policy that is served takes none
 unserved_over : (form : Form) (r : Result PolicyOf PolicyFault) (read rest : List ℕ) → (over no_report form r read).steps ≤ (over no_report form r (read ++ rest)).steps
-unserved_over form (Ok p) read rest = omega arith
-unserved_over form (Err fault) read rest = omega arith
+unserved_over form (Ok p) read rest = le_refl 0
+unserved_over form (Err fault) read rest = le_refl 0
 
 unserved_file : (form : Form) (name : List ℕ) (file : Result (List ℕ) FileFault) (read rest : List ℕ)
     → (over_file no_report form name file read).steps ≤ (over_file no_report form name file (read ++ rest)).steps
 unserved_file form name (Ok bytes) read rest = unserved_over form (stated bytes) read rest
-unserved_file form name (Err faults.Absent) read rest = omega arith
-unserved_file form name (Err faults.Failed) read rest = omega arith
-unserved_file form name (Err faults.Memory) read rest = omega arith
+unserved_file form name (Err faults.Absent) read rest = le_refl 0
+unserved_file form name (Err faults.Failed) read rest = le_refl 0
+unserved_file form name (Err faults.Memory) read rest = le_refl 0
 
 cut_for : (command : Option Command) (file : Result (List ℕ) FileFault) (read rest : List ℕ) → (cut_given_for command file read).steps ≤ steps_for command file (read ++ rest)
-cut_for None file read rest = omega arith
+cut_for None file read rest = le_refl 0
 cut_for (Some commands.Replay) file read rest = cut_built_in built_in_read read rest
 cut_for (Some (commands.ReplayPolicy name)) file read rest = cut_file forms.Replay name file read rest
 cut_for (Some (commands.ExplainPolicy name)) file read rest = cut_file forms.Explain name file read rest
@@ -225,7 +225,8 @@ module _ (command : Option Command) (files : Option (List MemFile)) (fails fails
   counted_cut : BreaksOff (cut_given_for command file) old new → IsCounted command files fails fails' old.left old.steps new.steps
   counted_cut e =
       counted_by (e.read ++ rest_in new.left) (script-is old.left new.left e.read e.gave)
-      (omega (arith, e.counts, cut_for command file e.read (rest_in new.left)))
+      (at_most new.steps old.steps (cut_given_for command file e.read).steps (steps_for command file (e.read ++ rest_in new.left)) e.counts
+      (cut_for command file e.read (rest_in new.left)))
 
   counted_read : Settles 5 (given_for command file) old new ⊎ BreaksOff (cut_given_for command file) old new
       → IsCounted command files fails fails' old.left old.steps new.steps
@@ -246,7 +247,7 @@ module _ (command : Option Command) (files : Option (List MemFile)) (fails fails
   counted_ends statuses.Memory e = counted_begun e
 
   counted_served : Counts 0 old new → IsCounted command files fails fails' old.left old.steps new.steps
-  counted_served e = counted_by (rest_in old.left) (script-told old.left) (omega (arith, e))
+  counted_served e = counted_by (rest_in old.left) (script-told old.left) (any-counted (steps_for command file (rest_in old.left)) old new e)
 
 -- ---- the clauses of a run
 

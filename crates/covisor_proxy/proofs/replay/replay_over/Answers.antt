@@ -55,7 +55,7 @@ returns-in_err-whole_line-in-Whole g c =
     let halts = subst (λ (x : Result Played Kind). Halts stop x at at' new.held held new.writes writes w w') same c.in_err-whole_line-in-Whole.ensures.halts in
     let steps = c.whole_line.new.steps in
     let counts = steps-same (form_of c.loop.player) form (plan_of c.loop.player) plan at mid.line (length mid.line + 1) c.loop.steps steps
-    c.loop.invariant.form c.loop.invariant.plan c.whole_line.ensures.steps in
+    c.loop.invariant.form c.loop.invariant.plan c.in_err-whole_line-in-Whole.ensures.steps in
     rw (p.1, p.2)
     (record { reaches = reaches-halted stop form plan old new held writes steps at at' c.loop.lines mid w w' c.loop.invariant.follows went c.loop.invariant.writes halts counts })
 
@@ -127,7 +127,7 @@ loop-preserved g c =
           let does = subst (λ (x : Result Played Kind). Does x (length mid.line + 1) at at' new.held held w w') same v.in_ok-whole_line-in-Whole.ensures.does in
           let steps = v.whole_line.new.steps in
           let counts = steps-same (form_of c.loop.player) form (plan_of c.loop.player) plan at mid.line (length mid.line + 1) c.loop.steps steps
-          c.loop.invariant.form c.loop.invariant.plan v.whole_line.ensures.steps in
+          c.loop.invariant.form c.loop.invariant.plan v.in_ok-whole_line-in-Whole.ensures.steps in
           let here = follows-line form plan old new held writes steps at at' c.loop.lines mid w w' c.loop.invariant.follows went does counts in
           rw (v.player-is, v.lines-is, v.input-is, v.out-is, v.steps-is)
           (record {
