@@ -93,7 +93,8 @@ pub(crate) fn build_first<R: Threads + Sync, G: Ledger>(
         return Err(Memory);
     }
     let mut steps = Steps::<G>::new(blank);
-    build_from(rt, setup, held, &mut steps)
+    let composed = build_from(rt, setup, held, &mut steps)?;
+    Ok(composed)
 }
 
 /// The composed part of what is held, if there is memory for it.

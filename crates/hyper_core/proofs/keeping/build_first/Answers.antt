@@ -1,8 +1,8 @@
 use Rattle.hyper_core.proofs.keeping.build_first.Goals as goal
 
-pub returns-clause-kept : goal.returns-clause-kept
-returns-clause-kept g c = record {
+pub returns : goal.returns
+returns g c = record {
   sound = λ numbers. c.requires.sound;
   numbers = λ some. c.has_numbers.ensures.0 c.if-not-has_numbers.false;
-  of = c.build_from.ensures.of;
+  of = c.in_ok-composed.ensures.of;
 }

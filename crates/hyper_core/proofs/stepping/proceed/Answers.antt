@@ -4,7 +4,7 @@ use Rattle.machine_meaning.specs.Phases.{drafted}
 use Rattle.machine_meaning.specs.States.{State}
 use Rattle.machine_meaning.specs.Steps.{done, step_of}
 use Rattle.events.specs.declared.event.Reply.{Reply}
-use Rattle.hyper_core.proofs.Attempts.{has_all_kept}
+use Rattle.hyper_core.proofs.Attempts.{has_all_kept, in_ok_case}
 use Rattle.hyper_core.proofs.Bounds.{followed, followed_wanting, no_more, whole, whole_wanting}
 use Rattle.hyper_core.proofs.KeptOn.{begun_kept, kept_none, sound_stepped}
 use Rattle.hyper_core.proofs.Stepped.{has_all_counted, settled_counted, step_other, taken_back}
@@ -161,4 +161,4 @@ pub returns-in-Err-clause-stays : goal.returns-in-Err-clause-stays
 returns-in-Err-clause-stays g c there follows numbers = tt
 
 pub returns-in_err-overtaken-clause-stays : goal.returns-in_err-overtaken-clause-stays
-returns-in_err-overtaken-clause-stays g c there follows numbers = tt
+returns-in_err-overtaken-clause-stays g c there follows numbers = in_ok_case c.from_residual.result there
