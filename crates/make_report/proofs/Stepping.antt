@@ -107,36 +107,33 @@ pub line_on : (p q : PolicyOf) (t u : Tally) (line bytes : List ℕ) (lines rest
 unfolding after_lines
 line_on p q t u line bytes lines rest next read done same = rw (next, done, same, read) refl
 
--- the steps of a line, and of those that are left, are within those of all
-pub line_within : (p : PolicyOf) (player : Player) (n : Counts) (line bytes : List ℕ) (lines rest : List (List ℕ))
-    (old new all : ℕ) → lines ≡ line ∷ rest → bytes ≡ line
-    → new ≤ old + line_steps p (progress_of player) bytes → old + lines_steps p (tally_of player n) lines ≤ all
-    → new ≤ all
+-- where a replay is, whatever was counted
+pub progress_is : (player : Player) (n : Counts) → (tally_of player n).progress ≡ progress_of player
 unfolding tally_of
-line_within p player n line bytes lines rest old new all next read counted within =
-    let t = tally_of player n in
-    let here : line_steps p (progress_of player) bytes ≡ line_steps p (progress_of player) line =
-    ap (line_steps p (progress_of player)) read in
-    let whole : lines_steps p t lines
-    ≡ line_steps p (progress_of player) line + lines_steps p (after_line p t line) rest =
+progress_is player n = refl
+
+-- the steps of a line, and of those that are left, are within those of all
+pub line_within : (p : PolicyOf) (t : Tally) (at : Progress) (line bytes : List ℕ) (lines rest : List (List ℕ))
+    (old new all : ℕ) → t.progress ≡ at → lines ≡ line ∷ rest → bytes ≡ line → new ≤ old + line_steps p at bytes
+    → old + lines_steps p t lines ≤ all → new ≤ all
+line_within p t at line bytes lines rest old new all stands next read counted within =
+    let here : line_steps p at bytes ≡ line_steps p t.progress line =
+    (λ i. line_steps p (sym stands i) (read i)) in
+    let whole : lines_steps p t lines ≡ line_steps p t.progress line + lines_steps p (after_line p t line) rest =
     ap (lines_steps p t) next in
     omega (arith, here, whole, counted, within)
 
-pub line_sums : (p q : PolicyOf) (player : Player) (n : Counts) (u : Tally) (line bytes : List ℕ)
-    (lines rest : List (List ℕ)) (old new all : ℕ) → lines ≡ line ∷ rest → bytes ≡ line
-    → u ≡ after_line p (tally_of player n) bytes → q ≡ p → new ≤ old + line_steps p (progress_of player) bytes
-    → old + lines_steps p (tally_of player n) lines ≤ all → new + lines_steps q u rest ≤ all
-unfolding tally_of
-line_sums p q player n u line bytes lines rest old new all next read done same counted within =
-    let t = tally_of player n in
-    let here : line_steps p (progress_of player) bytes ≡ line_steps p (progress_of player) line =
-    ap (line_steps p (progress_of player)) read in
-    let whole : lines_steps p t lines
-    ≡ line_steps p (progress_of player) line + lines_steps p (after_line p t line) rest =
+pub line_sums : (p q : PolicyOf) (t u : Tally) (at : Progress) (line bytes : List ℕ) (lines rest : List (List ℕ))
+    (old new all : ℕ) → t.progress ≡ at → lines ≡ line ∷ rest → bytes ≡ line → u ≡ after_line p t bytes → q ≡ p
+    → new ≤ old + line_steps p at bytes → old + lines_steps p t lines ≤ all → new + lines_steps q u rest ≤ all
+line_sums p q t u at line bytes lines rest old new all stands next read done same counted within =
+    let here : line_steps p at bytes ≡ line_steps p t.progress line =
+    (λ i. line_steps p (sym stands i) (read i)) in
+    let whole : lines_steps p t lines ≡ line_steps p t.progress line + lines_steps p (after_line p t line) rest =
     ap (lines_steps p t) next in
-    let then : u ≡ after_line p t line = done ∙ ap (after_line p t) read in
+    let later : u ≡ after_line p t line = done ∙ ap (after_line p t) read in
     let left : lines_steps q u rest ≡ lines_steps p (after_line p t line) rest =
-    (λ i. lines_steps (same i) (then i) rest) in
+    (λ i. lines_steps (same i) (later i) rest) in
     omega (arith, here, whole, left, counted, within)
 
 -- what was counted so far is within what is to be

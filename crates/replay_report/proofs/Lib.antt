@@ -6,3 +6,5 @@ pub mod Followed
 pub mod Finding
 pub mod Taking
 pub mod Asked
+pub mod Counting
+pub mod Summing

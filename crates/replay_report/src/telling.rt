@@ -41,7 +41,8 @@ fn message_in(reply: Reply) -> Option<Bytes>
 }
 
 /// One step, after which the composed part is still kept. An event that closes a session as slow or replaces an
-/// expression has it made anew; where there is no memory for that, this is want of memory too.
+/// expression has it made anew; where there is no memory for that, or no number is left for a cookie or an entry, this
+/// is told as want of memory too.
 fn step<R: Threads + Sync, G: Ledger>(
     rt: &R,
     machine: &mut Hyper,

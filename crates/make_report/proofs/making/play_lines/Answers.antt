@@ -1,7 +1,7 @@
 use Rattle.std.proofs.Common.{◌∙◌, ◌+◌, arith, refl}
-use Rattle.replay_report.specs.Players.{plan_of}
+use Rattle.replay_report.specs.Players.{plan_of, progress_of}
 use Rattle.make_report.specs.Making.{lines_steps, tally_of}
-use Rattle.make_report.proofs.Stepping.{at_end, line_on, line_sums, line_within, shorter, so_far, unowed}
+use Rattle.make_report.proofs.Stepping.{at_end, line_on, line_sums, line_within, progress_is, shorter, so_far, unowed}
 use Rattle.make_report.proofs.making.play_lines.Goals as goal
 
 pub loop-line-init : goal.loop-line-init
@@ -55,9 +55,10 @@ loop-line-preserved g c =
       report = c.in_ok-play_line.ensures.report;
       ready = c.in_ok-play_line.ensures.ready;
       steps =
-          line_sums (plan_of old) (plan_of new) old c.loop-line.counts (tally_of new c.play_line.new.counts)
-          c.in-Some.line line c.loop-line.script c.next.new.self c.loop-line.steps c.play_line.new.steps _
-          next c.as_bytes.ensures.bytes c.in_ok-play_line.ensures.tally c.in_ok-play_line.ensures.plan
+          line_sums (plan_of old) (plan_of new) (tally_of old c.loop-line.counts)
+          (tally_of new c.play_line.new.counts) (progress_of old) c.in-Some.line line c.loop-line.script
+          c.next.new.self c.loop-line.steps c.play_line.new.steps _ (progress_is old c.loop-line.counts) next
+          c.as_bytes.ensures.bytes c.in_ok-play_line.ensures.tally c.in_ok-play_line.ensures.plan
           c.play_line.ensures.steps c.loop-line.invariant.steps;
     }
 
@@ -89,6 +90,7 @@ pub returns-in_err-play_line-clause-steps : goal.returns-in_err-play_line-clause
 returns-in_err-play_line-clause-steps g c =
     let old = c.loop-line.player in
     let next = rw c.in-Some.is at c.in_ok-line.ensures.line in
-    line_within (plan_of old) old c.loop-line.counts c.in-Some.line c.as_bytes.result.now c.loop-line.script
-    c.next.new.self c.loop-line.steps c.play_line.new.steps _ next c.as_bytes.ensures.bytes c.play_line.ensures.steps
+    line_within (plan_of old) (tally_of old c.loop-line.counts) (progress_of old) c.in-Some.line
+    c.as_bytes.result.now c.loop-line.script c.next.new.self c.loop-line.steps c.play_line.new.steps _
+    (progress_is old c.loop-line.counts) next c.as_bytes.ensures.bytes c.play_line.ensures.steps
     c.loop-line.invariant.steps

@@ -11,11 +11,11 @@ use Rattle.policy_serving.proofs.Opens.{is_opening}
 use Rattle.policy_serving.proofs.serve.opened.Goals as goal
 
 pub returns-clause-opening : goal.returns-clause-opening
-returns-clause-opening c =
+returns-clause-opening g c =
     is_opening c.args.policy c.in_ok-machine.machine c.in_ok-machine.ensures.plan c.in_ok-machine.ensures.opening
 
 pub returns-clause-served : goal.returns-clause-served
-returns-clause-served c =
+returns-clause-served g c =
     let machine = c.in_ok-machine.machine in
     let same = c.in_ok-machine.ensures.plan in
     let places : c.in_ok-places.places ≡ places_of machine.plan = c.in_ok-places.ensures ∙ ap places_of (sym same) in
@@ -23,6 +23,6 @@ returns-clause-served c =
     (c.places_are_served.ensures machine (subst IsSound (sym same) c.is_sound.ensures) (c.in_ok-machine.ensures.opening ∙ ap opening (sym same)))
 
 pub returns-clause-few : goal.returns-clause-few
-returns-clause-few c =
+returns-clause-few g c =
     subst (λ (places : List Place). 2 * length places + 1 < 2 ^ 32) (sym c.in_ok-places.ensures)
     (c.places_are_few.ensures c.args.policy c.is_sound.ensures)

@@ -1,4 +1,4 @@
-use Rattle.std.proofs.Common.{◌≡◌, ◌++◌, length}
+use Rattle.std.proofs.Common.{◌≡◌, ◌≤◌, ◌+◌, ◌++◌, length, true}
 use Rattle.machine_drafts.specs.Machines.{state_of}
 use Rattle.replay_report.specs.Cuts.{frames_of, rest_of}
 use Rattle.replay_report.specs.Playing.{sends}
@@ -14,6 +14,9 @@ invariant-loop-frame g l = record {
   plan : l.stage.machine.plan ≡ l.initial.stage.machine.plan;
   names : l.stage.names ≡ l.initial.stage.names;
   rest : rest_of l.framer ≡ rest_of l.initial.framer;
+  compiled : l.stage.machine.compiled ≡ true;
+  steps : l.steps + (sends l.stage.machine.plan l.who (frames_of l.framer) (state_of l.stage.machine)).steps
+      ≤ l.initial.steps + (sends l.initial.stage.machine.plan l.who (frames_of l.initial.framer) (state_of l.initial.stage.machine)).steps;
 }
 
 abbrev pub decreases-loop-frame : goal.decreases-loop-frame
