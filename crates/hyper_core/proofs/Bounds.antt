@@ -273,11 +273,11 @@ followed_wanting p s e h a b hears first =
 
 -- any event ---------------------------------------------------------------------------------------------------------
 
-pub not_still : (p : PolicyOf) (s : State) (e : Event) (n : ℕ) → glance_of p s e ≡ None → taking_in e ≡ None
-    → n ≡ unless_still (glance_of p s e) e n
-not_still p s e n g h = by e h ∙ sym (ap (λ o. unless_still o e n) g)
+pub not_still : {A : Type 0} (p : PolicyOf) (s : State) (e : Event) (at x : A) → glance_of p s e ≡ None
+    → taking_in e ≡ None → x ≡ unless_still at (glance_of p s e) e x
+not_still p s e at x g h = by e h ∙ sym (ap (λ o. unless_still at o e x) g)
   where
-    by : (e : Event) → taking_in e ≡ None → n ≡ unless_still None e n
+    by : (e : Event) → taking_in e ≡ None → x ≡ unless_still at None e x
     by (Take x) h = absurd (cc)
     by (Up who arp) h = refl
     by (Msg x frame) h = refl

@@ -143,7 +143,7 @@ still_cost p s e h i =
     turning_still p (heard s e) (settled_of p (heard s e) e nobody).state h.tables i
     + (if h.none_slow i && not (h.none_replaced i) then 0 else building_steps_of p (step_of p s e).1)
 
-still_none : (o : Option Reply) (e : Event) → unless_still o e 0 ≡ 0
+still_none : (o : Option Reply) (e : Event) → ◌≡◌ {A = ℕ} (unless_still 0 o e 0) 0
 still_none (Some reply) e = refl
 still_none None (Up who arp) = refl
 still_none None (Msg session frame) = refl
@@ -155,5 +155,5 @@ still_none None (Replace v text) = refl
 pub still_takes_none : StillTakesNone
 unfolding cost_in
 still_takes_none d e h =
-    ap (unless_still (glance_of d.plan (state_in d) e) e) (still_cost d.plan (state_in d) e h)
+    ap (λ (n : ℕ). unless_still 0 (glance_of d.plan (state_in d) e) e n) (still_cost d.plan (state_in d) e h)
     ∙ still_none (glance_of d.plan (state_in d) e) e

@@ -67,29 +67,23 @@ followed_cost p s e =
 abbrev pub whole_cost : PolicyOf → State → Event → ℕ
 whole_cost p s e = first_steps p (heard s e) e + building_steps_of p (step_of p s e).1
 
--- what is answered at once takes none, nor does a taking
-abbrev pub unless_still : Option Reply → Event → ℕ → ℕ
-unless_still (Some reply) e n = 0
-unless_still None (Take session) n = 0
-unless_still None e n = n
-
--- what is answered at once leaves what is kept as it is, and so does a taking
-abbrev pub or_still : Option Reply → Event → Bool → Bool
-or_still (Some reply) e b = true
-or_still None (Take session) b = true
-or_still None e b = b
+-- what is answered at once and a taking have one answer, and every other event another
+abbrev pub unless_still : {A : Type 0} → A → Option Reply → Event → A → A
+unless_still at (Some reply) e x = at
+unless_still at None (Take session) x = at
+unless_still at None e x = x
 
 -- what is kept as an event comes is kept as it ends, as long as numbers are left
 abbrev pub stays_kept : PolicyOf → State → Event → Bool
-stays_kept p s e = or_still (glance_of p s e) e (is_followed p (heard s e) e)
+stays_kept p s e = unless_still true (glance_of p s e) e (is_followed p (heard s e) e)
 
 -- how many an event takes at most where the composed part is kept as it comes
 abbrev pub cost_of : PolicyOf → State → Event → ℕ
-cost_of p s e = unless_still (glance_of p s e) e (followed_cost p s e)
+cost_of p s e = unless_still 0 (glance_of p s e) e (followed_cost p s e)
 
 -- and in any case
 abbrev pub most_of : PolicyOf → State → Event → ℕ
-most_of p s e = unless_still (glance_of p s e) e (whole_cost p s e)
+most_of p s e = unless_still 0 (glance_of p s e) e (whole_cost p s e)
 
 -- of what a machine means
 unfoldable pub cost_in : StateData → Event → ℕ

@@ -1,5 +1,5 @@
 //! The composed part is kept beside what the machine holds, under changes of members' tables.
-ghost use Rattle.std.specs.Prelude.{◌≡◌, ◌<◌, ◌≤◌, ◌+◌, IfOk, IfSome, IsTrue, OnOk, Some, if◌then◌else◌, is_some, true};
+ghost use Rattle.std.specs.Prelude.{◌≡◌, ◌↔◌, ◌<◌, ◌≤◌, ◌+◌, IfOk, IfSome, OnOk, Some, if◌then◌else◌, is_some, true};
 ghost use Rattle.composed_tables.specs.Composing.{AreTables};
 ghost use Rattle.hyper_core.specs.Costs.{building_steps_of, turning_steps};
 ghost use Rattle.hyper_core.specs.Kept.{IsComposedOf, IsKept, IsKeptBy, IsSoundWhile};
@@ -17,7 +17,7 @@ use crate::sources::Source;
 use crate::turning::turn;
 use crate::views::present;
 use composed_tables::Composed;
-use cv_io::{Memory, Steps};
+use cv_io::{List, Memory, Steps};
 use machine_drafts::held::Held;
 use machine_drafts::outcome::Outcome;
 use machine_drafts::session::Member;
@@ -93,7 +93,8 @@ pub(crate) fn build_first<R: Threads + Sync, G: Ledger>(
         return Err(Memory);
     }
     let mut steps = Steps::<G>::new(blank);
-    build_from(rt, setup, held, &mut steps)
+    let composed = build_from(rt, setup, held, &mut steps)?;
+    Ok(composed)
 }
 
 /// The composed part of what is held, if there is memory for it.
@@ -110,30 +111,29 @@ fn build<R: Threads + Sync, G: Ledger>(
     build_from(rt, setup, held, steps).ok()
 }
 
-/// A serial number is left for an entry of a member. So it is, always.
-fn has_serial(member: &Member) -> bool
-    ensures has { IsTrue result → HasSerial (member_of member.now) }
-    ensures always { result ≡ true }
+/// A serial number is left for an entry of a member, always.
+fn has_serial(member: &Member)
+    ensures { HasSerial (member_of member.now) }
 {
     // The proof learns what is true of every table.
     let _table = member.kept.table();
-    true
 }
 
 /// So it is for each member.
-fn have_serials(members: &[Member]) -> bool
-    ensures have { IsTrue result → StandingHaveSerials members.now }
-    ensures always { result ≡ true }
+fn have_serials(members: &List<Member>)
+    ensures { StandingHaveSerials members.now }
 {
-    members.iter().all(has_serial)
+    for member in members.as_slice() {
+        has_serial(member);
+    }
 }
 
-/// Numbers are left: cookies, and serial numbers of entries.
+/// Whether numbers are left: cookies, and serial numbers of entries.
 fn has_numbers(held: &Held) -> bool
-    ensures has { IsTrue result → HasNumbers (state_in_held held.now) }
-    ensures tells { HasNumbers (state_in_held held.now) → result ≡ true }
+    ensures { (result ≡ true) ↔ HasNumbers (state_in_held held.now) }
 {
-    held.next_cookie < u64::MAX && have_serials(held.members.as_slice())
+    have_serials(&held.members);
+    held.next_cookie < u64::MAX
 }
 
 /// This is kept from now on.

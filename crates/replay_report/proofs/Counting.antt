@@ -22,7 +22,7 @@ use Rattle.replay_report.specs.declared.streams.Stream.{Stream}
 
 -- ---- an event
 
-still_takes_none : (o : Option Reply) (session : Session) (n : ℕ) → unless_still o (Take session) n ≡ 0
+still_takes_none : (o : Option Reply) (session : Session) (n : ℕ) → unless_still 0 o (Take session) n ≡ 0
 still_takes_none None session n = refl
 still_takes_none (Some reply) session n = refl
 

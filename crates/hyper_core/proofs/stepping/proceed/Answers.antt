@@ -1,13 +1,14 @@
 use Rattle.std.proofs.Common.{◌≡◌, ◌∙◌, ap, subst, sym}
-use Rattle.std.specs.Prelude.{is_some, reverse}
+use Rattle.std.specs.Prelude.{is_some, reverse, true}
 use Rattle.machine_meaning.specs.Phases.{drafted}
 use Rattle.machine_meaning.specs.States.{State}
 use Rattle.machine_meaning.specs.Steps.{done, step_of}
 use Rattle.events.specs.declared.event.Reply.{Reply}
-use Rattle.hyper_core.proofs.Attempts.{has_all_kept}
+use Rattle.hyper_core.proofs.Attempts.{has_all_kept, in_ok_case}
 use Rattle.hyper_core.proofs.Bounds.{followed, followed_wanting, no_more, whole, whole_wanting}
 use Rattle.hyper_core.proofs.KeptOn.{begun_kept, kept_none, sound_stepped}
 use Rattle.hyper_core.proofs.Stepped.{has_all_counted, settled_counted, step_other, taken_back}
+use Rattle.hyper_core.specs.Costs.{is_followed}
 use Rattle.hyper_core.specs.Kept.{IsKept, IsSoundWhile}
 use Rattle.machine_drafts.specs.Machines.{state_in_held}
 use Rattle.hyper_core.specs.Settled.{IsSettledState}
@@ -147,3 +148,17 @@ returns-in_err-overtaken-clause-cost g c there = no_more _ _
 
 pub returns-in_err-overtaken-clause-most : goal.returns-in_err-overtaken-clause-most
 returns-in_err-overtaken-clause-most g c = no_more _ _
+
+pub returns-in-Ok-clause-stays : goal.returns-in-Ok-clause-stays
+returns-in-Ok-clause-stays g c there follows numbers =
+    c.keep.ensures.stays
+    (c.in-Ok.ensures.follows there
+    (subst (λ (z : State). is_followed c.args.setup.now z c.args.event.now ≡ true) (sym c.in_ok-overtaken.ensures.heard)
+    follows))
+    numbers
+
+pub returns-in-Err-clause-stays : goal.returns-in-Err-clause-stays
+returns-in-Err-clause-stays g c there follows numbers = tt
+
+pub returns-in_err-overtaken-clause-stays : goal.returns-in_err-overtaken-clause-stays
+returns-in_err-overtaken-clause-stays g c there follows numbers = in_ok_case c.from_residual.result there

@@ -1,6 +1,7 @@
-use Rattle.std.proofs.Common.{◌∙◌, ◌+◌, ◌≤◌, ℕ, subst, sym}
+use Rattle.std.proofs.Common.{◌≡◌, ◌∙◌, ◌+◌, ◌≤◌, ℕ, true, subst, sym}
 use Rattle.machine_drafts.specs.Machines.{state_in_held}
-use Rattle.hyper_core.specs.Costs.{followed_cost, whole_cost}
+use Rattle.machine_meaning.specs.Hearing.{heard}
+use Rattle.hyper_core.specs.Costs.{followed_cost, is_followed, whole_cost}
 use Rattle.hyper_core.proofs.Bounds.{no_more, not_still}
 use Rattle.hyper_core.proofs.Stepped.{kept_left, settled_taken}
 use Rattle.hyper_core.proofs.stepping.step.Goals as goal
@@ -15,7 +16,7 @@ returns-in-Some-taking_in-clause-kept g c =
 pub returns-clause-cost : goal.returns-clause-cost
 returns-clause-cost g c there =
     subst (λ (n : ℕ). c.proceed.new.steps ≤ c.args.steps.now + n)
-    (not_still c.args.setup.now (state_in_held c.args.held.now) c.args.event.now
+    (not_still c.args.setup.now (state_in_held c.args.held.now) c.args.event.now 0
     (followed_cost c.args.setup.now (state_in_held c.args.held.now) c.args.event.now)
     (sym c.glance.ensures ∙ c.in_default.is) (sym c.taking_in.ensures ∙ c.in_default-taking_in.is))
     (c.proceed.ensures.cost there)
@@ -23,7 +24,7 @@ returns-clause-cost g c there =
 pub returns-clause-most : goal.returns-clause-most
 returns-clause-most g c =
     subst (λ (n : ℕ). c.proceed.new.steps ≤ c.args.steps.now + n)
-    (not_still c.args.setup.now (state_in_held c.args.held.now) c.args.event.now
+    (not_still c.args.setup.now (state_in_held c.args.held.now) c.args.event.now 0
     (whole_cost c.args.setup.now (state_in_held c.args.held.now) c.args.event.now)
     (sym c.glance.ensures ∙ c.in_default.is) (sym c.taking_in.ensures ∙ c.in_default-taking_in.is))
     c.proceed.ensures.most
@@ -50,3 +51,23 @@ pub returns-in-Some-taking_in-clause-settled : goal.returns-in-Some-taking_in-cl
 returns-in-Some-taking_in-clause-settled g c =
     settled_taken c.args.setup.now c.args.held.now c.take.new.held c.in-Some-taking_in.session c.requires.settled
     c.take.ensures.left
+
+pub returns-clause-stays : goal.returns-clause-stays
+returns-clause-stays g c there stays numbers =
+    let p = c.args.setup.now in
+    let s = state_in_held c.args.held.now in
+    let e = c.args.event.now in
+    c.proceed.ensures.stays there
+    (not_still p s e true (is_followed p (heard s e) e) (sym c.glance.ensures ∙ c.in_default.is)
+    (sym c.taking_in.ensures ∙ c.in_default-taking_in.is)
+    ∙ stays)
+    numbers
+
+pub returns-in-Some-clause-stays : goal.returns-in-Some-clause-stays
+returns-in-Some-clause-stays g c there stays numbers = there
+
+pub returns-in-Some-taking_in-clause-stays : goal.returns-in-Some-taking_in-clause-stays
+returns-in-Some-taking_in-clause-stays g c there stays numbers = there
+
+pub returns-then-not-is_event-clause-stays : goal.returns-then-not-is_event-clause-stays
+returns-then-not-is_event-clause-stays g c there stays numbers = tt
