@@ -8,7 +8,8 @@ use Rattle.machine_meaning.specs.Glances.{glance_of}
 use Rattle.machine_meaning.specs.States.{State}
 use Rattle.policy_file.specs.Policies.{PolicyOf}
 
-still_takes_none : (o : Option Reply) (session : Session) (n : ℕ) → unless_still 0 o (Take session) n ≡ 0
+still_takes_none : (o : Option Reply) (session : Session) (n : ℕ)
+    → ◌≡◌ {A = ℕ} (unless_still 0 o (Take session) n) 0
 still_takes_none None session n = refl
 still_takes_none (Some reply) session n = refl
 
