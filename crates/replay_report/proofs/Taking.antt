@@ -12,7 +12,7 @@ use Rattle.replay_report.specs.Kinds.{Reads}
 use Rattle.replay_report.specs.Players.{Takes}
 use Rattle.replay_report.specs.Playing.{Played, Stand, line_does}
 use Rattle.replay_report.specs.Plays.{HasPlayed, Plays, stand_in}
-use Rattle.replay_report.specs.Reports.{Progress, or_unknown, or_word, read_does, taken}
+use Rattle.replay_report.specs.Reports.{Progress, or_unknown, or_word, read_does, steps_in, taken}
 use Rattle.replay_report.specs.declared.kind.Kind.{Kind}
 use Rattle.replay_report.specs.declared.kind.Kind.TheVariants.{Size, Unknown}
 use Rattle.replay_report.specs.declared.streams.Stream.{Stream}
@@ -45,6 +45,14 @@ read_refused p said kind stand r =
 
 pub read_said : (p : PolicyOf) (said : Result Line LineFault) (line : Line) (stand : Stand) → Reads said (Ok line) → read_does p said stand ≡ or_unknown (line_does p line stand)
 read_said p said line stand r = ap (λ z. read_does p z stand) r
+
+-- a line takes the steps of what it does
+pub line_counts : (form : Form) (p : PolicyOf) (at : Progress) (bytes : List ℕ) (used : ℕ) (line : Line) (old new : ℕ)
+    → length bytes ≤ 140000 → at.size + used ≤ 4294967295 → Reads (line_in form bytes) (Ok line)
+    → new ≤ old + steps_in (or_unknown (line_does p line at.stand)) → new ≤ old + steps_in (taken form p at bytes used)
+line_counts form p at bytes used line old new short small said h =
+    subst (λ (r : Result Played Kind). new ≤ old + steps_in r)
+    (sym (read_taken form p at bytes used short small ∙ read_said p (line_in form bytes) line at.stand said)) h
 
 -- a line that names something unknown
 pub record IsUnknown (o : Option Played) (old new : Stage) (before after : List Stream) : Type 0 where
