@@ -12,7 +12,7 @@ use Rattle.replay_report.specs.Kinds.{Reads}
 use Rattle.replay_report.specs.Players.{Takes}
 use Rattle.replay_report.specs.Playing.{Played, Stand, line_does}
 use Rattle.replay_report.specs.Plays.{HasPlayed, Plays, stand_in}
-use Rattle.replay_report.specs.Reports.{Progress, or_unknown, or_word, read_does, taken}
+use Rattle.replay_report.specs.Reports.{Progress, or_unknown, or_word, read_does, steps_in, taken}
 use Rattle.replay_report.specs.declared.kind.Kind.{Kind}
 use Rattle.replay_report.specs.declared.kind.Kind.TheVariants.{Size, Unknown}
 use Rattle.replay_report.specs.declared.streams.Stream.{Stream}
@@ -45,6 +45,11 @@ read_refused p said kind stand r =
 
 pub read_said : (p : PolicyOf) (said : Result Line LineFault) (line : Line) (stand : Stand) → Reads said (Ok line) → read_does p said stand ≡ or_unknown (line_does p line stand)
 read_said p said line stand r = ap (λ z. read_does p z stand) r
+
+-- what was counted of it
+pub read_counts : (r : Result Played Kind) (o : Option Played) (old new : ℕ) → r ≡ or_unknown o
+    → new ≤ old + steps_in (or_unknown o) → new ≤ old + steps_in r
+read_counts r o old new is counted = subst (λ (q : Result Played Kind). new ≤ old + steps_in q) (sym is) counted
 
 -- a line that names something unknown
 pub record IsUnknown (o : Option Played) (old new : Stage) (before after : List Stream) : Type 0 where
