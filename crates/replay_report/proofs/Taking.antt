@@ -46,10 +46,13 @@ read_refused p said kind stand r =
 pub read_said : (p : PolicyOf) (said : Result Line LineFault) (line : Line) (stand : Stand) → Reads said (Ok line) → read_does p said stand ≡ or_unknown (line_does p line stand)
 read_said p said line stand r = ap (λ z. read_does p z stand) r
 
--- what was counted of it
-pub read_counts : (r : Result Played Kind) (o : Option Played) (old new : ℕ) → r ≡ or_unknown o
-    → new ≤ old + steps_in (or_unknown o) → new ≤ old + steps_in r
-read_counts r o old new is counted = subst (λ (q : Result Played Kind). new ≤ old + steps_in q) (sym is) counted
+-- a line takes the steps of what it does
+pub line_counts : (form : Form) (p : PolicyOf) (at : Progress) (bytes : List ℕ) (used : ℕ) (line : Line) (old new : ℕ)
+    → length bytes ≤ 140000 → at.size + used ≤ 4294967295 → Reads (line_in form bytes) (Ok line)
+    → new ≤ old + steps_in (or_unknown (line_does p line at.stand)) → new ≤ old + steps_in (taken form p at bytes used)
+line_counts form p at bytes used line old new short small said h =
+    subst (λ (r : Result Played Kind). new ≤ old + steps_in r)
+    (sym (read_taken form p at bytes used short small ∙ read_said p (line_in form bytes) line at.stand said)) h
 
 -- a line that names something unknown
 pub record IsUnknown (o : Option Played) (old new : Stage) (before after : List Stream) : Type 0 where

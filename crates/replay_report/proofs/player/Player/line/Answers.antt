@@ -2,11 +2,10 @@ use Rattle.std.proofs.Common.{◌≡◌, ◌≤◌, ◌∙◌, false, true, ap, 
 use Rattle.script_text.specs.Reading.{line_in}
 use Rattle.replay_report.specs.Kinds.{Reads}
 use Rattle.replay_report.specs.Players.{form_of, is_ready, plan_of, progress_of, reported}
-use Rattle.replay_report.specs.Playing.{line_does}
 use Rattle.replay_report.specs.Reports.{taken}
 use Rattle.replay_report.specs.declared.kind.Kind.TheVariants.{Long, Size}
 use Rattle.replay_report.proofs.Followed.{long_taken}
-use Rattle.replay_report.proofs.Taking.{done_takes, read_counts, read_refused, read_said, read_taken, refused_takes, size_taken}
+use Rattle.replay_report.proofs.Taking.{done_takes, line_counts, read_refused, read_said, read_taken, refused_takes, size_taken}
 use Rattle.replay_report.proofs.Taking.{unknown_takes}
 use Rattle.replay_report.proofs.player.Player.line.Goals as goal
 
@@ -65,26 +64,20 @@ pub play-requires-clause-compiled : goal.play-requires-clause-compiled
 unfolding is_ready
 play-requires-clause-compiled g c ks lives = c.requires.ready
 
-pub returns-in_err-play-clause-steps : goal.returns-in_err-play-clause-steps
-unfolding form_of plan_of reported progress_of
-returns-in_err-play-clause-steps g c =
-    let self = c.args.self.now in
-    let at = progress_of self in
-    let line = c.args.line.now in
-    let read = read_taken (form_of self) (plan_of self) at line c.args.used (omega (arith, c.if-line-gt-LINE.false)) (omega (arith, c.if-size-gt-SCRIPT.false)) in
-    let said = subst (Reads (line_in (form_of self) line)) c.in-Ok.is c.in_ok-said.ensures in
-    read_counts (taken (form_of self) (plan_of self) at line c.args.used) (line_does (plan_of self) c.in-Ok.said at.stand)
-    c.args.steps.now c.play.new.steps
-    (read ∙ read_said (plan_of self) (line_in (form_of self) line) c.in-Ok.said at.stand said) c.play.ensures.steps
-
 pub returns-clause-steps : goal.returns-clause-steps
 unfolding form_of plan_of reported progress_of
 returns-clause-steps g c =
     let self = c.args.self.now in
-    let at = progress_of self in
-    let line = c.args.line.now in
-    let read = read_taken (form_of self) (plan_of self) at line c.args.used (omega (arith, c.if-line-gt-LINE.false)) (omega (arith, c.if-size-gt-SCRIPT.false)) in
-    let said = subst (Reads (line_in (form_of self) line)) c.in-Ok.is c.in_ok-said.ensures in
-    read_counts (taken (form_of self) (plan_of self) at line c.args.used) (line_does (plan_of self) c.in-Ok.said at.stand)
-    c.args.steps.now c.play.new.steps
-    (read ∙ read_said (plan_of self) (line_in (form_of self) line) c.in-Ok.said at.stand said) c.play.ensures.steps
+    let said = subst (Reads (line_in (form_of self) c.args.line.now)) c.in-Ok.is c.in_ok-said.ensures in
+    line_counts (form_of self) (plan_of self) (progress_of self) c.args.line.now c.args.used c.in-Ok.said
+    c.args.steps.now c.play.new.steps (omega (arith, c.if-line-gt-LINE.false)) (omega (arith, c.if-size-gt-SCRIPT.false))
+    said c.play.ensures.steps
+
+pub returns-in_err-play-clause-steps : goal.returns-in_err-play-clause-steps
+unfolding form_of plan_of reported progress_of
+returns-in_err-play-clause-steps g c =
+    let self = c.args.self.now in
+    let said = subst (Reads (line_in (form_of self) c.args.line.now)) c.in-Ok.is c.in_ok-said.ensures in
+    line_counts (form_of self) (plan_of self) (progress_of self) c.args.line.now c.args.used c.in-Ok.said
+    c.args.steps.now c.play.new.steps (omega (arith, c.if-line-gt-LINE.false)) (omega (arith, c.if-size-gt-SCRIPT.false))
+    said c.play.ensures.steps
