@@ -1,0 +1,30 @@
+//! Tests of changes: compiled expressions, the rules of ports through hops and what is to stand on switches, each
+//! against the rules from scratch; and the steps of worked changes. They stand in a crate of their own, over the
+//! crates that they test, so that these are proved once.
+#![tactic(auto)]
+
+ghost use Rattle.change_tests.specs.WorkedSteps.{StepsOfOneEntry, StepsOfSettings, StepsOverHops};
+
+#[cfg(test)]
+mod draws;
+#[cfg(test)]
+mod expressions;
+#[cfg(test)]
+mod folding;
+#[cfg(test)]
+mod hops;
+#[cfg(test)]
+mod nets;
+#[cfg(test)]
+mod settings;
+#[cfg(test)]
+mod switches;
+#[cfg(test)]
+mod topologies;
+
+/// The steps at `+` of one entry that comes and of one that goes, those over hops, and those of both together.
+pub fn worked_steps()
+    ensures at_plus { StepsOfOneEntry }
+    ensures over_hops { StepsOverHops }
+    ensures together { StepsOfSettings }
+{}
