@@ -1,10 +1,14 @@
-//! What is done, and what came of it.
+//! What is done, and what came of it. Tables and composed rules are let go of by `drop`: at the end of a scope, each
+//! way out of it would have to show again that all their parts can be let go.
 ghost use Rattle.std.specs.Prelude.{◌≡◌, ◌<◌};
+ghost use Rattle.std.specs.List.{AllByRecursion};
+ghost use Rattle.policy_meaning.specs.LeafFact.{IsSoundTable};
 
 use crate::asked::{Asked, Phase};
 use crate::members::SIZE;
 use cv_io::{List, Memory, Steps};
 use fitting_changes::Composer;
+use policy_meaning::LeafTable;
 use std::alloc::Global;
 use std::sync::ledger::{Blank, Ledger};
 use std::thread::Threads;
@@ -16,6 +20,22 @@ pub struct Tally {
     pub went: usize,
 }
 
+/// The rules of the members' tables, composed if they can be.
+fn composed_of<R: Threads + Sync, G: Ledger>(
+    rt: &R,
+    alloc: Global,
+    asked: &Asked,
+    tables: List<LeafTable>,
+    ports: &List<u16>,
+    steps: &mut Steps<G>,
+) -> Result<Option<Composer>, Memory>
+    requires { AllByRecursion IsSoundTable tables }
+{
+    let made = Composer::build(rt, alloc, asked.shape, SIZE, &tables, ports, steps);
+    drop(tables);
+    made
+}
+
 /// The members' rules, composed.
 fn composed<R: Threads + Sync, G: Ledger>(
     rt: &R,
@@ -23,12 +43,10 @@ fn composed<R: Threads + Sync, G: Ledger>(
     asked: &Asked,
     steps: &mut Steps<G>,
 ) -> Result<Composer, Memory> {
-    let tables = asked.tables(alloc)?;
     let ports = List::from_slice(alloc, &[1, 2, 3, 4])?;
-    match Composer::build(rt, alloc, asked.shape, SIZE, &tables, &ports, steps)? {
-        Some(composer) => Ok(composer),
-        None => Err(Memory),
-    }
+    let tables = asked.tables(alloc)?;
+    let made = composed_of(rt, alloc, asked, tables, &ports, steps)?;
+    made.ok_or(Memory)
 }
 
 impl Tally {
@@ -76,9 +94,30 @@ fn anew<R: Threads + Sync, G: Ledger>(
     steps: &mut Steps<G>,
 ) -> Result<(), Memory> {
     for _turn in 0..asked.turns {
-        composed(rt, alloc, asked, steps)?;
+        drop(composed(rt, alloc, asked, steps)?);
     }
     Ok(())
+}
+
+/// Does what is asked for.
+fn done<R: Threads + Sync, G: Ledger>(
+    rt: &R,
+    alloc: Global,
+    asked: &Asked,
+    composer: &mut Composer,
+    steps: &mut Steps<G>,
+) -> Result<Tally, Memory> {
+    let mut tally = Tally { came: 0, went: 0 };
+    match asked.phase {
+        Phase::Count => tally.came = composer.rules()?.len(),
+        Phase::Adds => tally.turn(alloc, asked, composer, true, steps)?,
+        Phase::Both => {
+            tally.turn(alloc, asked, composer, true, steps)?;
+            tally.turn(alloc, asked, composer, false, steps)?;
+        }
+        Phase::Anew => anew(rt, alloc, asked, steps)?,
+    }
+    Ok(tally)
 }
 
 /// Composes the members' rules, and does what is asked for.
@@ -88,18 +127,10 @@ fn run<R: Threads + Sync, G: Ledger>(
     asked: &Asked,
     steps: &mut Steps<G>,
 ) -> Result<Tally, Memory> {
-    let mut tally = Tally { came: 0, went: 0 };
     let mut composer = composed(rt, alloc, asked, steps)?;
-    match asked.phase {
-        Phase::Count => tally.came = composer.rules()?.len(),
-        Phase::Adds => tally.turn(alloc, asked, &mut composer, true, steps)?,
-        Phase::Both => {
-            tally.turn(alloc, asked, &mut composer, true, steps)?;
-            tally.turn(alloc, asked, &mut composer, false, steps)?;
-        }
-        Phase::Anew => anew(rt, alloc, asked, steps)?,
-    }
-    Ok(tally)
+    let tally = done(rt, alloc, asked, &mut composer, steps);
+    drop(composer);
+    tally
 }
 
 /// Does what is asked for, with a counter of its own.

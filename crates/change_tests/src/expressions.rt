@@ -114,6 +114,68 @@ fn drawn(
     }
 }
 
+/// An expression whose members' entries change, and what is known of its rules by what was told.
+#[derive(Drop)]
+struct Folding {
+    shape: Shape,
+    draws: Draws,
+    tables: List<LeafTable>,
+    composer: Composer,
+    seen: List<Rule>,
+}
+
+impl Folding {
+    /// Before any entry comes.
+    fn start<R: Threads + Sync, G: Ledger>(
+        rt: &R,
+        alloc: Global,
+        shape: Shape,
+        steps: &mut Steps<G>,
+    ) -> Result<Folding, Fail> {
+        let composer = empty(rt, alloc, shape, steps)?;
+        let seen = composer.rules()?;
+        let tables = empty_tables(alloc, shape)?;
+        Ok(Folding {
+            shape,
+            draws: Draws { state: 19 },
+            tables,
+            composer,
+            seen,
+        })
+    }
+
+    /// Whether the rules, and what was told of them, are those from scratch.
+    fn is_scratch(&self, alloc: Global) -> Result<bool, Fail> {
+        let wanted = scratch(alloc, self.shape, &self.tables)?;
+        Ok(are(&self.seen, &wanted)? && self.composer.rules()? == wanted)
+    }
+
+    /// Whether they are after a change of one member's entries.
+    fn follows<G: Ledger>(&mut self, alloc: Global, steps: &mut Steps<G>) -> Result<bool, Fail> {
+        let shape = self.shape;
+        let member = any_member(&mut self.draws, shape);
+        let change = drawn(alloc, &mut self.draws, shape, &mut self.tables, member)?;
+        let RuleDelta { gone, come } = turn(alloc, &mut self.composer, member, change, steps)?;
+        let was_there = follows(&mut self.seen, gone.as_slice(), come)?;
+        Ok(was_there && self.is_scratch(alloc)?)
+    }
+
+    /// Whether they are after each of so many changes.
+    fn all_follow<G: Ledger>(
+        &mut self,
+        alloc: Global,
+        rounds: u32,
+        steps: &mut Steps<G>,
+    ) -> Result<bool, Fail> {
+        for _round in 0..rounds {
+            if !self.follows(alloc, steps)? {
+                return Ok(false);
+            }
+        }
+        Ok(true)
+    }
+}
+
 /// Whether the rules, and what was told of them, are those from scratch after each change.
 fn folded<R: Threads + Sync, G: Ledger>(
     rt: &R,
@@ -122,21 +184,10 @@ fn folded<R: Threads + Sync, G: Ledger>(
     rounds: u32,
     steps: &mut Steps<G>,
 ) -> Result<bool, Fail> {
-    let mut draws = Draws { state: 19 };
-    let mut tables = empty_tables(alloc, shape)?;
-    let mut composer = empty(rt, alloc, shape, steps)?;
-    let mut seen = composer.rules()?;
-    for _round in 0..rounds {
-        let member = any_member(&mut draws, shape);
-        let change = drawn(alloc, &mut draws, shape, &mut tables, member)?;
-        let RuleDelta { gone, come } = turn(alloc, &mut composer, member, change, steps)?;
-        let was_there = follows(&mut seen, gone.as_slice(), come)?;
-        let wanted = scratch(alloc, shape, &tables)?;
-        if !was_there || !are(&seen, &wanted)? || composer.rules()? != wanted {
-            return Ok(false);
-        }
-    }
-    Ok(true)
+    let mut folding = Folding::start(rt, alloc, shape, steps)?;
+    let followed = folding.all_follow(alloc, rounds, steps);
+    drop(folding);
+    followed
 }
 
 /// The packets of the left member's entry, and what is done with them beside sending a copy: those of a monitor,
