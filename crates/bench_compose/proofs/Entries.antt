@@ -1,5 +1,5 @@
 -- The entries of a member make a sound table.
-use Rattle.std.proofs.Common.{◌≡◌, ◌==◌, ℕ, ◌<◌, ◌+◌, ◌^◌, false, List, [], ◌∷◌, ◌++◌, refl, sym, subst, arith}
+use Rattle.std.proofs.Common.{◌≡◌, ◌==◌, ℕ, ◌<◌, ◌+◌, ◌^◌, false, List, [], ◌∷◌, ◌++◌, refl, ap, sym, ◌∙◌, subst, arith}
 use Rattle.std.specs.List.{AllByRecursion}
 use Rattle.of10_match.specs.Fields.{MatchOf}
 use Rattle.of10_match.specs.Matching.{everything, overlaps}
@@ -28,16 +28,17 @@ builds-none outs tail o = record {
   tail = subst (λ (z : List Out). AllByRecursion (λ (x : Out). TailExtends tail x.rewrite) z) (sym o) tt;
 }
 
-pub builds-one : (outs : List Out) (out : Out) → outs ≡ [] ++ out ∷ [] → out.rewrite ≡ no_rewrite → BuildsUp (record { outs = outs; tail = Nothing })
-builds-one outs out o r = record {
+pub builds-one : (before outs : List Out) (out : Out) → before ≡ [] → outs ≡ before ++ out ∷ [] → out.rewrite ≡ no_rewrite
+    → BuildsUp (record { outs = outs; tail = Nothing })
+builds-one before outs out b p r = let o : outs ≡ out ∷ [] = p ∙ ap (λ (z : List Out). z ++ out ∷ []) b in record {
   outs = subst (λ (z : List Out). EachExtends no_rewrite z) (sym o) (subst (λ (x : RewriteOf). Extends x no_rewrite) (sym r) none-set, tt);
   tail = subst (λ (z : List Out). AllByRecursion (λ (x : Out). TailExtends Nothing x.rewrite) z) (sym o) (tt, tt);
 }
 
 -- an entry's rank is its level, which is below that of a number
-record IsBefore (n : ℕ) (e : LeafEntry) : Type 0 where
-  rank : e.rank ≡ e.level
-  below : e.level < 2 + n
+pub record IsBefore (n : ℕ) (e : LeafEntry) : Type 0 where
+  pub rank : e.rank ≡ e.level
+  pub below : e.level < 2 + n
 
 -- the entries of the numbers below n
 pub record AreNumbered (n : ℕ) (es : List LeafEntry) : Type 0 where

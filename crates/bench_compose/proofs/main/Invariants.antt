@@ -2,4 +2,4 @@ use Rattle.bench_compose.proofs.main.Given as goal
 
 -- the ledger of the counter is the blank one's
 abbrev pub ghosts-counted : goal.ghosts-counted
-ghosts-counted a = record { name = a.blank.name; parts = a.blank.parts }
+ghosts-counted g a = record { name = a.blank.name; parts = a.blank.parts }

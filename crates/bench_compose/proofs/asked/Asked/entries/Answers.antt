@@ -1,5 +1,5 @@
 use Rattle.bench_compose.proofs.Entries.{none-numbered, one-numbered}
-use Rattle.bench_compose.proofs.members.Asked.entries.Goals as goal
+use Rattle.bench_compose.proofs.asked.Asked.entries.Goals as goal
 
 pub loop-number-init : goal.loop-number-init
 loop-number-init c = none-numbered c.new-entries.result c.new-entries.ensures

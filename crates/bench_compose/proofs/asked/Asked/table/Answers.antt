@@ -1,5 +1,5 @@
 use Rattle.bench_compose.proofs.Entries.{sound-table}
-use Rattle.bench_compose.proofs.members.Asked.table.Goals as goal
+use Rattle.bench_compose.proofs.asked.Asked.table.Goals as goal
 
 pub returns : goal.returns
 returns c =
