@@ -1,8 +1,7 @@
 //! Entries, and changes of entries by a fixed generator.
-ghost use Rattle.std.specs.Prelude.{IfOk};
+ghost use Rattle.std.specs.Prelude.{◌≡◌, ◌∷◌, [], IfOk};
 ghost use Rattle.policy_meaning.specs.LeafFact.{IsSoundTable};
 
-use crate::settings::alone;
 use cv_io::{Duplicate, Leaf, List};
 use of10_actions::{Dest, Effects, Out, Rewrite, Tail};
 use of10_match::{Match, Prefix};
@@ -10,6 +9,15 @@ use op_compose::leaf;
 use policy_meaning::{LeafEntry, LeafTable, Rule};
 use std::alloc::Global;
 use std::test::Fail;
+
+/// The list of one item.
+pub(crate) fn alone<T: Drop>(alloc: Global, item: T) -> Result<List<T>, Fail>
+    ensures { IfOk result (λ list. list ≡ item ∷ []) }
+{
+    let mut list = List::new(alloc);
+    list.push(item)?;
+    Ok(list)
+}
 
 /// An entry, from which a copy leaves if it has a place to go to.
 pub(crate) fn entry(

@@ -1,6 +1,6 @@
-//! Tests of changes: compiled expressions, the rules of ports through hops and what is to stand on switches, each
-//! against the rules from scratch; and the steps of worked changes. They stand in a crate of their own, over the
-//! crates that they test, so that these are proved once.
+//! Tests of changes: compiled expressions and the rules of ports through hops, each against the rules from scratch; and
+//! the steps of worked changes. They stand in a crate of their own, over the crates that they test, so that these are
+//! proved once.
 #![tactic(auto)]
 
 ghost use Rattle.change_tests.specs.WorkedSteps.{StepsOfOneEntry, StepsOfSettings, StepsOverHops};
@@ -15,10 +15,6 @@ mod folding;
 mod hops;
 #[cfg(test)]
 mod nets;
-#[cfg(test)]
-mod settings;
-#[cfg(test)]
-mod switches;
 #[cfg(test)]
 mod topologies;
 

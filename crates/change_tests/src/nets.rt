@@ -5,8 +5,7 @@ ghost use Rattle.policy_meaning.specs.declared.rule.Rule.{Rule as RuleOf};
 ghost use Rattle.fitting_changes.specs.Composers.{FitsIn};
 ghost use Rattle.change_tests.specs.Holding.{IsHolding};
 
-use crate::draws::Change;
-use crate::settings::alone;
+use crate::draws::{Change, alone};
 use crate::topologies::topology;
 use cv_io::{Duplicate, List, Memory, Steps};
 use fitting_changes::fits_in;

@@ -1,6 +1,6 @@
 use Rattle.std.proofs.Common.{arith}
-use Rattle.change_tests.proofs.WorkedRouted.{good-of, has-table, one-table, ready-of, take-of}
-use Rattle.change_tests.proofs.switches.follows.Goals as goal
+use Rattle.standing_tests.proofs.WorkedRouted.{good-of, has-table, one-table, ready-of, take-of}
+use Rattle.standing_tests.proofs.switches.follows.Goals as goal
 
 pub build-requires-clause-good : goal.build-requires-clause-good
 build-requires-clause-good g c κs lives =
