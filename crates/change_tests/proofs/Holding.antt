@@ -48,11 +48,11 @@ eights zero = 1
 eights (suc n) = 8 * eights n
 
 some-eights : (n : ℕ) → 1 ≤ eights n
-some-eights zero = omega arith
+some-eights zero = let one : 1 ≤ 1 = omega arith in one
 some-eights (suc n) = let a = some-eights n in omega arith
 
 hops-within : (f : Fabric) → ((v : ℕ) → f.sizes v ≤ 8) → (n v : ℕ) → hop_size f n v ≤ eights n
-hops-within f w zero v = omega arith
+hops-within f w zero v = let one : 1 ≤ 1 = omega arith in one
 hops-within f w (suc n) v =
     mul-le (f.sizes v) (peers_size (hop_size f n) (f.links v)) 8 (eights n) (w v)
     (peers-within (hop_size f n) (eights n) (some-eights n) (hops-within f w n) (f.links v))

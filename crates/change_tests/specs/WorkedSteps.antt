@@ -3,7 +3,7 @@
 use Rattle.std.specs.Prelude.{◌≡◌, ℕ, zero, suc, ◌≤◌, Bool, false, true, List, [], ◌∷◌, map}
 use Rattle.agreement.specs.Worked.{routed}
 use Rattle.agreement.specs.declared.state.Setting.{Setting}
-use Rattle.composed_tables.specs.Steps.{setting_steps}
+use Rattle.composed_tables.specs.Steps.{building_steps, setting_steps}
 use Rattle.policy_expr.specs.Policy.{Policy, member, parallel}
 use Rattle.policy_meaning.specs.Hops.{Fabric}
 use Rattle.policy_meaning.specs.LeafRules.{leaf_rules}
@@ -101,3 +101,13 @@ pub record StepsOfSettings : Type 0 where
   pub comes : steps_of_setting false [] (looks 0x0a000100) ≡ 11
   pub goes : steps_of_setting false (looks 0x0a000100) [] ≡ 0
   pub few : steps_of_setting false [] (looks 0x0a000100) ≤ 35
+
+-- the steps where all is made from scratch, with the monitor's entry
+abbrev pub steps_of_building : Bool → ℕ
+steps_of_building whole = building_steps routed_plan (setting_with whole (looks 0x0a000100) sends)
+
+-- Either member has two rules, each of which is a step, and each of their four pairs is one from either side. Where one
+-- entry doesn't stand for all ports, the four rules that they make are a step each at each of four ports.
+pub record StepsOfBuilding : Type 0 where
+  pub for_whole : steps_of_building true ≡ 12
+  pub for_ports : steps_of_building false ≡ 28

@@ -3,7 +3,7 @@
 //! proved once.
 #![tactic(auto)]
 
-ghost use Rattle.change_tests.specs.WorkedSteps.{StepsOfOneEntry, StepsOfSettings, StepsOverHops};
+ghost use Rattle.change_tests.specs.WorkedSteps.{StepsOfBuilding, StepsOfOneEntry, StepsOfSettings, StepsOverHops};
 
 #[cfg(test)]
 mod draws;
@@ -18,9 +18,11 @@ mod nets;
 #[cfg(test)]
 mod topologies;
 
-/// The steps at `+` of one entry that comes and of one that goes, those over hops, and those of both together.
+/// The steps at `+` of one entry that comes and of one that goes, those over hops, those of both together, and those of
+/// making all from scratch.
 pub fn worked_steps()
     ensures at_plus { StepsOfOneEntry }
     ensures over_hops { StepsOverHops }
     ensures together { StepsOfSettings }
+    ensures from_scratch { StepsOfBuilding }
 {}
