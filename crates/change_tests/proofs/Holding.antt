@@ -43,7 +43,7 @@ peers-within : (f : ℕ → ℕ) (s : ℕ) → 1 ≤ s → ((v : ℕ) → f v �
 peers-within f s p w [] = p
 peers-within f s p w (l ∷ ls) = let a = w l.peer.v in let b = peers-within f s p w ls in omega arith
 
-eights : ℕ → ℕ
+abbrev eights : ℕ → ℕ
 eights zero = 1
 eights (suc n) = 8 * eights n
 
@@ -66,7 +66,8 @@ two-eights (suc (suc v)) = omega arith
 pub two-fit : (plan : TopologyPlan) (sizes : List ℕ) (whole : List Bool) → sizes ≡ 8 ∷ 8 ∷ [] → (v : ℕ)
     → hop_size (fabric (empty_table plan sizes 4 whole)) 4 v < 2 ^ 64
 two-fit plan sizes whole e v =
-    let w = hops-within (fabric (empty_table plan sizes 4 whole)) (λ u. subst (λ (ss : List ℕ). slice_index_or ss u 1 ≤ 8) (sym e) (two-eights u)) 4 v in
+    let w : hop_size (fabric (empty_table plan sizes 4 whole)) 4 v ≤ 4096 =
+    hops-within (fabric (empty_table plan sizes 4 whole)) (λ u. subst (λ (ss : List ℕ). slice_index_or ss u 1 ≤ 8) (sym e) (two-eights u)) 4 v in
     omega arith
 
 -- of two virtual switches without rules
