@@ -75,7 +75,7 @@ fn of_host(alloc: Global) -> Result<List<PhysEntry>, Fail> {
 }
 
 /// Priority, port and cookie of each row.
-pub fn shown(alloc: Global, rows: &List<Written>) -> Result<List<(u16, u16, u64)>, Fail> {
+fn shown(alloc: Global, rows: &List<Written>) -> Result<List<(u16, u16, u64)>, Fail> {
     let mut shown = List::new(alloc);
     for row in rows.as_slice() {
         let port = row.entry.m.in_port.unwrap_or(0);

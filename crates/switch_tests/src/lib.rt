@@ -14,8 +14,6 @@ mod next_hops;
 #[cfg(test)]
 mod placing;
 #[cfg(test)]
-mod plans;
-#[cfg(test)]
 mod rounds;
 #[cfg(test)]
 mod samples;

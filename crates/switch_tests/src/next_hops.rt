@@ -1,10 +1,96 @@
 //! Ways between switches, and tags.
-use crate::plans::in_a_row;
-use cv_io::Duplicate;
+use cv_io::{Bytes, Duplicate, List, Text};
 use inner_paths::{PathFault, Paths};
 use std::alloc::Global;
 use std::test::Fail;
-use virtual_topology::Topology;
+use virtual_topology::{
+    PairItem, PortPlace, SwitchItem, Topology, TopologyPlan, VirtualItem, VirtualPort,
+};
+
+fn text(alloc: Global, word: &str) -> Result<Text, Fail> {
+    Ok(Text::from_bytes(Bytes::from_slice(alloc, word.as_bytes())?)?)
+}
+
+fn place(alloc: Global, name: &str, port: u16) -> Result<PortPlace, Fail> {
+    Ok(PortPlace {
+        name: text(alloc, name)?,
+        port,
+    })
+}
+
+/// A physical switch of four ports.
+fn switch(alloc: Global, name: &str) -> Result<SwitchItem, Fail> {
+    Ok(SwitchItem {
+        name: text(alloc, name)?,
+        dpid: 1,
+        ports: List::from_slice(alloc, &[1, 2, 3, 4])?,
+    })
+}
+
+fn switches(alloc: Global) -> Result<List<SwitchItem>, Fail> {
+    let mut switches = List::new(alloc);
+    for name in ["s1", "s2", "s3"] {
+        switches.push(switch(alloc, name)?)?;
+    }
+    Ok(switches)
+}
+
+/// A cable from a port of a switch to port 3 of the next.
+fn cable(alloc: Global, name: &str, port: u16, next: &str) -> Result<PairItem, Fail> {
+    Ok(PairItem {
+        a: place(alloc, name, port)?,
+        b: place(alloc, next, 3)?,
+    })
+}
+
+/// The switches in a row, or without the second cable.
+fn cables(alloc: Global, cut: bool) -> Result<List<PairItem>, Fail> {
+    let mut cables = List::new(alloc);
+    cables.push(cable(alloc, "s1", 3, "s2")?)?;
+    if !cut {
+        cables.push(cable(alloc, "s2", 4, "s3")?)?;
+    }
+    Ok(cables)
+}
+
+/// An outside port of the virtual switch.
+fn outside(alloc: Global, port: u16, name: &str, at: u16) -> Result<VirtualPort, Fail> {
+    Ok(VirtualPort {
+        port,
+        at: Some(place(alloc, name, at)?),
+    })
+}
+
+/// The outside ports 1 and 3 on the first switch, 2 on the second and 4 on the third.
+fn spread(alloc: Global) -> Result<VirtualItem, Fail> {
+    let mut ports = List::new(alloc);
+    for (port, name, at) in [(1, "s1", 1), (2, "s2", 1), (3, "s1", 2), (4, "s3", 1)] {
+        ports.push(outside(alloc, port, name, at)?)?;
+    }
+    Ok(VirtualItem {
+        name: text(alloc, "v1")?,
+        dpid: 161,
+        ports,
+        expr: text(alloc, "app")?,
+    })
+}
+
+fn virtuals(alloc: Global) -> Result<List<VirtualItem>, Fail> {
+    let mut virtuals = List::new(alloc);
+    virtuals.push(spread(alloc)?)?;
+    Ok(virtuals)
+}
+
+/// One virtual switch over three physical ones.
+fn topology(alloc: Global, cut: bool) -> Result<Topology, Fail> {
+    let plan = TopologyPlan {
+        switches: switches(alloc)?,
+        cables: cables(alloc, cut)?,
+        virtuals: virtuals(alloc)?,
+        links: List::new(alloc),
+    };
+    Ok(Topology::make(alloc, &plan)?)
+}
 
 fn copied(alloc: Global, row: &Topology) -> Result<Paths, Fail> {
     let paths = Paths::make(alloc, row)?;
@@ -37,7 +123,7 @@ fn found(alloc: Global, row: &Topology) -> Result<((u16, u16, u16), (u16, u16, u
 
 #[test]
 fn hops_lead_and_tags_count(rt: HostRuntime) -> Result<(), Fail> {
-    let row = in_a_row(rt.alloc(), false)?;
+    let row = topology(rt.alloc(), false)?;
     let found = found(rt.alloc(), &row)?;
     assert_eq!(rt; found, ((3, 4, 0), (1, 4, 0)));
     Ok(())
@@ -53,7 +139,7 @@ fn cut(alloc: Global, row: &Topology) -> Result<String, Fail> {
 
 #[test]
 fn switches_without_a_path_are_named(rt: HostRuntime) -> Result<(), Fail> {
-    let row = in_a_row(rt.alloc(), true)?;
+    let row = topology(rt.alloc(), true)?;
     let found = cut(rt.alloc(), &row)?;
     assert_eq!(rt; found.as_str(), "s1 to s3");
     Ok(())

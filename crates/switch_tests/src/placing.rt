@@ -1,157 +1,100 @@
-//! Entries of rules and fixed entries over topologies.
-ghost use Rattle.std.specs.Prelude.{◌<◌};
+//! Rules and fixed entries of one switch.
+ghost use Rattle.std.specs.Prelude.{◌≡◌};
 
-use crate::plans::{in_a_row, of_switches, pair, virtual_switch};
-use crate::samples::{FLOODED, by_port, by_tag, entry, flooded, output};
-use cv_io::{Duplicate, List};
+use cv_io::{Bytes, List, Memory, Text};
 use inner_paths::Paths;
-use of10_actions::port::{CONTROLLER, IN_PORT};
-use of10_actions::{Action, Dest, Out, Rewrite, Tail};
-use of10_match::{Match, UNTAGGED};
+use of10_actions::Tail;
+use of10_match::Match;
 use place_rules::{fixed, place};
 use policy_meaning::Rule;
 use std::alloc::Global;
 use std::test::Fail;
-use switch_meaning::FlowEntry;
-use virtual_topology::Topology;
+use virtual_topology::{PortPlace, SwitchItem, Topology, TopologyPlan, VirtualItem, VirtualPort};
 
-/// Two virtual switches on one physical one, with two links.
-fn linked(alloc: Global) -> Result<Topology, Fail> {
-    let mut plan = of_switches(alloc, &["s1"])?;
-    for (name, first, second) in [("v1", 1, 2), ("v2", 3, 4)] {
-        let ports = [
-            (1, ("s1", first)),
-            (2, ("s1", second)),
-            (8, ("link", 0)),
-            (9, ("link", 0)),
-        ];
-        plan.virtuals.push(virtual_switch(alloc, name, &ports)?)?;
-    }
-    plan.links.push(pair(alloc, ("v1", 9), ("v2", 9))?)?;
-    plan.links.push(pair(alloc, ("v1", 8), ("v2", 8))?)?;
+fn text(alloc: Global, word: &str) -> Result<Text, Fail> {
+    Ok(Text::from_bytes(Bytes::from_slice(alloc, word.as_bytes())?)?)
+}
+
+fn switch(alloc: Global) -> Result<SwitchItem, Fail> {
+    Ok(SwitchItem {
+        name: text(alloc, "s1")?,
+        dpid: 1,
+        ports: List::from_slice(alloc, &[1, 2, 3])?,
+    })
+}
+
+fn port(alloc: Global) -> Result<VirtualPort, Fail> {
+    let name = text(alloc, "s1")?;
+    Ok(VirtualPort {
+        port: 1,
+        at: Some(PortPlace { name, port: 1 }),
+    })
+}
+
+fn virtual_switch(alloc: Global) -> Result<VirtualItem, Fail> {
+    let mut ports = List::new(alloc);
+    ports.push(port(alloc)?)?;
+    Ok(VirtualItem {
+        name: text(alloc, "v1")?,
+        dpid: 161,
+        ports,
+        expr: text(alloc, "app")?,
+    })
+}
+
+/// A virtual switch of one port that is all of a switch of three.
+fn topology(alloc: Global) -> Result<Topology, Fail> {
+    let mut plan = TopologyPlan {
+        switches: List::new(alloc),
+        cables: List::new(alloc),
+        virtuals: List::new(alloc),
+        links: List::new(alloc),
+    };
+    plan.switches.push(switch(alloc)?)?;
+    plan.virtuals.push(virtual_switch(alloc)?)?;
     Ok(Topology::make(alloc, &plan)?)
 }
 
-/// A virtual switch of two ports that is all of a switch of four.
-fn two_of_four(alloc: Global) -> Result<Topology, Fail> {
-    let mut plan = of_switches(alloc, &["s1"])?;
-    let ports = [(1, ("s1", 1)), (2, ("s1", 2))];
-    plan.virtuals.push(virtual_switch(alloc, "v1", &ports)?)?;
-    Ok(Topology::make(alloc, &plan)?)
-}
-
-fn out(dest: Dest) -> Out {
-    Out {
-        rewrite: Rewrite::new(),
-        dest,
-    }
-}
-
-/// The entry of a rule for the port that its match names, or for all ports.
-fn placed(
-    alloc: Global,
-    topology: &Topology,
-    m: Match,
-    level: u64,
-    outs: &[Out],
-) -> Result<Option<FlowEntry>, Fail>
-    requires { level < 65535 }
+fn miss(alloc: Global) -> Rule
+    ensures { result.level ≡ 1 }
 {
-    let rule = Rule {
-        m,
-        level,
-        touched: true,
-        outs: List::from_slice(alloc, outs)?,
+    Rule {
+        m: Match::everything(),
+        level: 1,
+        touched: false,
+        outs: List::new(alloc),
         tail: Tail::Nothing,
         ancestry: List::new(alloc),
-    };
-    let paths = Paths::make(alloc, topology)?;
-    let port = m.in_port.unwrap_or(0);
-    let placed = place(alloc, topology, &paths, 0, port, &rule)?;
-    Ok(placed.map(|entry| entry.into_flow()))
-}
-
-/// The entries of a switch that stand whatever the rules are, beside guards. The virtual switch may be all of
-/// the physical one.
-fn standing(
-    alloc: Global,
-    topology: &Topology,
-    switch: u32,
-    whole: bool,
-) -> Result<List<FlowEntry>, Fail> {
-    let paths = Paths::make(alloc, topology)?;
-    let whole = List::from_slice(alloc, &[whole])?;
-    let mut found = List::new(alloc);
-    for entry in fixed(alloc, topology, &paths, switch, &whole)?.as_slice() {
-        if entry.priority != 0 {
-            found.push(entry.copy()?.into_flow())?;
-        }
     }
-    Ok(found)
 }
 
-#[test]
-fn flood_goes_over_three_switches(rt: HostRuntime) -> Result<(), Fail> {
-    let alloc = rt.alloc();
-    let outs = [flooded(2), flooded(3), flooded(4)];
-    let found = placed(alloc, &in_a_row(alloc, false)?, by_port(1), 128, &outs)?;
-    let want = entry(alloc, by_tag(1, UNTAGGED), 129, &FLOODED)?;
-    assert_eq!(rt; found, Some(want));
-    Ok(())
+/// The priority of the entry of a rule that stands for all ports.
+fn placed(alloc: Global, topology: &Topology, paths: &Paths) -> Result<Option<u16>, Memory>
+    requires { paths.now ≡ topology.now }
+{
+    let entry = place(alloc, topology, paths, 0, 0, &miss(alloc))?;
+    Ok(entry.map(|entry| entry.priority))
 }
 
-/// At its goal a packet loses its tag; on its way it keeps it.
-#[test]
-fn tags_are_carried_to_the_goal(rt: HostRuntime) -> Result<(), Fail> {
-    let alloc = rt.alloc();
-    let topology = in_a_row(alloc, false)?;
-    for (switch, m, want) in [
-        (1, by_tag(3, 2), [Action::StripVlan, output(1)].as_slice()),
-        (1, by_tag(3, 4), [output(4)].as_slice()),
-        (2, by_tag(3, 4), [Action::StripVlan, output(1)].as_slice()),
-    ] {
-        let want = entry(alloc, m, 65535, want)?;
-        let found = standing(alloc, &topology, switch, false)?;
-        assert!(rt; found.as_slice().contains(&want), "switch {switch}");
-    }
-    Ok(())
+/// How many entries drop what comes by the ports that the virtual switch leaves.
+fn dropped(alloc: Global, topology: &Topology, paths: &Paths) -> Result<usize, Memory>
+    requires { paths.now ≡ topology.now }
+{
+    let whole = List::from_slice(alloc, &[true])?;
+    Ok(fixed(alloc, topology, paths, 0, &whole)?.len())
 }
 
-/// Three hops that end where the packet came in, and four, which are too many.
-#[test]
-fn hops_end_at_the_ingress(rt: HostRuntime) -> Result<(), Fail> {
-    let alloc = rt.alloc();
-    let topology = linked(alloc)?;
-    let back = [out(Dest::Port { v: 0, port: 1 })];
-    let found = placed(alloc, &topology, by_port(1), 2336, &back)?;
-    let want = entry(alloc, by_port(1), 2337, &[output(IN_PORT)])?;
-    assert_eq!(rt; found, Some(want));
-    let found = placed(alloc, &topology, by_port(1), 2340, &[])?;
-    let want = entry(alloc, by_port(1), 2341, &[])?;
-    assert_eq!(rt; found, Some(want));
-    Ok(())
+fn put(alloc: Global, topology: &Topology) -> Result<(Option<u16>, usize), Fail> {
+    let paths = Paths::make(alloc, topology)?;
+    Ok((
+        placed(alloc, topology, &paths)?,
+        dropped(alloc, topology, &paths)?,
+    ))
 }
 
-/// The entry of a miss, and those of the two ports that the virtual switch leaves.
 #[test]
 fn one_entry_for_all_ports_and_drops_for_others(rt: HostRuntime) -> Result<(), Fail> {
-    let alloc = rt.alloc();
-    let topology = two_of_four(alloc)?;
-    let told = [out(Dest::Tell {
-        member: 0,
-        reason: 0,
-    })];
-    let found = placed(alloc, &topology, Match::everything(), 1, &told)?;
-    let copy = Action::Output {
-        port: CONTROLLER,
-        max_len: 65535,
-    };
-    let want = entry(alloc, Match::everything(), 2, &[copy])?;
-    assert_eq!(rt; found, Some(want));
-    let mut drops = List::new(alloc);
-    drops.push(entry(alloc, by_port(3), 65535, &[])?)?;
-    drops.push(entry(alloc, by_port(4), 65535, &[])?)?;
-    assert_eq!(rt; standing(alloc, &topology, 0, true)?, drops);
-    assert_eq!(rt; standing(alloc, &topology, 0, false)?.len(), 0);
+    let topology = topology(rt.alloc())?;
+    assert_eq!(rt; put(rt.alloc(), &topology)?, (Some(2), 2));
     Ok(())
 }

@@ -2,7 +2,7 @@
 ghost use Rattle.of10_match.specs.Ranges.{IsVlan};
 
 use cv_io::List;
-use of10_actions::{Action, Dest, Out, Rewrite};
+use of10_actions::Action;
 use of10_match::{Header, Match, UNTAGGED};
 use std::alloc::Global;
 use std::test::Fail;
@@ -28,33 +28,6 @@ pub fn by_tag(port: u16, tag: u16) -> Match
 pub fn output(port: u16) -> Action {
     Action::Output { port, max_len: 0 }
 }
-
-/// An out of FLOOD.
-pub fn flooded(port: u16) -> Out {
-    Out {
-        rewrite: Rewrite::new(),
-        dest: Dest::Flood { v: 0, port },
-    }
-}
-
-/// The actions of FLOOD at the first switch, for what comes by port 1.
-pub const FLOODED: [Action; 6] = [
-    Action::SetVlanVid { vid: 2 },
-    Action::Output {
-        port: 3,
-        max_len: 0,
-    },
-    Action::StripVlan,
-    Action::Output {
-        port: 2,
-        max_len: 0,
-    },
-    Action::SetVlanVid { vid: 4 },
-    Action::Output {
-        port: 3,
-        max_len: 0,
-    },
-];
 
 pub fn lies(port: u16, switch: u32, at: u16) -> Outside {
     Outside {

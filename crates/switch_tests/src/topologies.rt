@@ -1,9 +1,81 @@
 //! Topologies, and the faults of their plans.
-use crate::plans::{of_switches, pair, virtual_switch};
-use cv_io::{Duplicate, List};
+use cv_io::{Bytes, Duplicate, List, Text};
 use std::alloc::Global;
 use std::test::Fail;
-use virtual_topology::{Topology, TopologyFault, TopologyPlan, VirtualItem};
+use virtual_topology::{
+    PairItem, PortPlace, SwitchItem, Topology, TopologyFault, TopologyPlan, VirtualItem,
+    VirtualPort,
+};
+
+fn text(alloc: Global, word: &str) -> Result<Text, Fail> {
+    Ok(Text::from_bytes(Bytes::from_slice(alloc, word.as_bytes())?)?)
+}
+
+fn place(alloc: Global, at: (&str, u16)) -> Result<PortPlace, Fail> {
+    let (name, port) = at;
+    Ok(PortPlace {
+        name: text(alloc, name)?,
+        port,
+    })
+}
+
+fn pair(alloc: Global, a: (&str, u16), b: (&str, u16)) -> Result<PairItem, Fail> {
+    Ok(PairItem {
+        a: place(alloc, a)?,
+        b: place(alloc, b)?,
+    })
+}
+
+/// A physical switch of four ports.
+fn switch(alloc: Global, name: &str) -> Result<SwitchItem, Fail> {
+    Ok(SwitchItem {
+        name: text(alloc, name)?,
+        dpid: 1,
+        ports: List::from_slice(alloc, &[1, 2, 3, 4])?,
+    })
+}
+
+fn switches(alloc: Global) -> Result<List<SwitchItem>, Fail> {
+    let mut switches = List::new(alloc);
+    for name in ["s1", "s2", "s3"] {
+        switches.push(switch(alloc, name)?)?;
+    }
+    Ok(switches)
+}
+
+/// A cable from the first switch to the second, and one from there.
+fn cables(alloc: Global, last: (&str, u16)) -> Result<List<PairItem>, Fail> {
+    let mut cables = List::new(alloc);
+    cables.push(pair(alloc, ("s1", 3), ("s2", 3))?)?;
+    cables.push(pair(alloc, ("s2", 4), last)?)?;
+    Ok(cables)
+}
+
+/// A port of a virtual switch; the port "link" is a link port.
+fn virtual_port(alloc: Global, port: u16, at: (&str, u16)) -> Result<VirtualPort, Fail> {
+    let at = match at {
+        ("link", _) => None,
+        at => Some(place(alloc, at)?),
+    };
+    Ok(VirtualPort { port, at })
+}
+
+fn virtual_switch(
+    alloc: Global,
+    name: &str,
+    rows: &[(u16, (&str, u16))],
+) -> Result<VirtualItem, Fail> {
+    let mut ports = List::new(alloc);
+    for (port, at) in rows {
+        ports.push(virtual_port(alloc, *port, *at)?)?;
+    }
+    Ok(VirtualItem {
+        name: text(alloc, name)?,
+        dpid: 161,
+        ports,
+        expr: text(alloc, "app")?,
+    })
+}
 
 /// A virtual switch over all three physical ones, and two on the first that are linked.
 fn virtuals(alloc: Global) -> Result<List<VirtualItem>, Fail> {
@@ -18,16 +90,21 @@ fn virtuals(alloc: Global) -> Result<List<VirtualItem>, Fail> {
     Ok(virtuals)
 }
 
-/// A cable from the first switch to the second, and one from there; a link, or none.
-fn plan(alloc: Global, last: (&str, u16), linked: bool) -> Result<TopologyPlan, Fail> {
-    let mut plan = of_switches(alloc, &["s1", "s2", "s3"])?;
-    plan.cables.push(pair(alloc, ("s1", 3), ("s2", 3))?)?;
-    plan.cables.push(pair(alloc, ("s2", 4), last)?)?;
-    plan.virtuals = virtuals(alloc)?;
+fn links(alloc: Global, linked: bool) -> Result<List<PairItem>, Fail> {
+    let mut links = List::new(alloc);
     if linked {
-        plan.links.push(pair(alloc, ("v2", 9), ("v3", 9))?)?;
+        links.push(pair(alloc, ("v2", 9), ("v3", 9))?)?;
     }
-    Ok(plan)
+    Ok(links)
+}
+
+fn plan(alloc: Global, last: (&str, u16), linked: bool) -> Result<TopologyPlan, Fail> {
+    Ok(TopologyPlan {
+        switches: switches(alloc)?,
+        cables: cables(alloc, last)?,
+        virtuals: virtuals(alloc)?,
+        links: links(alloc, linked)?,
+    })
 }
 
 /// A fault and the name in it.

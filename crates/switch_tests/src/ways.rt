@@ -1,7 +1,7 @@
 //! What stands on a switch for a rule, and the ways of packets.
-use crate::samples::{FLOODED, by_port, by_tag, entry, flooded, in_a_row, one, output, ping};
+use crate::samples::{by_port, by_tag, entry, in_a_row, one, output, ping};
 use cv_io::List;
-use of10_actions::Action;
+use of10_actions::{Action, Dest, Out, Rewrite};
 use of10_match::{Match, UNTAGGED};
 use std::alloc::Global;
 use std::test::*;
@@ -9,6 +9,32 @@ use switch_meaning::{
     Change, FlatRule, FlowEntry, PhysEntry, Reading, Site, Switches, are_tables_in_range, place,
     table_after,
 };
+
+fn flooded(port: u16) -> Out {
+    Out {
+        rewrite: Rewrite::new(),
+        dest: Dest::Flood { v: 0, port },
+    }
+}
+
+/// The actions of FLOOD at the first switch, for what comes by port 1.
+const FLOODED: [Action; 6] = [
+    Action::SetVlanVid { vid: 2 },
+    Action::Output {
+        port: 3,
+        max_len: 0,
+    },
+    Action::StripVlan,
+    Action::Output {
+        port: 2,
+        max_len: 0,
+    },
+    Action::SetVlanVid { vid: 4 },
+    Action::Output {
+        port: 3,
+        max_len: 0,
+    },
+];
 
 const SPREAD: Site = Site {
     v: 0,
