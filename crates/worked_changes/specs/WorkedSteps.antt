@@ -16,7 +16,7 @@ use Rattle.policy_meaning.specs.declared.rule.Rule.{Rule}
 use Rattle.of10_actions.specs.declared.effects.Tail.TheVariants.{Nothing}
 use Rattle.incr_compile.specs.Costs.{steps_of}
 use Rattle.hop_rules.specs.Counts.{change_steps}
-use Rattle.change_tests.specs.WorkedRouted.{routed_plan}
+use Rattle.worked_changes.specs.WorkedRouted.{routed_plan}
 
 -- a member of eight levels each
 abbrev pub eight : ℕ → ℕ

@@ -1,6 +1,0 @@
-use Rattle.std.specs.List.{AllByRecursion}
-use Rattle.policy_meaning.specs.LeafFact.{IsSoundTable}
-use Rattle.change_tests.proofs.expressions.empty_tables.Given as goal
-
-abbrev pub invariant-loop-member : goal.invariant-loop-member
-invariant-loop-member l = AllByRecursion IsSoundTable l.tables
