@@ -165,6 +165,13 @@ fn turn_all<G: Ledger>(
     Ok(batches)
 }
 
+/// The rules are given up.
+fn give_up(rules: &mut Option<Rules>)
+    ensures { rules.new ≡ None }
+{
+    *rules = None;
+}
+
 /// So they do where the rules are there; where memory is wanting they are given up.
 fn turn_some<G: Ledger>(
     alloc: Global,
@@ -193,14 +200,16 @@ fn turn_some<G: Ledger>(
         → Changes v delta before after → steps.new ≤ steps.old + setting_steps r.hops.plan before after }
     ensures memory { OnErr result (AreKept tables.old tables.new) }
 {
-    let Some(mut there) = rules.take() else {
+    let Some(there) = rules else {
         return Err(Memory);
     };
-    let batches = turn_all(
-        alloc, &mut there, tables, wiring, switches, v, delta, ups, next, steps,
-    )?;
-    *rules = Some(there);
-    Ok(batches)
+    let turned = turn_all(
+        alloc, there, tables, wiring, switches, v, delta, ups, next, steps,
+    );
+    if turned.is_err() {
+        give_up(rules);
+    }
+    turned
 }
 
 /// The last change of each switch is taken back. It takes no memory.
@@ -247,10 +256,11 @@ impl Composed {
         // Whatever the result.
         ensures steps { steps.new ≤ steps.old + building_steps topology.now setting.now }
     {
-        let rules = Rules::build(rt, alloc, topology, setting, steps)?;
         let tables = tables_of(alloc, setting)?;
         let wiring = setting.wiring.copy()?;
         let switches = setting.network.switches.copy()?;
+        // They come last, so that no failure has to let go of them.
+        let rules = Rules::build(rt, alloc, topology, setting, steps)?;
         Ok(Composed {
             alloc,
             wiring,

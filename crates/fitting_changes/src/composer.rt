@@ -182,4 +182,12 @@ impl Composer {
     {
         self.compiled.rules()
     }
+
+    /// A copy, with the same rules.
+    pub fn copy(&self) -> Result<Composer, Memory>
+        ensures { IfOk result (λ copied. tree_of copied ≡ tree_of self.now) }
+    {
+        let compiled = self.compiled.copy()?;
+        Ok(known(self.shape, self.size, compiled))
+    }
 }

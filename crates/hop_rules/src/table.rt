@@ -191,13 +191,17 @@ impl HopTable {
 
 impl Duplicate for HopTable {
     fn copy(&self) -> Result<HopTable, Memory> {
+        let sizes = self.sizes.copied()?;
+        let whole = self.whole.copied()?;
+        let topology = self.topology.copy()?;
+        let parts = self.parts.copy()?;
         Ok(HopTable {
             alloc: self.alloc,
-            topology: self.topology.copy()?,
-            sizes: self.sizes.copied()?,
+            topology,
+            sizes,
             hops: self.hops,
-            whole: self.whole.copied()?,
-            parts: self.parts.copy()?,
+            whole,
+            parts,
             is_lost: self.is_lost,
         })
     }

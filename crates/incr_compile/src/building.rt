@@ -85,11 +85,11 @@ fn operator_tree<R: Threads + Sync, G: Ledger>(
     ensures steps { steps.new ≤ steps.old + (left_cost op (rules_in (made_in (tree_of right))) (rules_in (made_in (tree_of left)))
         + right_cost op (rules_in (made_in (tree_of left))) (rules_in (made_in (tree_of right)))) }
 {
-    Ok(Tree::Operator {
-        node: Node::of(rt, alloc, op, size, left.made(), right.made(), steps)?,
-        left: Box::new(alloc, left)?,
-        right: Box::new(alloc, right)?,
-    })
+    // The node comes last, so that no failure has to let go of it.
+    let left = Box::new(alloc, left)?;
+    let right = Box::new(alloc, right)?;
+    let node = Node::of(rt, alloc, op, size, left.made(), right.made(), steps)?;
+    Ok(Tree::Operator { node, left, right })
 }
 
 /// The tree of an expression over these tables.

@@ -16,7 +16,7 @@ use Rattle.machine_meaning.specs.Counted.{dropped_between, is_one_of, leaf_at, l
 use Rattle.machine_drafts.specs.InsideForgetting.{forget_entry, forget_if_there, forget_member, forget_owed, is_owed}
 use Rattle.machine_drafts.specs.InsideForgetting.{matters}
 use Rattle.machine_meaning.specs.Drafts.{Draft}
-use Rattle.machine_drafts.specs.MemberDrafts.{IsUnplanned, MemberDraftOf}
+use Rattle.machine_drafts.specs.MemberDrafts.{KeepsEntries, MemberDraftOf}
 use Rattle.machine_drafts.specs.Outcomes.{member_bases, members_in}
 use Rattle.machine_meaning.specs.Settling.{entries_at}
 use Rattle.machine_meaning.specs.States.{MemberOf, State}
@@ -214,11 +214,6 @@ kept_all all owed n c (e ∷ es) h =
     (if b || list_any (is_owed n e.serial) owed then c else forgot (leaf_of n e) c) es) h.0
     ∙ kept_all all owed n c es h.1
 
--- a member's table is as it stood
-pub none_gone : (es : List Entry) (owed : List Owed) (n : ℕ) (c : CountsOf) → fold (forget_entry es owed n) c es ≡ c
-none_gone es owed n c =
-    kept_all es owed n c es (among_itself (λ (e d : Entry). has_serial e.serial d) (λ (e : Entry). eq_self e.serial) es)
-
 owed_all : (ms : List MemberOf) (all : List Owed) (c : CountsOf) (os : List Owed)
     → AllByRecursion (λ (o : Owed). list_any (is_owed o.member o.entry.serial) all ≡ true) os
     → fold (forget_owed ms all) c os ≡ c
@@ -236,12 +231,14 @@ none_told ms os c =
     (among_itself (λ (o p : Owed). is_owed o.member o.entry.serial p)
     (λ (o : Owed). ap₂ (λ (a b : Bool). a && b) (eq_self o.member) (eq_self o.entry.serial)) os)
 
--- nothing of a member's table went, where nothing is planned
-pub unplanned_kept : (owed : List Owed) (c : CountsOf) (n : ℕ) (x : MemberDraftOf) → IsUnplanned x
+-- nothing of a member's table went
+pub none_lost : (owed : List Owed) (c : CountsOf) (n : ℕ) (x : MemberDraftOf) → KeepsEntries x
     → c ≡ forget_member owed c (n, x)
-unplanned_kept owed c n x e =
-    sym (ap (λ (k : MemberStateOf). fold (forget_entry k.table.entries owed n) c x.base.kept.state.table.entries) e
-    ∙ none_gone x.base.kept.state.table.entries owed n c)
+none_lost owed c n x kept = sym (kept_all x.now.kept.table.entries owed n c x.base.kept.state.table.entries kept)
+
+-- each of some entries is one of them
+pub each_there : (es : List Entry) → AllByRecursion (λ (e : Entry). list_any (has_serial e.serial) es ≡ true) es
+each_there es = among_itself (λ (e d : Entry). has_serial e.serial d) (λ (e : Entry). eq_self e.serial) es
 
 -- drafts ------------------------------------------------------------------------------------------------------------
 

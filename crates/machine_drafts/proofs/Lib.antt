@@ -36,3 +36,4 @@ pub mod Acted
 pub mod WasJudged
 pub mod FaultKinds
 pub mod Serials
+pub mod Remaining

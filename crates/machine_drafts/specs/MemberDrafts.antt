@@ -1,8 +1,12 @@
 -- What an event makes of a member, beside the member as it stands.
-use Rattle.std.specs.Prelude.{◌≡◌, ℕ, Option, Some, None, List, IsPermutation}
+use Rattle.std.specs.Prelude.{◌≡◌, ℕ, Bool, true, not, ◌&&◌, ◌||◌, Option, Some, None, List, IsPermutation, option_to_list}
+use Rattle.std.specs.List.{AllByRecursion, list_any}
 use Rattle.grants.specs.declared.grant.Grant.{Grant}
 use Rattle.incr_compile.specs.Compiling.{rules_after}
 use Rattle.incr_compile.specs.declared.compiled.LeafDelta.{LeafDelta}
+use Rattle.member_table.specs.Changes.{is_among}
+use Rattle.member_table.specs.Entries.{has_serial}
+use Rattle.member_table.specs.declared.entry.Entry.{Entry}
 use Rattle.member_state.specs.Leaves.{leaf_of}
 use Rattle.member_state.specs.Plans.{IsReady, after_planned}
 use Rattle.member_state.specs.States.{HeldState, MemberStateOf}
@@ -54,6 +58,18 @@ with_now f d = record d { now = f d.now }
 -- the table and the levels are as they stand
 abbrev pub IsUnplanned : MemberDraftOf → Type 0
 IsUnplanned d = d.now.kept ≡ d.base.kept.state
+
+-- each entry that its table had is there
+abbrev pub KeepsEntries : MemberDraftOf → Type 0
+KeepsEntries d =
+    AllByRecursion (λ (e : Entry). list_any (has_serial e.serial) d.now.kept.table.entries ≡ true)
+    d.base.kept.state.table.entries
+
+-- whether the entry of a number is there once this is planned, where it was there or not before
+abbrev pub there_then : Planned → ℕ → Bool → Bool
+there_then p n stood =
+    ((stood && not (is_among p.change.removed n)) || list_any (has_serial n) (option_to_list p.change.added))
+    && not (is_among p.dropped n)
 
 -- so the rules of the member of a number, with this grant, at a virtual switch of these ports, change with what is
 -- planned

@@ -1,5 +1,5 @@
 //! What was counted of entries that matter no more is forgotten.
-ghost use Rattle.std.specs.Prelude.{◌≡◌, ◌<◌, ◌^◌, IfOk, OnOk, fold, length, slice_get};
+ghost use Rattle.std.specs.Prelude.{◌≡◌, ◌<◌, ◌^◌, OnOk, fold, length, slice_get};
 ghost use Rattle.std.specs.List.{enumerate_from, list_any};
 ghost use Rattle.member_table.specs.Entries.{has_serial};
 ghost use Rattle.stats_map.specs.Told.{told};
@@ -16,7 +16,7 @@ use crate::member_draft::MemberDraft;
 use crate::outcome::Outcome;
 use cv_io::Memory;
 use machine_meaning::Owed;
-use member_table::{Entry, Table};
+use member_table::Entry;
 use stats_map::Pending;
 
 /// The FLOW_REMOVED of the entry of a member is owed.
@@ -27,27 +27,19 @@ fn is_owed(owed: &[Owed], n: u32, serial: u64) -> bool
         .any(|one| n == one.member && serial == one.entry.serial)
 }
 
-/// One of the entries of a table has this serial number.
-#[tactic(auto, using(member_table::proofs::Lists::any_find))]
-fn has(table: &Table, serial: u64) -> bool
-    ensures { result ≡ list_any (has_serial serial) table.now.table.entries }
-{
-    table.get(serial).is_some()
-}
-
 /// The leaf of an entry is forgotten, unless it still matters.
 fn forget_unless(
     counts: &mut Pending<'_>,
-    table: &Table,
+    member: &MemberDraft<'_>,
     owed: &[Owed],
     n: u32,
     entry: &Entry,
 ) -> Result<(), Memory>
     ensures base { counts.new.base ≡ counts.old.base }
     ensures told { OnOk result (told counts.new.now
-        ≡ forget_entry table.now.table.entries owed.now n (told counts.old.now) entry.now) }
+        ≡ forget_entry member.now.now.kept.table.entries owed.now n (told counts.old.now) entry.now) }
 {
-    if has(table, entry.serial) {
+    if member.has(entry.serial) {
         return Ok(());
     }
     if is_owed(owed, n, entry.serial) {
@@ -56,39 +48,37 @@ fn forget_unless(
     counts.forget(&leaf_of(n, entry.serial)?)
 }
 
-/// The leaf of the entry at a place of a table as it stood is forgotten, unless it still matters.
+/// The leaf of the entry at a place of a member's table as it stood is forgotten, unless it still matters.
 fn forget_at(
     counts: &mut Pending<'_>,
-    before: &Table,
-    table: &Table,
+    member: &MemberDraft<'_>,
     owed: &[Owed],
     n: u32,
     place: usize,
 ) -> Result<(), Memory>
     ensures base { counts.new.base ≡ counts.old.base }
-    ensures told { OnOk result (told counts.new.now ≡ forget_if_there table.now.table.entries owed.now n
-        (told counts.old.now) (slice_get before.now.table.entries place)) }
+    ensures told { OnOk result (told counts.new.now ≡ forget_if_there member.now.now.kept.table.entries owed.now n
+        (told counts.old.now) (slice_get member.now.base.kept.state.table.entries place)) }
 {
-    match before.at(place) {
-        Some(entry) => forget_unless(counts, table, owed, n, entry),
+    match member.table_before().at(place) {
+        Some(entry) => forget_unless(counts, member, owed, n, entry),
         None => Ok(()),
     }
 }
 
-/// The leaves of the entries of a table as it stood are forgotten, unless they still matter.
+/// The leaves of the entries of a member's table as it stood are forgotten, unless they still matter.
 fn forget_gone(
     counts: &mut Pending<'_>,
-    before: &Table,
-    table: &Table,
+    member: &MemberDraft<'_>,
     owed: &[Owed],
     n: u32,
 ) -> Result<(), Memory>
     ensures base { counts.new.base ≡ counts.old.base }
-    ensures told { OnOk result (told counts.new.now ≡ fold (forget_entry table.now.table.entries owed.now n)
-        (told counts.old.now) before.now.table.entries) }
+    ensures told { OnOk result (told counts.new.now ≡ fold (forget_entry member.now.now.kept.table.entries owed.now n)
+        (told counts.old.now) member.now.base.kept.state.table.entries) }
 {
-    for place in 0..before.len() {
-        forget_at(counts, before, table, owed, n, place)?;
+    for place in 0..member.table_before().len() {
+        forget_at(counts, member, owed, n, place)?;
     }
     Ok(())
 }
@@ -103,11 +93,10 @@ fn forget_member(
     ensures base { counts.new.base ≡ counts.old.base }
     ensures told { OnOk result (told counts.new.now ≡ forget_member_of owed.now (told counts.old.now) (n, member.now)) }
 {
-    if member.is_unplanned() {
+    if member.loses_none() {
         return Ok(());
     }
-    let kept = member.kept()?;
-    forget_gone(counts, member.table_before(), kept.state().table(), owed, n)
+    forget_gone(counts, member, owed, n)
 }
 
 /// And those of all members.
@@ -127,23 +116,13 @@ fn forget_members(
     Ok(())
 }
 
-/// Whether a member has an entry of this serial number.
-fn has_kept(member: &MemberDraft<'_>, serial: u64) -> Result<bool, Memory>
-    ensures { IfOk result (λ found. found ≡ list_any (has_serial serial) member.now.now.kept.table.entries) }
-{
-    let kept = member.kept()?;
-    let found = has(kept.state().table(), serial);
-    Ok(found)
-}
-
 /// Whether the member of a number has an entry of this serial number.
-fn has_entry(members: &[MemberDraft<'_>], n: u32, serial: u64) -> Result<bool, Memory>
-    ensures { IfOk result (λ found. found
-        ≡ list_any (has_serial serial) (entries_at (slice_get (members_in members.now) n))) }
+fn has_entry(members: &[MemberDraft<'_>], n: u32, serial: u64) -> bool
+    ensures { result ≡ list_any (has_serial serial) (entries_at (slice_get (members_in members.now) n)) }
 {
     match members.get(n as usize) {
-        Some(member) => has_kept(member, serial),
-        None => Ok(false),
+        Some(member) => member.has(serial),
+        None => false,
     }
 }
 
@@ -162,7 +141,7 @@ fn forget_owed(
     if is_owed(owed, one.member, serial) {
         return Ok(());
     }
-    if has_entry(members, one.member, serial)? {
+    if has_entry(members, one.member, serial) {
         return Ok(());
     }
     counts.forget(&leaf_of(one.member, serial)?)

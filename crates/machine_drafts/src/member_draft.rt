@@ -1,13 +1,14 @@
 //! What an event makes of a member, beside the member as it stands.
-ghost use Rattle.std.specs.Prelude.{◌≡◌, ℕ, IfOk, IfSome, IsTrue, None, OnOk, filter};
-ghost use Rattle.std.specs.List.{AllByRecursion};
+ghost use Rattle.std.specs.Prelude.{◌≡◌, ℕ, IfOk, IfSome, IsTrue, None, OnOk, filter, option_to_list};
+ghost use Rattle.std.specs.List.{AllByRecursion, list_any};
+ghost use Rattle.member_table.specs.Entries.{has_serial};
 ghost use Rattle.member_state.specs.Changes.{expired, is_told, touched, without};
 ghost use Rattle.member_state.specs.Plans.{IsReady, after_planned};
 ghost use Rattle.of10_actions.specs.Ports.{AreRising};
 ghost use Rattle.of10_match.specs.Normal.{IsNormal};
 ghost use Rattle.machine_drafts.specs.Serials.{HasSerial};
 ghost use Rattle.machine_drafts.specs.MemberDrafts.{IsLeafDelta, IsPlannedOf, IsReadyPlan, IsUnplanned, kept_after};
-ghost use Rattle.machine_drafts.specs.MemberDrafts.{kept_state};
+ghost use Rattle.machine_drafts.specs.MemberDrafts.{KeepsEntries, kept_state, there_then};
 ghost use Rattle.machine_drafts.specs.MemberDrafts.{standing_member, with_now};
 ghost use Rattle.leaf_changes.specs.Plans.{IsPlanOf};
 ghost use Rattle.machine_drafts.specs.Moving.{IsMemberPart, member_moved, member_put};
@@ -91,6 +92,32 @@ impl<'a> Kept<'a> {
             Kept::Drafted(state) => state,
         }
     }
+}
+
+/// One of the entries of a table has this serial number.
+#[tactic(auto, using(member_table::proofs::Lists::any_find))]
+fn is_there(table: &Table, serial: u64) -> bool
+    ensures { result ≡ list_any (has_serial serial) table.now.table.entries }
+{
+    table.get(serial).is_some()
+}
+
+/// The entry that comes has the number.
+fn comes(added: &Option<Entry>, serial: u64) -> bool
+    ensures { result ≡ list_any (has_serial serial) (option_to_list added.now) }
+{
+    match added {
+        Some(entry) => serial == entry.serial,
+        None => false,
+    }
+}
+
+/// Whether the entry of a number is there once what is planned is made, where it was there or not before.
+fn is_there_then(planned: &Planned, serial: u64, stood: bool) -> bool
+    ensures { result ≡ there_then planned.now serial stood }
+{
+    let stays = stood && !planned.change.removed.as_slice().contains(&serial);
+    (stays || comes(&planned.change.added, serial)) && !planned.dropped.as_slice().contains(&serial)
 }
 
 /// Takes what is planned, or what changes nothing where nothing is.
@@ -249,6 +276,29 @@ impl<'a> MemberDraft<'a> {
         match &self.planned {
             Some(planned) => Ok(Kept::Drafted(self.base.kept.drafted(planned, self.moment)?)),
             None => Ok(Kept::Standing(&self.base.kept)),
+        }
+    }
+
+    /// Whether its table has the entry of a number, as the event leaves it so far.
+    pub fn has(&self, serial: u64) -> bool
+        ensures { result ≡ list_any (has_serial serial) self.now.now.kept.table.entries }
+    {
+        let stood = is_there(self.base.kept.table(), serial);
+        match &self.planned {
+            Some(planned) => is_there_then(planned, serial, stood),
+            None => stood,
+        }
+    }
+
+    /// Each entry that its table had is there as the event leaves it so far: none goes with what is planned.
+    pub fn loses_none(&self) -> bool
+        ensures { IsTrue result → KeepsEntries self.now }
+    {
+        // The proof learns what is true of every table.
+        let _table = self.base.kept.table();
+        match &self.planned {
+            Some(planned) => planned.change.removed.is_empty() && planned.dropped.is_empty(),
+            None => true,
         }
     }
 

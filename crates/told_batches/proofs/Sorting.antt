@@ -64,7 +64,7 @@ put_behind w x e =
 
 -- rows that are put by key rise ---------------------------------------------------------------------------------------
 
-put_each : (P : Written → Type 0) (w : Written) (xs : List Written) → P w → AllByRecursion P xs
+pub put_each : (P : Written → Type 0) (w : Written) (xs : List Written) → P w → AllByRecursion P xs
     → AllByRecursion P (put_by_key w xs)
 put_each P w [] p a = (p, tt)
 put_each P w (x ∷ xs) p a = by (is_le (row_cmp w x)) (put_each P w xs p a.1)

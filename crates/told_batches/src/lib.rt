@@ -5,6 +5,7 @@
 mod between;
 mod change;
 pub mod laws;
+mod merging;
 mod numbering;
 mod parting;
 mod rows;

@@ -11,14 +11,14 @@ use std::cmp::Ordering;
 use switch_meaning::PhysEntry;
 
 /// By rising priority, and then by the bytes of the match.
-fn cmp_keys(first: &Written, second: &Written) -> Ordering
+pub(crate) fn cmp_keys(first: &Written, second: &Written) -> Ordering
     ensures { result ≡ key_cmp first.now.entry second.now.entry }
 {
-    first
-        .entry
-        .priority
-        .cmp(&second.entry.priority)
-        .then(first.entry.m.cmp_bytes(&second.entry.m))
+    // The bytes of matches are dear, and are asked for only where priorities are equal.
+    match first.entry.priority.cmp(&second.entry.priority) {
+        Ordering::Equal => first.entry.m.cmp_bytes(&second.entry.m),
+        apart => apart,
+    }
 }
 
 /// The rows by rising key. The sort merges runs: of two rising lists, one behind the other, it makes one in a pass.

@@ -7,7 +7,7 @@ ghost use Rattle.switch_meaning.specs.declared.entry.PhysEntry.{PhysEntry as Phy
 ghost use Rattle.machine_meaning.specs.Batches.{batch_between, coming, next_after, standing_after};
 ghost use Rattle.told_batches.specs.Told.{AreListed, IsToldOf, has_key_in, is_first};
 
-use crate::change::{Change, change_of};
+use crate::change::{Change, change_of_rising};
 use crate::numbering::number_all;
 use crate::parting::Parted;
 use crate::rows::entries_in;
@@ -20,7 +20,7 @@ use switch_meaning::PhysEntry;
 fn is_same_key(first: &PhysEntry, second: &PhysEntry) -> bool
     ensures { result ≡ same_key first.now second.now }
 {
-    first.m == second.m && first.priority == second.priority
+    first.priority == second.priority && first.m == second.m
 }
 
 /// Whether a row has the key of the row at a place.
@@ -65,5 +65,5 @@ pub fn change_told(
     let parted = part(alloc, standing, told.deletes.as_slice())?;
     let entries = entries_in(alloc, told.adds.as_slice())?;
     let come = number_all(alloc, next, entries)?;
-    change_of(parted, come)
+    change_of_rising(alloc, parted, come)
 }
