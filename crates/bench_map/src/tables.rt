@@ -109,18 +109,25 @@ fn put(table: &mut Table, m: &FlowMod) -> Result<(), TableFault>
     Ok(())
 }
 
+/// Puts so many entries into a table.
+fn fill(alloc: Global, table: &mut Table, entries: u32, passes: bool) -> Result<(), TableFault> {
+    for number in 0..entries {
+        put(table, &message(alloc, number, passes)?)?;
+    }
+    Ok(())
+}
+
 fn table(alloc: Global, entries: u32, passes: bool) -> Result<Table, TableFault> {
     let mut table = Table::new(alloc, LIMIT);
-    for number in 0..entries {
-        put(&mut table, &message(alloc, number, passes)?)?;
-    }
+    fill(alloc, &mut table, entries, passes)?;
     Ok(table)
 }
 
 /// The table of each member.
 pub fn tables(alloc: Global, asked: &Asked) -> Result<List<Table>, Fault> {
-    let mut tables = List::new(alloc);
-    for member in 0..asked.members.count() {
+    let count = asked.members.count();
+    let mut tables = List::with_capacity(alloc, count as usize)?;
+    for member in 0..count {
         tables.push(table(alloc, asked.entries, asked.members.passes(member))?)?;
     }
     Ok(tables)

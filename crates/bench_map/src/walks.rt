@@ -93,10 +93,21 @@ fn count_over(
 }
 
 /// Makes the members' tables, and counts what headers give.
+fn fill_and_count(
+    alloc: Global,
+    asked: &Asked,
+    topology: &Topology,
+    exprs: &List<Expr>,
+    grants: &List<Grant>,
+) -> Result<Tally, Fault> {
+    let tables = tables(alloc, asked)?;
+    count_over(alloc, asked, topology, exprs, grants, &tables)
+}
+
+/// Makes a network and its members' tables, and counts what headers give.
 pub fn run(alloc: Global, asked: &Asked) -> Result<Tally, Fault> {
     let topology = topology(alloc)?;
     let exprs = exprs(alloc, asked.members)?;
     let grants = grants(alloc, asked.members)?;
-    let tables = tables(alloc, asked)?;
-    count_over(alloc, asked, &topology, &exprs, &grants, &tables)
+    fill_and_count(alloc, asked, &topology, &exprs, &grants)
 }

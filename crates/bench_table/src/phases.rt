@@ -47,25 +47,30 @@ impl Bench {
         }
         Ok(())
     }
+
+    /// Adds the entries; then, by the phases that are asked for, gives each other actions, takes each out, the odd ones
+    /// first, or takes all out by one message.
+    fn go(&mut self, alloc: Global, asked: &Asked) -> Result<(), TableFault> {
+        self.send(alloc, asked, Command::Add, 0, 1)?;
+        match asked.phases {
+            Phases::Adds => Ok(()),
+            Phases::AddsAndModifies => self.send(alloc, asked, Command::ModifyStrict, 0, 1),
+            Phases::Each => {
+                self.send(alloc, asked, Command::ModifyStrict, 0, 1)?;
+                self.send(alloc, asked, Command::DeleteStrict, 1, 2)?;
+                self.send(alloc, asked, Command::DeleteStrict, 0, 2)
+            }
+            Phases::All => self.apply(&to_all(alloc, Command::Delete)?),
+        }
+    }
 }
 
-/// Adds the entries; then, by the phases that are asked for, gives each other actions, takes each out, the
-/// odd ones first, or takes all out by one message. It gives the counts, and how many entries are left.
+/// Goes through the phases that are asked for. It gives the counts, and how many entries are left.
 pub fn run(alloc: Global, asked: &Asked) -> Result<(Counts, usize), TableFault> {
     let mut bench = Bench {
         table: Table::new(alloc, LIMIT),
         counts: NOTHING,
     };
-    bench.send(alloc, asked, Command::Add, 0, 1)?;
-    match asked.phases {
-        Phases::Adds => {}
-        Phases::AddsAndModifies => bench.send(alloc, asked, Command::ModifyStrict, 0, 1)?,
-        Phases::Each => {
-            bench.send(alloc, asked, Command::ModifyStrict, 0, 1)?;
-            bench.send(alloc, asked, Command::DeleteStrict, 1, 2)?;
-            bench.send(alloc, asked, Command::DeleteStrict, 0, 2)?;
-        }
-        Phases::All => bench.apply(&to_all(alloc, Command::Delete)?)?,
-    }
+    bench.go(alloc, asked)?;
     Ok((bench.counts, bench.table.len()))
 }
