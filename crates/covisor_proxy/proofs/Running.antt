@@ -8,7 +8,7 @@ use Rattle.cv_io.specs.declared.files.MemFile.{MemFile}
 use Rattle.events.specs.declared.event.Event.{Event}
 use Rattle.events.specs.declared.event.Reply.{Reply}
 use Rattle.hyper_core.specs.Meanings.{StateData}
-use Rattle.make_report.specs.Making.{made_steps}
+use Rattle.replay_report.specs.Making.{made_steps}
 use Rattle.policy_file.specs.Policies.{PolicyOf}
 use Rattle.policy_file.specs.declared.fault.PolicyFault.{PolicyFault}
 use Rattle.policy_lock.specs.declared.machine.Machine.{Ghosts}

@@ -4,7 +4,7 @@ use Rattle.std.specs.Prelude.{◌≡◌, ℕ, List, [], ◌++◌, Option, Some, 
 use Rattle.cv_io.specs.declared.files.FileFault.{FileFault}
 use Rattle.cv_io.specs.declared.files.FileFault.TheVariants.{Absent, Failed, Memory}
 use Rattle.made_script.specs.Summary.{summary_text}
-use Rattle.make_report.specs.Making.{made_of, made_steps}
+use Rattle.replay_report.specs.Making.{made_of, made_steps}
 use Rattle.policy_file.specs.Policies.{PolicyOf}
 use Rattle.policy_file.specs.Reading.{policy_in_bytes}
 use Rattle.policy_file.specs.Terse.{terse}

@@ -1,7 +1,7 @@
 //! The forms of the program.
 ghost use Rattle.std.specs.Prelude.{◌≡◌, ◌≢◌, ◌≤◌, ◌+◌, [], IfOk};
 ghost use Rattle.made_script.specs.Summary.{summary_text};
-ghost use Rattle.make_report.specs.Making.{made_of, made_steps};
+ghost use Rattle.replay_report.specs.Making.{made_of, made_steps};
 ghost use Rattle.replay_report.specs.Players.{form_of, is_ready, plan_of, progress_of, reported};
 ghost use Rattle.replay_report.specs.Takings.{as_line};
 ghost use Rattle.covisor_proxy.specs.Asked.{cut_given_of, given_of, over_built_in};
@@ -147,7 +147,7 @@ fn made_line<R: Threads + Sync, G: Ledger>(
     ensures line { IfOk result (λ line. line ≡ as_line (summary_text (made_of seed count))) }
     ensures steps { steps.new ≤ steps.old + made_steps seed count }
 {
-    let summary = make_report::make(rt, alloc, seed, count, steps)?;
+    let summary = replay_report::make(rt, alloc, seed, count, steps)?;
     let mut line = summary_line(alloc, &summary)?;
     line.push(b'\n')?;
     Ok(line)

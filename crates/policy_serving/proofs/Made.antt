@@ -14,7 +14,7 @@ use Rattle.events.specs.declared.event.Event.TheVariants as events
 use Rattle.events.specs.declared.event.Reply.{Reply}
 use Rattle.events.specs.declared.event.Reply.TheVariants as replies
 use Rattle.hyper_core.specs.Meanings.{StateData, is_idle}
-use Rattle.hyper_desk.specs.Histories.{AuditIsKept, lines_made, lines_taken as taken_here}
+use Rattle.policy_serving.specs.Histories.{AuditIsKept, lines_made, lines_taken as taken_here}
 use Rattle.machine_answers.specs.AuditLines.{is_audit, line_in}
 use Rattle.policy_lock.specs.History.{IsLegal, after}
 use Rattle.policy_lock.specs.declared.machine.Machine.{Ghosts}

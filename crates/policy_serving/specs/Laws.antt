@@ -3,7 +3,7 @@ use Rattle.std.specs.Prelude.{◌≡◌, ◌<◌, ◌+◌, ◌*◌, ◌^◌, ℕ
 use Rattle.endpoint_works.specs.Sides.{IsServedSide}
 use Rattle.machine_drafts.specs.Machines.{MachineOf, state_of}
 use Rattle.hyper_core.specs.Meanings.{data_in}
-use Rattle.hyper_desk.specs.Proxies.{HasOne}
+use Rattle.policy_serving.specs.Proxies.{HasOne}
 use Rattle.machine_meaning.specs.States.{opening}
 use Rattle.policy_file.specs.Policies.{PolicyOf}
 use Rattle.policy_file.specs.Sound.{IsSound}

@@ -5,7 +5,7 @@ use Rattle.cv_io.specs.declared.links.Endpoint.{Endpoint}
 use Rattle.events.specs.declared.event.Event.{Event}
 use Rattle.events.specs.declared.event.Reply.{Reply}
 use Rattle.hyper_core.specs.Meanings.{StateData, state_in}
-use Rattle.hyper_desk.specs.Histories.{lines_made}
+use Rattle.policy_serving.specs.Histories.{lines_made}
 use Rattle.machine_meaning.specs.States.{opening}
 use Rattle.policy_file.specs.Policies.{PolicyOf}
 use Rattle.policy_lock.specs.declared.machine.Machine.{Ghosts}

@@ -1,7 +1,7 @@
 //! What holds of the places of a policy. Each function's contract is a law.
 ghost use Rattle.policy_serving.specs.Laws.{PlacesAreCounted, PlacesAreFew, PlacesAreServed};
 
-use hyper_desk::opened_knows;
+use crate::promises::opened_knows;
 
 /// A machine that was opened knows whoever can come up at a place of its policy.
 pub fn places_are_served()

@@ -3,15 +3,16 @@ ghost use Rattle.std.specs.Prelude.{◌≡◌, ◌<◌, ◌+◌, ◌*◌, ◌^�
 ghost use Rattle.cv_io.specs.Outside.{Rose};
 ghost use Rattle.endpoint_works.specs.Sides.{IsServedSide};
 ghost use Rattle.hyper_core.specs.Meanings.{data_in};
-ghost use Rattle.hyper_desk.specs.Proxies.{HasOne};
+ghost use Rattle.policy_serving.specs.Proxies.{HasOne};
 ghost use Rattle.policy_serving.specs.Places.{places_of};
 ghost use Rattle.policy_serving.specs.Served.{IsOpening, ServesPolicy};
 
 use crate::endpoints::places;
 use crate::laws::{places_are_few, places_are_served};
+use crate::promises::audit_is_kept;
+use crate::proxy::Proxy;
 use cv_io::{Clock, Dial, Links, List, Memory, Sink, Spawner};
 use hyper_core::Hyper;
-use hyper_desk::{Proxy, audit_is_kept};
 use policy_file::Policy;
 use policy_lock::Machine;
 use serving::{Place, Served, serve};

@@ -8,3 +8,4 @@ pub mod Taking
 pub mod Asked
 pub mod Counting
 pub mod Summing
+pub mod Stepping

@@ -1,7 +1,7 @@
 -- What is said of a packet.
 use Rattle.std.specs.Prelude.{◌≡◌, ℕ, Bool, true, false, List, ◌++◌, Option, Some, None}
 use Rattle.explain_text.specs.Answers.{asked_text}
-use Rattle.hyper_core.specs.Worlds.{installed_on, network_in}
+pub use Rattle.hyper_core.specs.Worlds.{installed_on, network_in}
 use Rattle.machine_meaning.specs.States.{State}
 use Rattle.policy_file.specs.Policies.{PolicyOf}
 

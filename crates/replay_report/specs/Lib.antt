@@ -8,3 +8,7 @@ pub mod Playing
 pub mod Plays
 pub mod Reports
 pub mod Players
+pub mod Bench
+pub mod MadeCounts
+pub mod Making
+pub mod Worked

@@ -17,7 +17,6 @@ use Rattle.explain_text.specs.Entering.{entrance_of}
 use Rattle.explain_text.specs.Lines.{finding_text}
 use Rattle.explain_text.specs.declared.entrance.Entrance.{Entrance}
 use Rattle.explain_text.specs.declared.finding.Finding.{Finding}
-use Rattle.hyper_core.specs.Worlds.{installed_on, network_in}
 use Rattle.install_plan.specs.declared.written.Written.{Written}
 use Rattle.of10_frames.specs.Wire.{length_field}
 use Rattle.policy_file.specs.Policies.{PolicyOf, plan}
@@ -37,7 +36,7 @@ use Rattle.machine_meaning.specs.Sessions.{is_switch}
 use Rattle.machine_meaning.specs.Sound.{HasNumbers}
 use Rattle.machine_meaning.specs.States.{State}
 use Rattle.replay_report.specs.Cuts.{frames_of, is_short, rest_of}
-use Rattle.replay_report.specs.Explaining.{asked}
+use Rattle.replay_report.specs.Explaining.{asked, installed_on, network_in}
 use Rattle.replay_report.specs.Playing.{Heard, Played, Stand, comes_up, goes, happens, heard, heard_of, hears, leaves}
 use Rattle.replay_report.specs.Playing.{line_does, present, replaces, says, sends, sent, sent_by, short_line}
 use Rattle.replay_report.specs.Playing.{tells_arp, unless_short}

@@ -1,7 +1,7 @@
 use Rattle.std.proofs.Common.{Err, Some, refl, subst, sym}
 use Rattle.cv_io.specs.declared.files.FileFault.TheVariants as faults
 use Rattle.made_script.specs.Summary.{summary_text}
-use Rattle.make_report.specs.Making.{made_of}
+use Rattle.replay_report.specs.Making.{made_of}
 use Rattle.hyper_core.specs.contracts.machine.HyperMachine.TheImpl.{ghosts as hyper}
 use Rattle.covisor_proxy.specs.Asked.{cut_given_for, given_for}
 use Rattle.covisor_proxy.specs.Outcomes.{moment}

@@ -1,6 +1,6 @@
 use Rattle.std.proofs.Common.{arith}
 use Rattle.hyper_core.specs.Meanings.{data_in}
-use Rattle.hyper_desk.specs.Proxies.{HasOne}
+use Rattle.policy_serving.specs.Proxies.{HasOne}
 use Rattle.policy_serving.proofs.Served.{few_in, places_served}
 use Rattle.policy_serving.proofs.laws.places_are_served.Goals as goal
 

@@ -1,7 +1,7 @@
 use Rattle.std.proofs.Common.{◌≡◌, ◌∙◌, ◌<◌, ◌+◌, ◌*◌, ◌^◌, All, List, ap, length, subst, sym}
 use Rattle.endpoint_works.specs.Sides.{IsServedSide}
 use Rattle.hyper_core.specs.Meanings.{data_in}
-use Rattle.hyper_desk.specs.Proxies.{HasOne}
+use Rattle.policy_serving.specs.Proxies.{HasOne}
 use Rattle.machine_meaning.specs.States.{opening}
 use Rattle.policy_file.specs.Policies.{PolicyOf}
 use Rattle.policy_file.specs.Sound.{IsSound}

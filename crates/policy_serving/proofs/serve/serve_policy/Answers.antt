@@ -2,7 +2,7 @@ use denote.Param.Send.{sendable}
 use Rattle.std.proofs.Common.{[], List, inl, refl, subst}
 use Rattle.hyper_core.specs.contracts.machine.HyperMachine.TheImpl.{ghosts as hyper}
 use Rattle.hyper_core.specs.Meanings.{data_in, data_of}
-use Rattle.hyper_desk.proofs.Crossing.{hyper as crossing}
+use Rattle.policy_serving.proofs.Crossing.{hyper as crossing}
 use Rattle.machine_meaning.specs.States.{opening}
 use Rattle.serving.specs.Histories.{lines_taken}
 use Rattle.serving.specs.Runs.{Serves}

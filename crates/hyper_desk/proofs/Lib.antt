@@ -1,4 +1,0 @@
-mod Opened
-mod Histories
-mod KeptCrossing
-pub mod Crossing

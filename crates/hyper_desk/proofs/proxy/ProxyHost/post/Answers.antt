@@ -1,6 +1,0 @@
-use denote.Param.Send.{sendable}
-use Rattle.hyper_desk.proofs.Crossing.{hyper}
-use Rattle.hyper_desk.proofs.proxy.ProxyHost.post.Goals as goal
-
-pub post-requires-send-M : goal.post-requires-send-M
-post-requires-send-M g c κs within = search (hyper, sendable) depth 10

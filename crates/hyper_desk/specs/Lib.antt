@@ -1,3 +1,0 @@
-pub mod Proxies
-pub mod Laws
-pub mod Histories

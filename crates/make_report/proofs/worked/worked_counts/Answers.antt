@@ -1,5 +1,0 @@
-use Rattle.make_report.specs.Worked.{counts_are_so}
-use Rattle.make_report.proofs.worked.worked_counts.Goals as goal
-
-pub returns : goal.returns
-returns c = counts_are_so

@@ -1,4 +1,0 @@
-pub mod Bench
-pub mod Counting
-pub mod Making
-pub mod Worked
