@@ -13,8 +13,7 @@ ghost use Rattle.machine_meaning.specs.States.{opening};
 ghost use Rattle.machine_meaning.specs.Steps.{step_of};
 
 use crate::glances::glance;
-use crate::keeping::build_first;
-use crate::starting::open as open_held;
+use crate::opening::open as open_machine;
 use crate::stepping::step as step_held;
 use crate::views::{installed, round, rules};
 use crate::worlds::{Tables, copied_tables, followed};
@@ -28,8 +27,8 @@ use machine_drafts::setup::Setup;
 use packet_map::World;
 use policy_file::Policy;
 use std::alloc::Global;
-use std::marker::{Brand, Model};
-use std::sync::ledger::{Blank, Ledger};
+use std::marker::Model;
+use std::sync::ledger::Ledger;
 use std::thread::Threads;
 use virtual_topology::Topology;
 
@@ -72,12 +71,11 @@ impl Hyper {
         ensures compiled { IfOk result (λ hyper. hyper.compiled ≡ true) }
     {
         let setup = Setup::make(alloc, policy)?;
-        let held = open_held(&setup)?;
-        let composed = build_first::<R, Brand>(rt, &setup, &held, Blank::new(1))?;
+        let opened = open_machine(rt, &setup)?;
         Ok(Hyper {
             setup,
-            held,
-            composed: Some(composed),
+            held: opened.held,
+            composed: Some(opened.composed),
         })
     }
 

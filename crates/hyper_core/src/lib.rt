@@ -8,6 +8,7 @@ mod glances;
 pub mod hyper;
 mod keeping;
 pub mod machine;
+mod opening;
 mod overtaking;
 mod sources;
 mod starting;

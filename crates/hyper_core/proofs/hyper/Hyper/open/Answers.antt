@@ -2,6 +2,6 @@ use Rattle.hyper_core.proofs.hyper.Hyper.open.Goals as goal
 
 pub invariant_of-result : goal.invariant_of-result
 invariant_of-result g c = (
-  c.in_ok-held.ensures.all,
-  (c.in_ok-held.ensures.settled, c.in_ok-composed.ensures.kept),
+  c.in_ok-opened.ensures.all,
+  (c.in_ok-opened.ensures.settled, c.in_ok-opened.ensures.kept),
 )
