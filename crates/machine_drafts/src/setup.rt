@@ -9,7 +9,7 @@ ghost use Rattle.policy_setting.specs.OfPolicies.{seen as seen_of};
 ghost use Rattle.policy_setting.specs.Wirings.{wiring as wiring_of};
 ghost use Rattle.machine_meaning.specs.Lists.{places};
 ghost use Rattle.machine_meaning.specs.Names.{all_ports as all_ports_of};
-ghost use Rattle.machine_drafts.specs.Setups.{is_seen as is_seen_of, ports_of, sees as sees_of};
+ghost use Rattle.machine_drafts.specs.Setups.{IsSetUp, is_seen as is_seen_of, ports_of, sees as sees_of};
 ghost use Rattle.machine_meaning.specs.Ways.{switches_in, switches_of as switches_of_of};
 
 use crate::ways;
@@ -103,7 +103,7 @@ fn switches(alloc: Global, topology: &Topology, wiring: &Wiring) -> Result<List<
     Ok(switches)
 }
 
-/// What is worked out of a policy's topology and members.
+/// What is worked out of a topology, and of members.
 #[derive(Drop)]
 struct Derived {
     ports: List<PortView>,
@@ -111,7 +111,7 @@ struct Derived {
     switches: List<List<u32>>,
 }
 
-/// What is worked out of a policy's topology and members.
+/// What is worked out of a topology, and of members.
 fn derive(
     alloc: Global,
     topology: &Topology,
@@ -131,6 +131,32 @@ fn derive(
         ports,
         seen,
         switches,
+    })
+}
+
+/// What is worked out of a policy.
+#[derive(Drop)]
+struct WorkedOut {
+    topology: Topology,
+    paths: Paths,
+    ports: List<PortView>,
+    seen: List<bool>,
+    switches: List<List<u32>>,
+}
+
+/// What is worked out of a policy.
+fn work_out(alloc: Global, policy: &Policy) -> Result<WorkedOut, Memory>
+    ensures { IfOk result (λ w. IsSetUp policy.now w.topology w.paths w.ports w.seen w.switches) }
+{
+    let topology = policy.topology(alloc)?;
+    let paths = policy.paths(alloc)?;
+    let derived = derive(alloc, &topology, &paths, policy.members.as_slice())?;
+    Ok(WorkedOut {
+        topology,
+        paths,
+        ports: derived.ports,
+        seen: derived.seen,
+        switches: derived.switches,
     })
 }
 
@@ -154,22 +180,15 @@ impl Setup {
     pub fn make(alloc: Global, policy: Policy) -> Result<Setup, Memory>
         ensures { IfOk result (λ setup. setup ≡ policy) }
     {
-        let topology = policy.topology(alloc)?;
-        let paths = policy.paths(alloc)?;
-        let derived = derive(alloc, &topology, &paths, policy.members.as_slice())?;
-        let Derived {
-            ports,
-            seen,
-            switches,
-        } = derived;
+        let found = work_out(alloc, &policy)?;
         let setup = Setup {
             alloc,
             policy,
-            topology,
-            paths,
-            ports,
-            seen,
-            switches,
+            topology: found.topology,
+            paths: found.paths,
+            ports: found.ports,
+            seen: found.seen,
+            switches: found.switches,
         };
         Ok(setup)
     }
