@@ -1,4 +1,4 @@
-use Rattle.hyper_core.proofs.hyper.Hyper.open.Given as goal
+use Rattle.hyper_core.proofs.opening.open.Given as goal
 
 -- the ledger of the counter is the blank one's
 abbrev pub ghosts-build_first : goal.ghosts-build_first
