@@ -224,8 +224,7 @@ fn undo_tables(tables: &mut List<SwitchTable>)
 fn is_table(table: &SwitchTable)
     ensures { IsTable table.now.installed.now }
 {
-    // The proof learns that what stands is a table.
-    let _ = table.count();
+    table.is_table();
 }
 
 /// So it is on each switch.

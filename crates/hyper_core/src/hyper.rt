@@ -1,5 +1,5 @@
 //! The machine.
-ghost use Rattle.std.specs.Prelude.{◌≡◌, ◌≤◌, ◌+◌, IfOk, OnErr, OnOk, option_map, true};
+ghost use Rattle.std.specs.Prelude.{◌≡◌, ◌≤◌, ◌+◌, IfOk, OnErr, OnOk, true};
 ghost use Rattle.packet_map.specs.Networks.{SeeRising, network_of};
 ghost use Rattle.policy_file.specs.Policies.{plan};
 ghost use Rattle.policy_file.specs.Sound.{IsSound};
@@ -18,7 +18,7 @@ use crate::stepping::step as step_held;
 use crate::views::{installed, round, rules};
 use crate::worlds::{Tables, copied_tables, followed};
 use composed_tables::Composed;
-use cv_io::{Duplicate, Memory, Steps, Who};
+use cv_io::{Duplicate, List, Memory, Steps, Who};
 use events::{Event, Reply};
 use install_plan::Written;
 use machine_drafts::copying::copied_held;
@@ -168,9 +168,9 @@ impl Hyper {
         round(&self.held, who)
     }
 
-    /// The entries that stand on a switch, by rising key; None exactly where it isn't up.
-    pub fn installed(&self, n: u32) -> Option<&[Written]>
-        ensures { option_map (λ entries. entries.now) result ≡ installed_on (state_of self.now) n }
+    /// Copies of the entries that stand on a switch, by rising key; None exactly where it isn't up.
+    pub fn installed(&self, n: u32) -> Result<Option<List<Written>>, Memory>
+        ensures { IfOk result (λ installed. installed ≡ installed_on (state_of self.now) n) }
     {
         installed(&self.held, n)
     }

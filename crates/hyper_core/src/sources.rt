@@ -18,6 +18,7 @@ use composed_tables::Composed;
 use cv_io::{List, Memory};
 use install_plan::{Batch, Written};
 use machine_drafts::switch_draft::SwitchDraft;
+use shared_rows::Rows;
 use std::alloc::Global;
 use switch_meaning::PhysEntry;
 use told_batches::{Change, change_between, change_told};
@@ -58,7 +59,7 @@ fn change_whole(
     composed: &Composed,
     n: usize,
     next: u64,
-    standing: &[Written],
+    standing: &Rows,
 ) -> Result<Change, Memory>
     requires { n < length composed.now.tables }
     ensures { (t : SettingOf) → IsGood t → IsOf t composed.now
@@ -72,7 +73,7 @@ fn change_whole(
 fn change_by(
     alloc: Global,
     next: u64,
-    standing: &[Written],
+    standing: &Rows,
     told: &Batch,
 ) -> Result<Option<Change>, Memory>
     ensures { (wanted : List PhysEntryOf) → IsToldOf standing.now wanted told.now
@@ -91,7 +92,7 @@ fn change_unmoved(
     turned: &Turned,
     n: usize,
     next: u64,
-    standing: &[Written],
+    standing: &Rows,
 ) -> Result<Option<Change>, Memory>
     requires { n < length composed.now.tables }
     ensures { (t : SettingOf) → IsGood t → IsOf t composed.now
@@ -137,7 +138,7 @@ fn change_anew(
     setting: &Setting,
     n: u32,
     next: u64,
-    standing: &[Written],
+    standing: &Rows,
 ) -> Result<Change, Memory>
     requires { IsFittingSetting setting.now }
     ensures { IfOk result (λ change.

@@ -15,6 +15,7 @@ use machine_drafts::setup::Setup;
 use member_state::MemberState;
 use outbox::{Letters, Outbox};
 use policy_file::MemberItem;
+use shared_rows::Rows;
 use stats_map::Counts;
 use std::alloc::Global;
 use switch_state::Known;
@@ -53,7 +54,7 @@ fn new_switch(alloc: Global, _item: &SwitchItem) -> Switch
     Switch {
         outbox: Outbox::new(alloc),
         known: Known::new(alloc, 0),
-        standing: List::new(alloc),
+        standing: Rows::new(alloc),
     }
 }
 

@@ -1,5 +1,5 @@
 //! What is read of a machine between its steps.
-ghost use Rattle.std.specs.Prelude.{◌≡◌, IfOk, length, map, option_map, slice_get};
+ghost use Rattle.std.specs.Prelude.{◌≡◌, IfOk, length, map, slice_get};
 ghost use Rattle.agreement.specs.Fitting.{IsFittingSetting};
 ghost use Rattle.policy_meaning.specs.Networks.{switch_rules as switch_rules_of};
 ghost use Rattle.machine_drafts.specs.Machines.{state_in_held};
@@ -10,7 +10,7 @@ ghost use Rattle.machine_meaning.specs.Settings.{setting_of};
 use crate::composed::fitting;
 use crate::glances::outbox_for;
 use agreement::Setting;
-use cv_io::{Memory, Who};
+use cv_io::{List, Memory, Who};
 use install_plan::Written;
 use machine_drafts::beginning::begin_outcome;
 use machine_drafts::held::Held;
@@ -28,13 +28,13 @@ pub(crate) fn round(held: &Held, who: Who) -> u64
     }
 }
 
-/// The entries that stand on a switch, if it is up.
-pub(crate) fn installed(held: &Held, n: u32) -> Option<&[Written]>
-    ensures { option_map (λ entries. entries.now) result ≡ installed_on (state_in_held held.now) n }
+/// Copies of the entries that stand on a switch, if it is up.
+pub(crate) fn installed(held: &Held, n: u32) -> Result<Option<List<Written>>, Memory>
+    ensures { IfOk result (λ installed. installed ≡ installed_on (state_in_held held.now) n) }
 {
     match held.switches.get(n as usize) {
-        Some(switch) if switch.outbox.is_up() => Some(switch.standing.as_slice()),
-        _ => None,
+        Some(switch) if switch.outbox.is_up() => Ok(Some(switch.standing.listed()?)),
+        _ => Ok(None),
     }
 }
 

@@ -58,11 +58,18 @@ impl Installed {
         }
     }
 
-    /// How many entries stand. What is true of every table is said here.
-    pub fn len(&self) -> usize
-        ensures count { result ≡ length self.now.now.standing }
+    /// What is true of every table is said here. It counts nothing.
+    pub fn is_table(&self)
         ensures now { IsTable self.now.now }
         ensures before { IsTable self.now.before }
+    {
+        // The proof learns it of the type.
+        let _slots = &self.slots;
+    }
+
+    /// How many entries stand.
+    pub fn len(&self) -> usize
+        ensures { result ≡ length self.now.now.standing }
     {
         count(&self.slots)
     }

@@ -1,9 +1,8 @@
 //! Members and switches, each with its session.
-use cv_io::List;
-use install_plan::Written;
 use machine_meaning::Config;
 use member_state::MemberState;
 use outbox::Outbox;
+use shared_rows::Rows;
 use switch_state::Known;
 
 /// A member: its session, what SET_CONFIG gave, and its table with the levels of its ranks.
@@ -20,5 +19,5 @@ pub struct Member {
 pub struct Switch {
     pub outbox: Outbox,
     pub known: Known,
-    pub standing: List<Written>,
+    pub standing: Rows,
 }

@@ -13,10 +13,11 @@ ghost use Rattle.machine_drafts.specs.SwitchDrafts.{IsUnmoved, standing_switch, 
 ghost use Rattle.machine_drafts.specs.Views.{standing_of, switch_of};
 
 use crate::session::Switch;
-use cv_io::{Bytes, Duplicate, List, Memory};
-use install_plan::{Batch, Written};
+use cv_io::{Bytes, Duplicate, Memory};
+use install_plan::Batch;
 use of10_msgs::PhyPort;
 use outbox::{Letters, Outbox, Turn};
+use shared_rows::Rows;
 use std::alloc::Global;
 use std::marker::Model;
 use switch_state::{Known, Removal};
@@ -26,7 +27,7 @@ use switch_state::{Known, Removal};
 pub struct SwitchPart {
     pub turn: Turn,
     pub known: Option<Known>,
-    pub standing: Option<List<Written>>,
+    pub standing: Option<Rows>,
     /// What it is put.
     pub letters: Letters,
 }
@@ -37,7 +38,7 @@ pub struct SwitchDraft<'a> {
     base: &'a Switch,
     turn: Turn,
     known: Option<Known>,
-    standing: Option<List<Written>>,
+    standing: Option<Rows>,
 }
 
 impl<'a> Model for SwitchDraft<'a> {
@@ -116,12 +117,12 @@ impl<'a> SwitchDraft<'a> {
     }
 
     /// The entries that stand on the switch, by rising key.
-    pub fn standing(&self) -> &[Written]
+    pub fn standing(&self) -> &Rows
         ensures { result.now ≡ self.now.standing }
     {
         match &self.standing {
-            Some(standing) => standing.as_slice(),
-            None => self.base.standing.as_slice(),
+            Some(standing) => standing,
+            None => &self.base.standing,
         }
     }
 
@@ -138,7 +139,7 @@ impl<'a> SwitchDraft<'a> {
     {
         self.turn.close();
         self.known = Some(Known::new(alloc, 0));
-        self.standing = Some(List::new(alloc));
+        self.standing = Some(Rows::new(alloc));
     }
 
     /// The next round begins, in which this cookie is the first that can be written.
@@ -147,7 +148,7 @@ impl<'a> SwitchDraft<'a> {
     {
         self.turn.open();
         self.known = Some(Known::new(alloc, first));
-        self.standing = Some(List::new(alloc));
+        self.standing = Some(Rows::new(alloc));
     }
 
     /// The switch answers a barrier. Its number in the round, if one of that xid waits.
@@ -189,7 +190,7 @@ impl<'a> SwitchDraft<'a> {
         alloc: Global,
         begins: bool,
         batch: Batch,
-        standing: List<Written>,
+        standing: Rows,
         messages: &mut Letters,
     ) -> Result<(), Memory>
         requires { CanSend batch }

@@ -1,12 +1,23 @@
 //! Why a packet goes where it goes.
-ghost use Rattle.std.specs.Prelude.{◌≡◌, ◌++◌, OnOk};
+ghost use Rattle.std.specs.Prelude.{◌≡◌, ◌++◌, OnOk, option_map};
 ghost use Rattle.explain_text.specs.Answers.{findings_text};
 
 use crate::telling::add_line;
-use cv_io::{Bytes, Memory};
+use cv_io::{Bytes, List, Memory};
 use explain_text::{Finding, finding_line};
+use install_plan::Written;
 use policy_file::Policy;
 use std::alloc::Global;
+
+/// The entries that stand, if it is known which.
+pub(crate) fn rows_of(standing: &Option<List<Written>>) -> Option<&[Written]>
+    ensures { option_map (λ entries. entries.now) result ≡ standing.now }
+{
+    match standing {
+        Some(rows) => Some(rows.as_slice()),
+        None => None,
+    }
+}
 
 /// Appends what was found of a packet, a line each.
 pub(crate) fn say_findings(

@@ -10,7 +10,7 @@ ghost use Rattle.replay_report.specs.Sessions.{sessions_of, virtual_named};
 ghost use Rattle.replay_report.specs.Takings.{TakesFirst, as_line, audit_lines, does, emptied, message_lines};
 ghost use Rattle.replay_report.specs.Takings.{taken_in, takes_all, waits_for};
 
-use crate::explaining::say_findings;
+use crate::explaining::{rows_of, say_findings};
 use crate::sessions::{Named, find_virtual};
 use cv_io::{Bytes, List, Memory, Session, Steps, Text, Who};
 use events::{Event, Reply};
@@ -225,8 +225,8 @@ impl Stage {
         };
         let tables = self.machine.tables()?;
         let world = self.machine.world(&tables);
-        let standing = self.machine.installed(at.switch);
-        let found = answer(self.alloc, &world, standing, &at, bytes)?;
+        let standing = self.machine.installed(at.switch)?;
+        let found = answer(self.alloc, &world, rows_of(&standing), &at, bytes)?;
         say_findings(
             self.alloc,
             self.machine.policy(),

@@ -25,7 +25,7 @@ use Rattle.switch_meaning.specs.Keys.{same_key}
 use Rattle.switch_meaning.specs.declared.entry.PhysEntry.{PhysEntry}
 use Rattle.switch_meaning.proofs.ByKey.{key_total, sorted-by-key}
 use Rattle.machine_meaning.specs.Batches.{by_key, put_by_key}
-use Rattle.told_batches.specs.Told.{IsLower}
+use Rattle.shared_rows.specs.Rows.{IsLower}
 
 -- rows that rise are by key, and so are some of them -----------------------------------------------------------------
 

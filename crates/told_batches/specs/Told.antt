@@ -1,21 +1,17 @@
 -- What is told of a switch: the entries that go and that come.
-use Rattle.std.specs.Prelude.{◌≡◌, ℕ, Bool, false, not, List, [], ◌∷◌, IsPermutation, filter, map}
+use Rattle.std.specs.Prelude.{◌≡◌, ℕ, Bool, not, List, IsPermutation, filter, map}
 use Rattle.std.specs.List.{list_any}
-use Rattle.std.specs.declared.cmp.Ordering.TheVariants.{Less}
 use Rattle.agreement.specs.FreeOrder.{HaveMatches}
 use Rattle.install_plan.specs.Tables.{IsBatch, TableOf, entries_in, entry_of, numbered}
 use Rattle.install_plan.specs.declared.written.Batch.{Batch}
 use Rattle.install_plan.specs.declared.written.Written.{Written}
 use Rattle.policy_meaning.specs.LeafFact.{EachPair}
 use Rattle.switch_meaning.specs.BatchLaw.{HasOneAKey}
-use Rattle.switch_meaning.specs.Batches.{difference, key_cmp}
+use Rattle.switch_meaning.specs.Batches.{difference}
 use Rattle.switch_meaning.specs.Keys.{same_key}
 use Rattle.switch_meaning.specs.declared.entry.PhysEntry.{PhysEntry}
+use Rattle.shared_rows.specs.Rows.{IsLower}
 use Rattle.machine_meaning.specs.Batches.{by_key, coming, going, staying}
-
--- the first comes before the second, by key
-abbrev pub IsLower : Written → Written → Type 0
-IsLower v w = key_cmp v.entry w.entry ≡ Less
 
 -- what is told, without cookies, is the difference of what stands, by rising key, and of what is wanted
 pub record IsToldOf (stood : List Written) (wanted : List PhysEntry) (told : Batch) : Type 0 where
@@ -25,11 +21,6 @@ pub record IsToldOf (stood : List Written) (wanted : List PhysEntry) (told : Bat
 -- a row has the key of one of these entries
 abbrev pub has_key_in : List PhysEntry → Written → Bool
 has_key_in es w = list_any (same_key w.entry) es
-
--- a row has the key of the first of these rows
-abbrev pub is_first : List Written → Written → Bool
-is_first [] w = false
-is_first (x ∷ xs) w = same_key w.entry x.entry
 
 -- the entries are those of the rows that have their keys, in the order of the rows
 abbrev pub AreListed : List PhysEntry → List Written → Type 0

@@ -10,6 +10,7 @@ use crate::parting::Parted;
 use crate::rows::entries_in;
 use cv_io::{List, Memory};
 use install_plan::Written;
+use shared_rows::Rows;
 use std::alloc::Global;
 use switch_meaning::{PhysEntry, difference, is_same};
 
@@ -55,14 +56,15 @@ fn coming(
 pub fn change_between(
     alloc: Global,
     next: u64,
-    standing: &[Written],
+    standing: &Rows,
     wanted: &List<PhysEntry>,
 ) -> Result<Change, Memory>
     ensures batch { IfOk result (λ c. c.batch ≡ batch_between next standing.now wanted.now) }
     ensures standing { IfOk result (λ c. c.standing ≡ standing_after next standing.now wanted.now) }
     ensures next { IfOk result (λ c. c.next ≡ next_after next (coming_of next standing.now wanted.now)) }
 {
-    let parted = part(alloc, standing, wanted)?;
-    let come = coming(alloc, next, standing, wanted)?;
-    change_of(parted, come)
+    let rows = standing.listed()?;
+    let parted = part(alloc, rows.as_slice(), wanted)?;
+    let come = coming(alloc, next, rows.as_slice(), wanted)?;
+    change_of(alloc, parted, come)
 }

@@ -2,59 +2,36 @@
 ghost use Rattle.std.specs.Prelude.{◌≡◌, ◌++◌, IfOk, IsTrue};
 ghost use Rattle.switch_state.specs.Fitting.{CanAdd, CanSend};
 ghost use Rattle.machine_meaning.specs.Batches.{by_key as by_key_of};
-ghost use Rattle.told_batches.specs.Rows.{Rise};
 
-use crate::merging::merge;
 use crate::numbering::Numbered;
 use crate::parting::Parted;
 use crate::rows::by_key;
-use cv_io::{Duplicate, List, Memory};
+use cv_io::{Duplicate, Memory};
 use install_plan::{Batch, Written};
 use of10_actions::{are_in_range, list_length};
+use shared_rows::Rows;
 use std::alloc::Global;
 
 /// What is written to a switch, what stands there then, and the next cookie after it.
-#[derive(Debug, Drop)]
+#[derive(Drop)]
 pub struct Change {
     pub batch: Batch,
-    pub standing: List<Written>,
+    pub standing: Rows,
     pub next: u64,
 }
 
 /// What goes is deleted, and what comes stands beside what stays.
-pub(crate) fn change_of(parted: Parted, come: Numbered) -> Result<Change, Memory>
+pub(crate) fn change_of(alloc: Global, parted: Parted, come: Numbered) -> Result<Change, Memory>
     ensures batch { IfOk result (λ c. c.batch ≡ record { deletes = by_key_of parted.going; adds = come.entries }) }
     ensures standing { IfOk result (λ c. c.standing ≡ by_key_of (parted.staying ++ come.entries)) }
     ensures next { IfOk result (λ c. c.next ≡ come.next) }
 {
     let mut after = parted.staying;
     after.append(come.entries.copy()?)?;
+    let standing = Rows::of(alloc, after)?;
     Ok(Change {
         batch: Batch {
             deletes: by_key(parted.going)?,
-            adds: come.entries,
-        },
-        standing: by_key(after)?,
-        next: come.next,
-    })
-}
-
-/// The same where what goes, what stays and what comes rises by key: nothing is sorted.
-pub(crate) fn change_of_rising(
-    alloc: Global,
-    parted: Parted,
-    come: Numbered,
-) -> Result<Change, Memory>
-    ensures batch { Rise parted.going
-        → IfOk result (λ c. c.batch ≡ record { deletes = by_key_of parted.going; adds = come.entries }) }
-    ensures standing { Rise parted.staying → Rise come.entries
-        → IfOk result (λ c. c.standing ≡ by_key_of (parted.staying ++ come.entries)) }
-    ensures next { IfOk result (λ c. c.next ≡ come.next) }
-{
-    let standing = merge(alloc, parted.staying, come.entries.copy()?)?;
-    Ok(Change {
-        batch: Batch {
-            deletes: parted.going,
             adds: come.entries,
         },
         standing,

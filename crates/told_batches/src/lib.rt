@@ -5,7 +5,6 @@
 mod between;
 mod change;
 pub mod laws;
-mod merging;
 mod numbering;
 mod parting;
 mod rows;

@@ -1,58 +1,63 @@
 //! The change of a switch's table that is told, as which entries go and come: deleted ones are written under the
 //! cookies under which they stand, added ones under new ones.
-ghost use Rattle.std.specs.Prelude.{◌≡◌, IfOk, List, drop, filter, map, not};
+ghost use Rattle.std.specs.Prelude.{◌≡◌, ◌++◌, IfOk, List, filter, map, not};
 ghost use Rattle.install_plan.specs.Tables.{entry_of};
-ghost use Rattle.switch_meaning.specs.Keys.{same_key};
+ghost use Rattle.policy_meaning.specs.LeafFact.{EachPair};
+ghost use Rattle.shared_rows.specs.Rows.{IsLower, Rise, by_key as by_key_of};
 ghost use Rattle.switch_meaning.specs.declared.entry.PhysEntry.{PhysEntry as PhysEntryOf};
 ghost use Rattle.machine_meaning.specs.Batches.{batch_between, coming, next_after, standing_after};
-ghost use Rattle.told_batches.specs.Told.{AreListed, IsToldOf, has_key_in, is_first};
+ghost use Rattle.told_batches.specs.Told.{AreListed, IsToldOf, has_key_in};
 
-use crate::change::{Change, change_of_rising};
+use crate::change::Change;
 use crate::numbering::number_all;
-use crate::parting::Parted;
 use crate::rows::entries_in;
-use cv_io::Memory;
+use cv_io::{Duplicate, List, Memory};
 use install_plan::{Batch, Written};
+use shared_rows::{Rows, Taken};
 use std::alloc::Global;
-use switch_meaning::PhysEntry;
 
-/// Whether two entries have one key.
-fn is_same_key(first: &PhysEntry, second: &PhysEntry) -> bool
-    ensures { result ≡ same_key first.now second.now }
-{
-    first.priority == second.priority && first.m == second.m
+/// The rows that go, and those that stay.
+#[derive(Drop)]
+struct Left {
+    going: List<Written>,
+    staying: Rows,
 }
 
-/// Whether a row has the key of the row at a place.
-fn is_at(rows: &[Written], place: usize, written: &Written) -> bool
-    ensures { result ≡ is_first (drop place rows.now) written.now }
+/// The rows that stand and have the keys of these, which are listed in the order in which they stand; and the others.
+fn part(alloc: Global, standing: &Rows, gone: &[Written]) -> Result<Left, Memory>
+    ensures going { EachPair IsLower standing.now → AreListed (map entry_of gone.now) standing.now
+        → IfOk result (λ left. left.going ≡ filter (has_key_in (map entry_of gone.now)) standing.now) }
+    ensures staying { EachPair IsLower standing.now → AreListed (map entry_of gone.now) standing.now
+        → IfOk result (λ left. left.staying
+        ≡ filter (λ w. not (has_key_in (map entry_of gone.now) w)) standing.now) }
 {
-    place < rows.len() && is_same_key(&written.entry, &rows[place].entry)
-}
-
-/// The rows that stand and have the keys of these, and those that stay, in one pass where these are listed in the
-/// order in which they stand.
-fn part(alloc: Global, standing: &[Written], gone: &[Written]) -> Result<Parted, Memory>
-    ensures going { AreListed (map entry_of gone.now) standing.now
-        → IfOk result (λ p. p.going ≡ filter (has_key_in (map entry_of gone.now)) standing.now) }
-    ensures staying { AreListed (map entry_of gone.now) standing.now
-        → IfOk result (λ p. p.staying ≡ filter (λ w. not (has_key_in (map entry_of gone.now) w)) standing.now) }
-{
-    let mut parted = Parted::new(alloc);
-    let mut place = 0;
-    for written in standing {
-        let goes = is_at(gone, place, written);
-        parted.push(!goes, written)?;
-        place += usize::from(goes);
+    let mut going = List::new(alloc);
+    let mut staying = standing.copy()?;
+    for one in gone {
+        let Taken { rows, row } = staying.without(&one.entry)?;
+        staying = rows;
+        going.push_some(row)?;
     }
-    Ok(parted)
+    Ok(Left { going, staying })
 }
 
-/// The change that is told of a switch, from what stands there, with cookies from the next one on.
+/// Rows with others, each in its place by key.
+fn put_all(rows: Rows, come: &[Written]) -> Result<Rows, Memory>
+    ensures { Rise rows → IfOk result (λ all. all ≡ by_key_of (rows ++ come.now)) }
+{
+    let mut all = rows;
+    for row in come {
+        all = all.with(row.copy()?)?;
+    }
+    Ok(all)
+}
+
+/// The change that is told of a switch, from what stands there, with cookies from the next one on. Rows that neither
+/// go nor come are not looked at.
 pub fn change_told(
     alloc: Global,
     next: u64,
-    standing: &[Written],
+    standing: &Rows,
     told: &Batch,
 ) -> Result<Change, Memory>
     ensures batch { (wanted : List PhysEntryOf) → IsToldOf standing.now wanted told.now
@@ -62,8 +67,16 @@ pub fn change_told(
     ensures next { (wanted : List PhysEntryOf) → IsToldOf standing.now wanted told.now
         → IfOk result (λ c. c.next ≡ next_after next (coming next standing.now wanted)) }
 {
-    let parted = part(alloc, standing, told.deletes.as_slice())?;
+    let left = part(alloc, standing, told.deletes.as_slice())?;
     let entries = entries_in(alloc, told.adds.as_slice())?;
     let come = number_all(alloc, next, entries)?;
-    change_of_rising(alloc, parted, come)
+    let after = put_all(left.staying, come.entries.as_slice())?;
+    Ok(Change {
+        batch: Batch {
+            deletes: left.going,
+            adds: come.entries,
+        },
+        standing: after,
+        next: come.next,
+    })
 }

@@ -1,7 +1,7 @@
 use Rattle.std.proofs.Common.{ap, rules, ◌∙◌}
 use Rattle.std.proofs.lemmas.List.Sorted.{answers_always}
 use Rattle.machine_meaning.specs.Batches.{by_key}
-use Rattle.told_batches.proofs.Sorting.{is_lower, stable_sorted, weak}
+use Rattle.shared_rows.proofs.Sorting.{is_lower, stable_sorted, weak}
 use Rattle.told_batches.proofs.rows.by_key.Goals as goal
 
 pub returns : goal.returns

@@ -1,37 +1,32 @@
-use Rattle.std.proofs.Common.{◌+◌, ap, arith}
-use Rattle.told_batches.proofs.OnePass.{at_most_one, parted_first, parted_last, parted_more}
+use Rattle.told_batches.proofs.Taken.{left_rise, taken_first, taken_last, taken_more}
 use Rattle.told_batches.proofs.told.part.Goals as goal
 
-pub loop-written-init : goal.loop-written-init
-loop-written-init c = record {
-  within = omega arith;
-  parted =
-      parted_first c.args.gone.now c.args.standing.now c.new-parted.result.going c.new-parted.result.staying
-      c.new-parted.ensures.going c.new-parted.ensures.staying;
-}
+pub loop-one-init : goal.loop-one-init
+loop-one-init c rise listed =
+    taken_first c.args.standing.now c.args.gone.now rise listed c.new-going.result c.in_ok-staying.staying
+    c.new-going.ensures c.in_ok-staying.ensures
 
-pub loop-written-preserved : goal.loop-written-preserved
-loop-written-preserved c =
-    let before = c.loop-written in
-    let most = at_most_one c.is_at-goes.result in
-    record {
-      within = omega (arith, c.from-place.ensures);
-      parted =
-          λ h. parted_more c.args.gone.now c.args.standing.now before.place before.written-index
-          (before.place + c.from-place.result) c.written-item.result c.is_at-goes.result before.parted.going
-          before.parted.staying c.push.new.self.going c.push.new.self.staying c.loop-written-test.true
-          c.written-item.is c.is_at-goes.ensures (ap (λ n. before.place + n) c.from-place.ensures)
-          c.in_ok-push.ensures.going c.in_ok-push.ensures.staying (before.invariant.parted h);
-    }
+pub loop-one-preserved : goal.loop-one-preserved
+loop-one-preserved c rise listed =
+    let stood = c.args.standing.now in
+    let gone = c.args.gone.now in
+    let now = c.loop-one in
+    let before = now.invariant rise listed in
+    let rises =
+    left_rise stood gone rise listed now.one-index c.one-item.result c.loop-one-test.true c.one-item.is now.going
+    now.staying before in
+    taken_more stood gone rise listed now.one-index c.one-item.result c.loop-one-test.true c.one-item.is now.going
+    now.staying c.in_ok-rows.field-0.rows c.push_some.new.self c.in_ok-rows.field-0.row rises
+    (c.in_ok-rows.ensures.rows rises) (c.in_ok-rows.ensures.row rises) c.in_ok-push_some.ensures.pushed before
 
 pub returns-clause-going : goal.returns-clause-going
-returns-clause-going c h =
-    let last = c.loop-written in
-    (parted_last c.args.gone.now c.args.standing.now last.place last.written-index last.parted.going last.parted.staying
-    c.loop-written-test.false (last.invariant.parted h)).0
+returns-clause-going c rise listed =
+    let last = c.loop-one in
+    (taken_last c.args.standing.now c.args.gone.now rise listed last.one-index last.going last.staying
+    c.loop-one-test.false (last.invariant rise listed)).0
 
 pub returns-clause-staying : goal.returns-clause-staying
-returns-clause-staying c h =
-    let last = c.loop-written in
-    (parted_last c.args.gone.now c.args.standing.now last.place last.written-index last.parted.going last.parted.staying
-    c.loop-written-test.false (last.invariant.parted h)).1
+returns-clause-staying c rise listed =
+    let last = c.loop-one in
+    (taken_last c.args.standing.now c.args.gone.now rise listed last.one-index last.going last.staying
+    c.loop-one-test.false (last.invariant rise listed)).1
