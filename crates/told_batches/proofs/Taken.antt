@@ -10,10 +10,11 @@ use Rattle.install_plan.specs.declared.written.Written.{Written}
 use Rattle.policy_meaning.specs.LeafFact.{EachPair}
 use Rattle.shared_rows.specs.Rows.{IsLower, has_key}
 use Rattle.shared_rows.proofs.InOrder.{lower_apart}
+use Rattle.switch_meaning.specs.Batches.{key_cmp}
 use Rattle.switch_meaning.specs.Keys.{same_key}
 use Rattle.switch_meaning.specs.declared.entry.PhysEntry.{PhysEntry}
 use Rattle.switch_meaning.proofs.Batched.{key-flips, key-self}
-use Rattle.switch_meaning.proofs.Members.{IsIn, filter-in, here, in-filter, there}
+use Rattle.switch_meaning.proofs.Members.{IsIn, filter-in, here, in-all, in-filter, there}
 use Rattle.told_batches.specs.Told.{AreListed, has_key_in}
 use Rattle.told_batches.proofs.Rising.{pairs_kept}
 
@@ -50,21 +51,18 @@ in_at [] n d lt = absurd (omega arith)
 in_at (x ∷ xs) zero d lt = here
 in_at (x ∷ xs) (suc n) d lt = there (in_at xs n d (omega arith))
 
-all_in : {A : Type 0} (P : A → Type 0) (x : A) (xs : List A) → IsIn x xs → AllByRecursion P xs → P x
-all_in P x (x ∷ xs) here h = h.0
-all_in P x (y ∷ xs) (there i) h = all_in P x xs i h.1
-
 -- of rows that rise -------------------------------------------------------------------------------------------------
 
-low : (v w : Written) → IsLower v w → is_lt _ ≡ true
+low : (v w : Written) → IsLower v w → is_lt (key_cmp v.entry w.entry) ≡ true
 low v w e = ap is_lt e
 
 -- the row of a key is found
-find_row : (ws : List Written) (x : Written) → EachPair IsLower ws → IsIn x ws → find (has_key x.entry) ws ≡ Some x
-find_row (x ∷ ws) x rise here = ap (λ b. if b then Some x else find (has_key x.entry) ws) (key-self x.entry)
-find_row (y ∷ ws) x rise (there i) =
-    let apart : has_key x.entry y ≡ false = lower_apart x.entry y (low y x (all_in (IsLower y) x ws i rise.0)) in
-    ap (λ b. if b then Some y else find (has_key x.entry) ws) apart ∙ find_row ws x rise.1 i
+find_row : {x : Written} {ws : List Written} → EachPair IsLower ws → IsIn x ws → find (has_key x.entry) ws ≡ Some x
+find_row {x = x} rise (here {xs = ws}) =
+    ap (λ b. if b then Some x else find (has_key x.entry) ws) (key-self x.entry)
+find_row {x = x} rise (there {y = y} {xs = ws} i) =
+    let apart : has_key x.entry y ≡ false = lower_apart x.entry y (low y x (in-all (IsLower y) i rise.0)) in
+    ap (λ b. if b then Some y else find (has_key x.entry) ws) apart ∙ find_row rise.1 i
 
 -- no row in front of one has its key
 none_before : (ws : List Written) (n : ℕ) (d : Written) → n < length ws → EachPair IsLower ws
@@ -75,7 +73,7 @@ none_before (w ∷ ws) (suc n) d lt rise =
     let x = get_or ws n d in
     let apart : same_key x.entry w.entry ≡ false =
     key-flips x.entry w.entry
-    ∙ lower_apart x.entry w (low w x (all_in (IsLower w) x ws (in_at ws n d (omega arith)) rise.0)) in
+    ∙ lower_apart x.entry w (low w x (in-all (IsLower w) (in_at ws n d (omega arith)) rise.0)) in
     ap (λ b. b || list_any (same_key x.entry) (map entry_of (take n ws))) apart
     ∙ none_before ws n d (omega arith) rise.1
 
@@ -102,7 +100,7 @@ module _ (stood gone : List Written) (rise : EachPair IsLower stood) (listed : A
 
   module _ (n : ℕ) (one : Written) (lt : n < length gone) (is : one ≡ get_or gone n one) where
     long : length went ≡ length gone
-    long = sym (length-map entry_of went) ∙ (sym (ap length listed) ∙ length-map entry_of gone)
+    long = sym (length-map went entry_of) ∙ (sym (ap length listed) ∙ length-map gone entry_of)
 
     at_went : n < length went
     at_went = let same = long in omega (arith, same)
@@ -149,7 +147,7 @@ module _ (stood gone : List Written) (rise : EachPair IsLower stood) (listed : A
     row_found =
         let there = filter-in (has_key_in keys) row stood (in_at went n one at_went) in
         ap (λ (e : PhysEntry). find (has_key e) (filter stays_so_far stood)) same_entry
-        ∙ find_row (filter stays_so_far stood) row (pairs_kept IsLower stays_so_far stood rise)
+        ∙ find_row (pairs_kept IsLower stays_so_far stood rise)
         (in-filter stays_so_far there.0 stays_row)
 
     pub taken_more : (going staying fewer more : List Written) (found : Option Written) → EachPair IsLower staying
@@ -177,7 +175,7 @@ module _ (stood gone : List Written) (rise : EachPair IsLower stood) (listed : A
       → (going ≡ went) × (staying ≡ filter (λ w. not (has_key_in keys w)) stood)
   taken_last n going staying end h =
       let same : length went ≡ length gone =
-      sym (length-map entry_of went) ∙ (sym (ap length listed) ∙ length-map entry_of gone) in (
+      sym (length-map went entry_of) ∙ (sym (ap length listed) ∙ length-map gone entry_of) in (
         h.goes ∙ take_all n went (omega (arith, same)),
         h.stays
             ∙ ap (λ (ws : List Written). filter (λ w. not (has_key_in (map entry_of ws) w)) stood) (take_all n gone end),
