@@ -18,6 +18,7 @@ use Rattle.switch_meaning.proofs.Members.{IsIn, any-passes, filter-in, here, in-
 use Rattle.switch_meaning.proofs.Members.{in-permuted, one-alike, passes-any, there}
 use Rattle.machine_meaning.specs.Batches.{by_key, is_among, staying}
 use Rattle.machine_meaning.proofs.StandingAfter.{batch_is_difference}
+use Rattle.shared_rows.specs.Rows.{IsLower}
 use Rattle.told_batches.specs.Told.{AreListed, BatchesAreTold, IsBetween, IsToldOf, ToldChangesAreBetween}
 use Rattle.told_batches.specs.Told.{has_key_in}
 use Rattle.told_batches.proofs.Rising.{in_order, keys_apart, pairs_kept}

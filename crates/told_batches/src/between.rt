@@ -52,6 +52,22 @@ fn coming(
     number_all(alloc, next, found.adds)
 }
 
+/// What makes rows that stand what is wanted there, with cookies from the next one on.
+fn change_of_rows(
+    alloc: Global,
+    next: u64,
+    standing: &[Written],
+    wanted: &List<PhysEntry>,
+) -> Result<Change, Memory>
+    ensures batch { IfOk result (λ c. c.batch ≡ batch_between next standing.now wanted.now) }
+    ensures standing { IfOk result (λ c. c.standing ≡ standing_after next standing.now wanted.now) }
+    ensures next { IfOk result (λ c. c.next ≡ next_after next (coming_of next standing.now wanted.now)) }
+{
+    let parted = part(alloc, standing, wanted)?;
+    let come = coming(alloc, next, standing, wanted)?;
+    change_of(alloc, parted, come)
+}
+
 /// What makes what stands on a switch what is wanted there, with cookies from the next one on.
 pub fn change_between(
     alloc: Global,
@@ -64,7 +80,5 @@ pub fn change_between(
     ensures next { IfOk result (λ c. c.next ≡ next_after next (coming_of next standing.now wanted.now)) }
 {
     let rows = standing.listed()?;
-    let parted = part(alloc, rows.as_slice(), wanted)?;
-    let come = coming(alloc, next, rows.as_slice(), wanted)?;
-    change_of(alloc, parted, come)
+    change_of_rows(alloc, next, rows.as_slice(), wanted)
 }

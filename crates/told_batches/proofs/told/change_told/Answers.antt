@@ -83,6 +83,6 @@ returns-clause-next c wanted h =
     let told = c.args.told.now in
     let b = told_between next stood wanted told h in
     c.in_ok-come.ensures.next
-    ∙ ap (next_after next) (c.in_ok-come.ensures.entries
-    ∙ comes_is next stood wanted told b h.rises c.as_slice-2.result.now c.in_ok-entries.entries c.as_slice-2.ensures
+    ∙ ap (next_after next)
+    (comes_is next stood wanted told b h.rises c.as_slice-2.result.now c.in_ok-entries.entries c.as_slice-2.ensures
     c.in_ok-entries.ensures)

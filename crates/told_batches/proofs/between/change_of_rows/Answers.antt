@@ -2,7 +2,7 @@ use Rattle.std.proofs.Common.{◌≡◌, ◌∙◌, ◌++◌, ap}
 use Rattle.std.proofs.lemmas.Result.{IfOk-weaker}
 use Rattle.machine_meaning.specs.Batches.{batch_between, by_key, coming, next_after, standing_after}
 use Rattle.told_batches.specs.declared.change.Change.{Change}
-use Rattle.told_batches.proofs.between.change_between.Goals as goal
+use Rattle.told_batches.proofs.between.change_of_rows.Goals as goal
 
 pub returns : goal.returns
 returns c =
