@@ -157,7 +157,7 @@ impl<'a> SwitchDraft<'a> {
         ensures known { OnOk result (self.new ≡ with_known (barrier_reply_of xid self.old.now.known) self.old) }
     {
         let mut known = known_so_far(&mut self.known, &self.base.known)?;
-        let number = known.barrier_reply(xid);
+        let number = known.barrier_reply(xid)?;
         self.known = Some(known);
         Ok(number)
     }
@@ -168,7 +168,7 @@ impl<'a> SwitchDraft<'a> {
         ensures known { OnOk result (self.new ≡ with_known (flow_removed_of cookie self.old.now.known) self.old) }
     {
         let mut known = known_so_far(&mut self.known, &self.base.known)?;
-        let removal = known.flow_removed(cookie);
+        let removal = known.flow_removed(cookie)?;
         self.known = Some(known);
         Ok(removal)
     }

@@ -165,7 +165,6 @@ module _ {A : Type 0} (q : A → Bool) where
     at_first (r ∷ rs) (suc i) d lt t f =
         (f 0 (omega arith), at_first rs i d (omega arith) t (λ k less. f (suc k) (omega arith)))
 
-
     pub looked : (rs : List (Run A Z)) (i : ℕ) → position (λ r. list_any q (arc_value r)) rs ≡ Some i
         → IsAtFirst q rs i
     looked [] i e = cc

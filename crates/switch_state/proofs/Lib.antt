@@ -1,6 +1,6 @@
 pub mod Fitting
 pub mod Frames
 pub mod Left
-pub mod Oldest
+pub mod Cookies
 pub mod Partly
 pub mod Tables

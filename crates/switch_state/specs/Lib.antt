@@ -1,3 +1,4 @@
+pub mod InsideKnown
 pub mod Known
 pub mod Messages
 pub mod Sending

@@ -4,7 +4,7 @@ ghost use Rattle.switch_state.specs.Reports.{tells_down as tells_down_of};
 
 use crate::barrier::Barrier;
 use crate::messages::{flow_request, packet_out, port_request};
-use crate::queue::{copied, numbers, take_oldest};
+use crate::outstanding::{OfXid, has, insert, numbers, remove};
 use crate::removal::Removal;
 use crate::sending::{begin, send, write_batch};
 use cv_io::{Bytes, Duplicate, List, Memory};
@@ -12,11 +12,12 @@ use install_plan::Batch;
 use of10_msgs::number::PORT_DELETED;
 use of10_msgs::{Body, Command, FlowMod, PhyPort};
 use outbox::Letters;
+use shared_list::SharedList;
 use std::alloc::Global;
-use std::collections::{BTreeSet, VecDeque};
+use std::collections::BTreeSet;
 use std::marker::Model;
 
-/// What is known of a switch in its round: it is thrown away as the round ends.
+/// What is known of a switch in its round: it is thrown away as the round ends. Copies share what is outstanding.
 #[derive(Drop)]
 pub struct Known {
     /// Of the last message that took one.
@@ -26,16 +27,17 @@ pub struct Known {
     /// How many barriers were sent.
     begun: u64,
     /// Those that aren't answered, the oldest first.
-    barriers: VecDeque<Barrier>,
+    barriers: SharedList<Barrier>,
     /// Whether one was answered.
     answered: bool,
     /// The ports that are down.
     dark: BTreeSet<u16>,
-    /// The cookies whose entries were deleted, and whose removals weren't reported.
-    deleted: BTreeSet<u64>,
+    /// The cookies whose entries were deleted, and whose removals weren't reported; they rise.
+    deleted: SharedList<u64>,
 }
 
 impl Model for Known {
+    ghost use Rattle.switch_state.specs.InsideKnown.{Rise};
     ghost use Rattle.switch_state.specs.Known.{KnownOf};
 
     ghost Value = { KnownOf };
@@ -44,11 +46,13 @@ impl Model for Known {
       xid = a.xid;
       first = a.first;
       begun = a.begun;
-      barriers = a.barriers.items;
+      barriers = a.barriers;
       answered = a.answered;
       dark = a.dark.keys;
-      deleted = a.deleted.keys;
+      deleted = a.deleted;
     } };
+
+    ghost invariant = { λ a. Rise a.deleted };
 }
 
 impl Known {
@@ -69,10 +73,10 @@ impl Known {
             xid: 0,
             first,
             begun: 0,
-            barriers: VecDeque::new(alloc),
+            barriers: SharedList::new(alloc),
             answered: false,
             dark: BTreeSet::new(alloc),
-            deleted: BTreeSet::new(alloc),
+            deleted: SharedList::new(alloc),
         }
     }
 
@@ -173,7 +177,7 @@ impl Known {
         ensures memory { OnErr result (self.new ≡ self.old) }
     {
         let number = self.begun.saturating_add(1);
-        self.barriers.push_back(Barrier { number, xid })?;
+        self.barriers.push(Barrier { number, xid })?;
         self.begun = number;
         self.xid = xid;
         Ok(())
@@ -185,7 +189,7 @@ impl Known {
         ensures memory { OnErr result (self.new ≡ self.old) }
     {
         if f.command == Command::DeleteStrict.number() {
-            self.deleted.insert(f.cookie)?;
+            insert(&mut self.deleted, f.cookie)?;
         }
         self.xid = xid;
         Ok(())
@@ -193,13 +197,18 @@ impl Known {
 
     /// A switch answers a barrier: the oldest of that xid that waits. Its number in the round; None where there is
     /// none, so that the answer is ignored.
-    pub fn barrier_reply(&mut self, xid: u32) -> Option<u64>
-        ensures number { result ≡ answered_number xid self.old }
-        ensures answered { self.new ≡ barrier_reply_of xid self.old }
+    pub fn barrier_reply(&mut self, xid: u32) -> Result<Option<u64>, Memory>
+        ensures number { IfOk result (λ number. number ≡ answered_number xid self.old) }
+        ensures answered { OnOk result (self.new ≡ barrier_reply_of xid self.old) }
+        ensures memory { OnErr result (self.new ≡ self.old) }
     {
-        let barrier = take_oldest(&mut self.barriers, xid)?;
-        self.answered = true;
-        Some(barrier.number)
+        match self.barriers.take_first(&OfXid { xid })? {
+            Some(barrier) => {
+                self.answered = true;
+                Ok(Some(barrier.number))
+            }
+            None => Ok(None),
+        }
     }
 
     /// What a removal of this cookie is.
@@ -208,23 +217,24 @@ impl Known {
     {
         if !self.answered || cookie < self.first {
             Removal::Ignored
-        } else if self.deleted.contains(&cookie) {
+        } else if has(&self.deleted, cookie) {
             Removal::Taken
         } else {
             Removal::Strange
         }
     }
 
-    /// A switch reports the removal of a cookie. It takes no memory.
-    pub fn flow_removed(&mut self, cookie: u64) -> Removal
-        ensures removal { result ≡ removal_of self.old cookie }
-        ensures known { self.new ≡ flow_removed_of cookie self.old }
+    /// A switch reports the removal of a cookie.
+    pub fn flow_removed(&mut self, cookie: u64) -> Result<Removal, Memory>
+        ensures removal { IfOk result (λ removal. removal ≡ removal_of self.old cookie) }
+        ensures known { OnOk result (self.new ≡ flow_removed_of cookie self.old) }
+        ensures memory { OnErr result (self.new ≡ self.old) }
     {
         let removal = self.removal(cookie);
         if let Removal::Taken = removal {
-            self.deleted.remove(&cookie);
+            remove(&mut self.deleted, cookie)?;
         }
-        removal
+        Ok(removal)
     }
 
     /// A switch reports the state of a port.
@@ -254,10 +264,10 @@ impl Duplicate for Known {
             xid: self.xid,
             first: self.first,
             begun: self.begun,
-            barriers: copied(&self.barriers)?,
+            barriers: self.barriers.copy()?,
             answered: self.answered,
             dark: self.dark.clone()?,
-            deleted: self.deleted.clone()?,
+            deleted: self.deleted.copy()?,
         })
     }
 }

@@ -6,7 +6,7 @@ pub mod barrier;
 pub mod known;
 pub mod laws;
 pub mod messages;
-mod queue;
+mod outstanding;
 pub mod removal;
 mod sending;
 pub mod worked;

@@ -54,10 +54,10 @@ fn a_round_is_counted(rt: HostRuntime) -> Result<(), Fail> {
 #[test]
 fn a_removal_is_taken_once(rt: HostRuntime) -> Result<(), Fail> {
     let (mut known, _) = round(rt.alloc())?;
-    let early = known.flow_removed(1);
-    let number = known.barrier_reply(3);
-    let first = known.flow_removed(1);
-    let second = known.flow_removed(1);
+    let early = known.flow_removed(1)?;
+    let number = known.barrier_reply(3)?;
+    let first = known.flow_removed(1)?;
+    let second = known.flow_removed(1)?;
     assert_eq!(rt; early, Removal::Ignored);
     assert_eq!(rt; number, Some(1));
     assert_eq!(rt; first, Removal::Taken);
