@@ -13,7 +13,7 @@ use crate::switch_draft::SwitchDraft;
 use cv_io::{List, Memory};
 use std::alloc::Global;
 use virtual_topology::Topology;
-use waitings::Part;
+use waitings::{Part, Parts};
 
 /// The switch of a number is up.
 pub fn is_up(switches: &[SwitchDraft<'_>], n: u32) -> bool
@@ -30,11 +30,11 @@ pub fn unwritten_parts(
     alloc: Global,
     switches: &[SwitchDraft<'_>],
     numbers: &[u32],
-) -> Result<List<Part>, Memory>
+) -> Result<Parts, Memory>
     ensures { IfOk result (λ parts. parts
         ≡ map unwritten (filter (is_up_among (switches_in switches.now)) numbers.now)) }
 {
-    let mut parts = List::new(alloc);
+    let mut parts = Parts::new(alloc);
     for n in numbers {
         if is_up(switches, *n) {
             parts.push(Part {
@@ -47,7 +47,7 @@ pub fn unwritten_parts(
 }
 
 /// Appends barriers of the switch of a number.
-fn add_barriers(parts: &mut List<Part>, n: u32, numbers: &[u64]) -> Result<(), Memory>
+fn add_barriers(parts: &mut Parts, n: u32, numbers: &[u64]) -> Result<(), Memory>
     ensures { OnOk result (parts.new
         ≡ parts.old ++ map (λ number. record { switch = n; number = number }) numbers.now) }
 {
@@ -78,7 +78,7 @@ fn unanswered_numbers(
 /// Appends the barriers that the switch of a number hasn't answered.
 fn add_unanswered(
     alloc: Global,
-    parts: &mut List<Part>,
+    parts: &mut Parts,
     switches: &[SwitchDraft<'_>],
     n: u32,
 ) -> Result<(), Memory>
@@ -93,11 +93,11 @@ pub fn unanswered_parts(
     alloc: Global,
     switches: &[SwitchDraft<'_>],
     numbers: &[u32],
-) -> Result<List<Part>, Memory>
+) -> Result<Parts, Memory>
     ensures { IfOk result (λ parts. parts
         ≡ flat_map (unanswered_among (switches_in switches.now)) numbers.now) }
 {
-    let mut parts = List::new(alloc);
+    let mut parts = Parts::new(alloc);
     for n in numbers {
         add_unanswered(alloc, &mut parts, switches, *n)?;
     }

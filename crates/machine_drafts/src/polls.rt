@@ -6,15 +6,15 @@ ghost use Rattle.machine_meaning.specs.Polls.{begin_poll as begin_poll_of, begin
 use crate::looking::unwritten_parts;
 use crate::outcome::Outcome;
 use crate::setup::Setup;
-use cv_io::{List, Memory};
+use cv_io::Memory;
 use machine_meaning::Asked;
-use waitings::{Part, Purpose, Waiting};
+use waitings::{Parts, Purpose, Waiting};
 
 /// These parts are waited for, for a purpose.
 pub fn begin_waiting(
     draft: &mut Outcome<'_>,
     v: u32,
-    parts: List<Part>,
+    parts: Parts,
     purpose: Purpose,
 ) -> Result<(), Memory>
     ensures drafted { OnOk result (draft_in draft.new ≡ begin_waiting_of v parts purpose (draft_in draft.old)) }

@@ -4,10 +4,10 @@ use member_replies::Filter;
 use std::alloc::Global;
 use std::test::Fail;
 use virtual_topology::{Topology, TopologyPlan};
-use waitings::{Asker, Doubt, Part, Purpose, Waiting, Waitings, make};
+use waitings::{Asker, Doubt, Part, Parts, Purpose, Waiting, Waitings, make};
 
 fn waiting(alloc: Global, parts: &[(u32, u64)], purpose: Purpose) -> Result<Waiting, Memory> {
-    let mut all = List::new(alloc);
+    let mut all = Parts::new(alloc);
     for (switch, number) in parts {
         all.push(Part {
             switch: *switch,
@@ -63,7 +63,8 @@ fn idle(alloc: Global, waitings: &mut Waitings) -> Result<(), Fail> {
             packets: 0,
         }],
     )?;
-    let parts = List::from_slice(alloc, &[Part::unwritten(1)])?;
+    let mut parts = Parts::new(alloc);
+    parts.push(Part::unwritten(1))?;
     waitings.begin(Waiting {
         v: 0,
         parts,

@@ -1,3 +1,4 @@
+pub mod InsideSpans
 pub mod Lists
 pub mod Overlays
 pub mod Ports

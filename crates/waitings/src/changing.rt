@@ -1,87 +1,53 @@
 //! Changes of what is waited for.
-ghost use Rattle.std.specs.Prelude.{◌≡◌, ◌==◌, IfOk, filter, map, not};
+ghost use Rattle.std.specs.Prelude.{◌≡◌, IfOk, OnErr, OnOk, filter, map, not};
 ghost use Rattle.waitings.specs.Lists.{changed_first};
-ghost use Rattle.waitings.specs.Waitings.{is_asked_by, is_done, is_part, part_with_xid, unless_more, waits_for_flows};
-ghost use Rattle.waitings.specs.Waitings.{with_xid, without_barrier, without_part, without_parts_of};
-ghost use Rattle.waitings.specs.declared.state.Part.{Part as PartOf};
+ghost use Rattle.waitings.specs.Waitings.{is_asked_by, is_done, unless_more, waits_for_flows};
+ghost use Rattle.waitings.specs.Waitings.{with_xid, without_barrier, without_parts_of};
 ghost use Rattle.waitings.specs.declared.state.Waiting.{Waiting as WaitingOf};
 
-use crate::state::{Part, Waiting};
+use crate::parts::Parts;
+use crate::state::Waiting;
 use cv_io::{Duplicate, List, Memory};
 use std::alloc::Global;
 use std::mem;
 
-/// The parts without those of this switch and number.
-fn parts_without(parts: List<Part>, switch: u32, number: u64) -> List<Part>
-    ensures { result ≡ filter (λ (part : PartOf). not (is_part switch number part)) parts }
-{
-    let mut parts = parts.into_vec();
-    parts.retain(|part| !part.is(switch, number));
-    List::from_vec(parts)
-}
-
-/// The parts without those of this switch.
-fn parts_without_switch(parts: List<Part>, switch: u32) -> List<Part>
-    ensures { result ≡ filter (λ (part : PartOf). not (part.switch == switch)) parts }
-{
-    let mut parts = parts.into_vec();
-    parts.retain(|part| part.switch != switch);
-    List::from_vec(parts)
-}
-
-impl Part {
-    /// The answer of a switch that has no xid yet is that to the request of this xid.
-    fn give_xid(&mut self, switch: u32, xid: u32)
-        ensures { self.new ≡ part_with_xid switch xid self.old }
-    {
-        if self.is(switch, 0) {
-            self.number = u64::from(xid);
-        }
-    }
-}
-
-/// The same of all parts.
-fn give_parts_xid(parts: &mut [Part], switch: u32, xid: u32)
-    ensures { parts.new ≡ map (part_with_xid switch xid) parts.old }
-{
-    for part in parts.iter_mut() {
-        part.give_xid(switch, xid);
-    }
-}
-
 impl Waiting {
-    /// This part isn't waited for any more.
-    pub(crate) fn drop_part(&mut self, alloc: Global, switch: u32, number: u64)
-        ensures { self.new ≡ without_part switch number self.old }
+    /// What is still waited for after the last part of a switch, where more follows and where none does.
+    pub(crate) fn parts_unless(
+        &self,
+        alloc: Global,
+        more: bool,
+        switch: u32,
+        xid: u32,
+    ) -> Result<Parts, Memory>
+        ensures { IfOk result (λ parts. record self.now { parts = parts } ≡ unless_more more switch xid self.now) }
     {
-        let parts = mem::replace(&mut self.parts, List::new(alloc));
-        self.parts = parts_without(parts, switch, number);
+        if more {
+            return self.parts.copy();
+        }
+        self.parts.without(alloc, switch, u64::from(xid))
+    }
+
+    /// A copy for which a member's barrier doesn't wait for this one any more.
+    fn passed(&self, alloc: Global, switch: u32, number: u64) -> Result<Waiting, Memory>
+        ensures { IfOk result (λ w. w ≡ without_barrier switch number self.now) }
+    {
+        if !self.purpose.is_of_barriers() {
+            return self.copy();
+        }
+        Ok(Waiting {
+            v: self.v,
+            parts: self.parts.without(alloc, switch, number)?,
+            purpose: self.purpose.copy()?,
+        })
     }
 
     /// No part of this switch is waited for any more.
     fn drop_parts_of(&mut self, alloc: Global, switch: u32)
         ensures { self.new ≡ without_parts_of switch self.old }
     {
-        let parts = mem::replace(&mut self.parts, List::new(alloc));
-        self.parts = parts_without_switch(parts, switch);
-    }
-
-    /// A member's barrier doesn't wait for this one any more.
-    fn pass_barrier(&mut self, alloc: Global, switch: u32, number: u64)
-        ensures { self.new ≡ without_barrier switch number self.old }
-    {
-        if self.purpose.is_of_barriers() {
-            self.drop_part(alloc, switch, number);
-        }
-    }
-
-    /// After the last part of a switch its answer isn't waited for any more.
-    pub(crate) fn end_unless(&mut self, alloc: Global, more: bool, switch: u32, xid: u32)
-        ensures { self.new ≡ unless_more more switch xid self.old }
-    {
-        if !more {
-            self.drop_part(alloc, switch, u64::from(xid));
-        }
+        let parts = mem::replace(&mut self.parts, Parts::new(alloc));
+        self.parts = parts.without_switch(switch);
     }
 
     /// A poll of this virtual switch is asked of a switch.
@@ -89,7 +55,7 @@ impl Waiting {
         ensures { self.new ≡ with_xid v switch xid self.old }
     {
         if self.v == v {
-            give_parts_xid(self.parts.as_mut_slice(), switch, xid);
+            self.parts.give_xid(switch, xid);
         }
     }
 }
@@ -134,13 +100,20 @@ pub(crate) fn drop_all_parts_of(alloc: Global, list: &mut [Waiting], switch: u32
     }
 }
 
-/// No member's barrier waits for this one any more.
-pub(crate) fn pass_all(alloc: Global, list: &mut [Waiting], switch: u32, number: u64)
-    ensures { list.new ≡ map (without_barrier switch number) list.old }
+/// Copies for which no member's barrier waits for this one any more.
+pub(crate) fn passed_all(
+    alloc: Global,
+    list: &[Waiting],
+    switch: u32,
+    number: u64,
+) -> Result<List<Waiting>, Memory>
+    ensures { IfOk result (λ passed. passed ≡ map (without_barrier switch number) list.now) }
 {
-    for waiting in list.iter_mut() {
-        waiting.pass_barrier(alloc, switch, number);
+    let mut passed = List::with_capacity(alloc, list.len())?;
+    for waiting in list {
+        passed.push(waiting.passed(alloc, switch, number)?)?;
     }
+    Ok(passed)
 }
 
 /// Polls of this virtual switch are asked of a switch.
@@ -153,13 +126,22 @@ pub(crate) fn give_all_xid(list: &mut [Waiting], v: u32, switch: u32, xid: u32)
 }
 
 /// The oldest poll of entries that waits for this part takes it.
-pub(crate) fn take_flows(alloc: Global, list: &mut [Waiting], more: bool, switch: u32, xid: u32)
-    ensures { list.new ≡ changed_first (waits_for_flows switch xid) (unless_more more switch xid) list.old }
+pub(crate) fn take_flows(
+    alloc: Global,
+    list: &mut [Waiting],
+    more: bool,
+    switch: u32,
+    xid: u32,
+) -> Result<(), Memory>
+    ensures taken { OnOk result
+        (list.new ≡ changed_first (waits_for_flows switch xid) (unless_more more switch xid) list.old) }
+    ensures memory { OnErr result (list.new ≡ list.old) }
 {
     for waiting in list.iter_mut() {
         if waiting.waits_for_flows(switch, xid) {
-            waiting.end_unless(alloc, more, switch, xid);
-            return;
+            waiting.parts = waiting.parts_unless(alloc, more, switch, xid)?;
+            return Ok(());
         }
     }
+    Ok(())
 }

@@ -3,9 +3,11 @@
 
 mod changing;
 mod looking;
+pub mod parts;
 mod ports;
 mod state;
 mod waitings;
 
+pub use parts::Parts;
 pub use state::{Asker, Doubt, Part, Purpose, Waiting};
 pub use waitings::{Waitings, make};

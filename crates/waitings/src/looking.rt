@@ -4,7 +4,7 @@ ghost use Rattle.std.specs.List.{list_any};
 ghost use Rattle.waitings.specs.Waitings.{asker_of, decides_on as decides_on_of, has_part_of as has_part_of_of};
 ghost use Rattle.waitings.specs.Waitings.{is_asked_by as is_asked_by_of, is_done as is_done_of};
 ghost use Rattle.waitings.specs.Waitings.{is_of_barriers as is_of_barriers_of, is_of_flows as is_of_flows_of};
-ghost use Rattle.waitings.specs.Waitings.{is_of_ports as is_of_ports_of, is_on as is_on_of, is_part};
+ghost use Rattle.waitings.specs.Waitings.{is_of_ports as is_of_ports_of, is_on as is_on_of};
 ghost use Rattle.waitings.specs.Waitings.{unwritten as unwritten_of, waits_for as waits_for_of};
 ghost use Rattle.waitings.specs.Waitings.{waits_for_barrier as waits_for_barrier_of};
 ghost use Rattle.waitings.specs.Waitings.{waits_for_flows as waits_for_flows_of};
@@ -18,13 +18,6 @@ impl Part {
         ensures { result ≡ unwritten_of switch }
     {
         Part { switch, number: 0 }
-    }
-
-    /// The part is this switch's, of this number.
-    pub(crate) fn is(&self, switch: u32, number: u64) -> bool
-        ensures { result ≡ is_part switch number self.now }
-    {
-        self.switch == switch && self.number == number
     }
 }
 
@@ -123,16 +116,14 @@ impl Waiting {
     pub(crate) fn waits_for(&self, switch: u32, number: u64) -> bool
         ensures { result ≡ waits_for_of switch number self.now }
     {
-        let parts = self.parts.as_slice();
-        parts.iter().any(|part| part.is(switch, number))
+        self.parts.has(switch, number)
     }
 
     /// A part of this switch is waited for.
     pub(crate) fn has_part_of(&self, switch: u32) -> bool
         ensures { result ≡ has_part_of_of switch self.now }
     {
-        let parts = self.parts.as_slice();
-        parts.iter().any(|part| part.switch == switch)
+        self.parts.has_of(switch)
     }
 
     /// A poll of entries waits for this part.

@@ -85,8 +85,9 @@ impl Waiting {
         ensures taken { OnOk result (self.new ≡ taking_ports topology.now switch xid more stats.now self.old) }
         ensures memory { OnErr result (self.new ≡ self.old) }
     {
+        let parts = self.parts_unless(alloc, more, switch, xid)?;
         self.purpose.tell_ports(topology, switch, self.v, stats)?;
-        self.end_unless(alloc, more, switch, xid);
+        self.parts = parts;
         Ok(())
     }
 }

@@ -1,4 +1,5 @@
 //! What is waited for, as plain data.
+use crate::parts::Parts;
 use cv_io::{Duplicate, List, Memory};
 use member_replies::Filter;
 use of10_stats::PortStat;
@@ -59,11 +60,11 @@ pub enum Purpose {
 }
 
 /// A poll of the switches of a virtual switch, or a member's barrier.
-#[derive(PartialEq, Eq, Debug, Drop)]
+#[derive(Debug, Drop)]
 pub struct Waiting {
     pub v: u32,
     /// The answers that are waited for.
-    pub parts: List<Part>,
+    pub parts: Parts,
     pub purpose: Purpose,
 }
 
@@ -99,7 +100,7 @@ impl Duplicate for Waiting {
     fn copy(&self) -> Result<Waiting, Memory> {
         Ok(Waiting {
             v: self.v,
-            parts: self.parts.copied()?,
+            parts: self.parts.copy()?,
             purpose: self.purpose.copy()?,
         })
     }

@@ -9,7 +9,7 @@ ghost use Rattle.waitings.specs.Waitings.{with_xid, without_barrier, without_par
 ghost use Rattle.waitings.specs.declared.state.Waiting.{Waiting as WaitingOf};
 
 use crate::changing::{
-    done_among, drop_all_parts_of, give_all_xid, pass_all, take_flows, without_asked_by,
+    done_among, drop_all_parts_of, give_all_xid, passed_all, take_flows, without_asked_by,
     without_done,
 };
 use crate::looking::{
@@ -143,8 +143,7 @@ impl<'a> Waitings<'a> {
         if !any_waits_for_barrier(self.list(), switch, number) {
             return Ok(());
         }
-        let mut list = self.take_list()?;
-        pass_all(self.alloc, list.as_mut_slice(), switch, number);
+        let list = passed_all(self.alloc, self.list(), switch, number)?;
         self.put(list);
         Ok(())
     }
@@ -170,9 +169,9 @@ impl<'a> Waitings<'a> {
             return Ok(());
         }
         let mut list = self.take_list()?;
-        take_flows(self.alloc, list.as_mut_slice(), more, switch, xid);
+        let taken = take_flows(self.alloc, list.as_mut_slice(), more, switch, xid);
         self.put(list);
-        Ok(())
+        taken
     }
 
     /// The oldest poll of ports that waits for this part takes it.
