@@ -1,6 +1,6 @@
 -- Lists that a change leaves as they are.
-use Rattle.std.proofs.Common.{◌≡◌, ℕ, suc, Bool, true, false, List, [], ◌∷◌, length, refl, ap, sym, ◌∙◌, arith}
-use Rattle.std.specs.Prelude.{◌==◌, ◌||◌, ◌&&◌, filter, map, not, if◌then◌else◌}
+use Rattle.std.proofs.Common.{◌≡◌, ℕ, suc, Bool, true, false, List, [], ◌∷◌, Result, Ok, Err, length, refl, ap, sym, ◌∙◌, arith}
+use Rattle.std.specs.Prelude.{◌==◌, ◌||◌, ◌&&◌, IfOk, filter, map, not, if◌then◌else◌}
 use Rattle.std.specs.List.{list_any}
 use Rattle.std.proofs.lemmas.Bool.{eqb-true, or_parts}
 use Rattle.waitings.specs.Waitings.{has_part_of, is_done, is_of_barriers, is_part, waits_for, waits_for_barrier}
@@ -72,3 +72,10 @@ pub all_without_barrier : (n number : ℕ) (ws : List Waiting) → list_any (wai
     → map (without_barrier n number) ws ≡ ws
 all_without_barrier n number ws h =
     map_none (waits_for_barrier n number) (without_barrier n number) (without_barrier-none n number) ws h
+
+-- what waits for the parts that are left
+pub parts_left : {E : Type 0} (r : Result (List Part) E) (n number : ℕ) (w : Waiting)
+    → IfOk r (λ parts. parts ≡ filter (λ (part : Part). not (is_part n number part)) w.parts)
+    → IfOk r (λ parts. record w { parts = parts } ≡ without_part n number w)
+parts_left (Ok parts) n number w h = ap (λ (ps : List Part). record w { parts = ps }) h
+parts_left (Err e) n number w h = tt

@@ -25,7 +25,23 @@ impl Waiting {
         if more {
             return self.parts.copy();
         }
-        self.parts.without(alloc, switch, u64::from(xid))
+        let number = u64::from(xid);
+        self.parts.without(alloc, switch, number)
+    }
+
+    /// After the last part of a switch its answer isn't waited for any more.
+    fn end_unless(
+        &mut self,
+        alloc: Global,
+        more: bool,
+        switch: u32,
+        xid: u32,
+    ) -> Result<(), Memory>
+        ensures ended { OnOk result (self.new ≡ unless_more more switch xid self.old) }
+        ensures memory { OnErr result (self.new ≡ self.old) }
+    {
+        self.parts = self.parts_unless(alloc, more, switch, xid)?;
+        Ok(())
     }
 
     /// A copy for which a member's barrier doesn't wait for this one any more.
@@ -139,8 +155,7 @@ pub(crate) fn take_flows(
 {
     for waiting in list.iter_mut() {
         if waiting.waits_for_flows(switch, xid) {
-            waiting.parts = waiting.parts_unless(alloc, more, switch, xid)?;
-            return Ok(());
+            return waiting.end_unless(alloc, more, switch, xid);
         }
     }
     Ok(())
