@@ -1,5 +1,5 @@
 -- Leaves that are forgotten, entry by entry.
-use Rattle.std.proofs.Common.{◌≡◌, ◌∙◌, ℕ, zero, suc, ◌+◌, ◌<◌, Bool, true, false, List, [], ◌∷◌, ◌++◌, drop, map}
+use Rattle.std.proofs.Common.{◌≡◌, ◌∙◌, ℕ, zero, suc, ◌+◌, ◌<◌, Bool, true, false, List, [], ◌∷◌, ◌++◌, map}
 use Rattle.std.proofs.Common.{Option, Some, None, refl, sym, ap, ap₂, arith}
 use Rattle.std.specs.Prelude.{◌==◌, ◌&&◌, ◌||◌, filter, flat_map, fold, if◌then◌else◌, not, slice_get}
 use Rattle.std.specs.List.{AllByRecursion, enumerate_from, list_any}
@@ -9,14 +9,15 @@ use Rattle.std.proofs.lemmas.List.Sums.{fold-append}
 use Rattle.cv_io.specs.Leaves.{same_leaf}
 use Rattle.cv_io.specs.declared.leaf.Leaf.{Leaf}
 use Rattle.member_state.specs.States.{MemberStateOf}
+use Rattle.member_table.specs.Changes.{is_among}
 use Rattle.member_table.specs.Entries.{has_serial}
 use Rattle.member_table.specs.declared.entry.Entry.{Entry}
 use Rattle.stats_map.specs.Counting.{CountsOf, forgot}
 use Rattle.machine_meaning.specs.Counted.{dropped_between, is_one_of, leaf_at, leaf_of, leaves_among, leaves_in}
-use Rattle.machine_drafts.specs.InsideForgetting.{forget_entry, forget_if_there, forget_member, forget_owed, is_owed}
+use Rattle.machine_drafts.specs.InsideForgetting.{forget_entry, forget_member, forget_owed, is_owed}
 use Rattle.machine_drafts.specs.InsideForgetting.{matters}
 use Rattle.machine_meaning.specs.Drafts.{Draft}
-use Rattle.machine_drafts.specs.MemberDrafts.{KeepsEntries, MemberDraftOf}
+use Rattle.machine_drafts.specs.MemberDrafts.{MemberDraftOf}
 use Rattle.machine_drafts.specs.Outcomes.{member_bases, members_in}
 use Rattle.machine_meaning.specs.Settling.{entries_at}
 use Rattle.machine_meaning.specs.States.{MemberOf, State}
@@ -36,7 +37,7 @@ same_number a b = by (a == b) refl
 eq_self : (a : ℕ) → (a == a) ≡ true
 eq_self a = grind (arith, nat_tests)
 
-below_not : (a b : ℕ) → a < b → (a == b) ≡ false
+pub below_not : (a b : ℕ) → a < b → (a == b) ≡ false
 below_not a b h = grind (arith, nat_tests)
 
 above_not : (a b : ℕ) → b < a → (a == b) ≡ false
@@ -205,15 +206,6 @@ module _ {A : Type 0} (t : A → A → Bool) (self : (x : A) → t x x ≡ true)
   among_itself (x ∷ xs) =
       (ap (λ (b : Bool). b || list_any (t x) xs) (self x), among_more x xs xs (among_itself xs))
 
-kept_all : (all : List Entry) (owed : List Owed) (n : ℕ) (c : CountsOf) (es : List Entry)
-    → AllByRecursion (λ (e : Entry). list_any (has_serial e.serial) all ≡ true) es
-    → fold (forget_entry all owed n) c es ≡ c
-kept_all all owed n c [] h = refl
-kept_all all owed n c (e ∷ es) h =
-    ap (λ (b : Bool). fold (forget_entry all owed n)
-    (if b || list_any (is_owed n e.serial) owed then c else forgot (leaf_of n e) c) es) h.0
-    ∙ kept_all all owed n c es h.1
-
 owed_all : (ms : List MemberOf) (all : List Owed) (c : CountsOf) (os : List Owed)
     → AllByRecursion (λ (o : Owed). list_any (is_owed o.member o.entry.serial) all ≡ true) os
     → fold (forget_owed ms all) c os ≡ c
@@ -231,14 +223,13 @@ none_told ms os c =
     (among_itself (λ (o p : Owed). is_owed o.member o.entry.serial p)
     (λ (o : Owed). ap₂ (λ (a b : Bool). a && b) (eq_self o.member) (eq_self o.entry.serial)) os)
 
--- nothing of a member's table went
-pub none_lost : (owed : List Owed) (c : CountsOf) (n : ℕ) (x : MemberDraftOf) → KeepsEntries x
-    → c ≡ forget_member owed c (n, x)
-none_lost owed c n x kept = sym (kept_all x.now.kept.table.entries owed n c x.base.kept.state.table.entries kept)
-
 -- each of some entries is one of them
 pub each_there : (es : List Entry) → AllByRecursion (λ (e : Entry). list_any (has_serial e.serial) es ≡ true) es
 each_there es = among_itself (λ (e d : Entry). has_serial e.serial d) (λ (e : Entry). eq_self e.serial) es
+
+-- and each of some numbers
+pub each_among : (ns : List ℕ) → AllByRecursion (λ (n : ℕ). is_among ns n ≡ true) ns
+each_among ns = among_itself (λ (n k : ℕ). k == n) eq_self ns
 
 -- drafts ------------------------------------------------------------------------------------------------------------
 
@@ -258,19 +249,3 @@ module _ (d : Draft) (before : State) (xs : List MemberDraftOf) (old : List Owed
       forgotten_with c
       (sym (ap (λ (os : List Owed). fold (forget_owed (members_in xs) os) c old) same
       ∙ none_told (members_in xs) old c))
-
--- one more entry of a table is gone by
-forget_step : (es : List Entry) (owed : List Owed) (n : ℕ) (before : List Entry) (i : ℕ) (s t : CountsOf)
-    → t ≡ forget_if_there es owed n s (slice_get before i)
-    → fold (forget_entry es owed n) t (drop (suc i) before) ≡ fold (forget_entry es owed n) s (drop i before)
-forget_step es owed n [] zero s t e = e
-forget_step es owed n [] (suc i) s t e = e
-forget_step es owed n (x ∷ xs) zero s t e = ap (λ (c : CountsOf). fold (forget_entry es owed n) c xs) e
-forget_step es owed n (x ∷ xs) (suc i) s t e = forget_step es owed n xs i s t e
-
-pub forget_next : (es : List Entry) (owed : List Owed) (n : ℕ) (before : List Entry) (i : ℕ) (s t : CountsOf)
-    → t ≡ forget_if_there es owed n s (slice_get before i)
-    → fold (forget_entry es owed n) t (drop (i + 1) before) ≡ fold (forget_entry es owed n) s (drop i before)
-forget_next es owed n before i s t e =
-    let more : suc i ≡ i + 1 = omega arith in
-    ap (λ (k : ℕ). fold (forget_entry es owed n) t (drop k before)) (sym more) ∙ forget_step es owed n before i s t e

@@ -37,3 +37,5 @@ pub mod WasJudged
 pub mod FaultKinds
 pub mod Serials
 pub mod Remaining
+pub mod Absorbed
+pub mod LostEntries

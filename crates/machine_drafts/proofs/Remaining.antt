@@ -1,18 +1,19 @@
 -- Which entries a member's table has once what is planned is made.
-use Rattle.std.proofs.Common.{◌≡◌, ◌∙◌, ◌&&◌, ◌||◌, ◌++◌, ℕ, Bool, true, false, not, List, [], ◌∷◌, ap, ap₂, refl, sym}
-use Rattle.std.specs.Prelude.{◌==◌, Option, None, Some, filter, if◌then◌else◌, map, option_to_list}
+use Rattle.std.proofs.Common.{◌≡◌, ◌∙◌, ◌&&◌, ◌||◌, ◌++◌, ◌<◌, ℕ, Bool, true, false, not, List, [], ◌∷◌, ap, ap₂, refl, subst, sym}
+use Rattle.std.specs.Prelude.{◌==◌, IfSome, Option, None, Some, filter, if◌then◌else◌, map, option_to_list}
 use Rattle.std.specs.List.{AllByRecursion, list_any}
 use Rattle.std.proofs.lemmas.Bool.Decides.{Decides-eqb}
 use Rattle.std.proofs.lemmas.List.Folds.{list_any-append}
-use Rattle.member_table.specs.Changes.{changed_by, is_among}
+use Rattle.member_table.specs.Changes.{CanAdd, changed_by, is_among}
 use Rattle.member_table.specs.Entries.{has_serial}
 use Rattle.member_table.specs.Sound.{IsSound}
 use Rattle.member_table.specs.declared.entry.Entry.{Entry}
 use Rattle.member_state.specs.Plans.{after_planned, touched_among}
-use Rattle.member_state.specs.States.{MemberStateOf}
+use Rattle.member_state.specs.States.{HeldState, MemberStateOf, held_table}
 use Rattle.member_state.specs.declared.planned.Planned.{Planned}
 use Rattle.leaf_changes.specs.Plans.{IsPlanOf}
 use Rattle.leaf_changes.proofs.Changing.{HasWithin, changed_serial, comes_within, is_left}
+use Rattle.machine_drafts.proofs.Forgotten.{below_not}
 use Rattle.machine_drafts.specs.MemberDrafts.{there_then}
 
 abbrev any_of : ℕ → List Entry → Bool
@@ -91,20 +92,33 @@ module _ (x : MemberStateOf) (p : Planned) (now : ℕ) (sound : IsSound x.table)
       ∙ ap (λ b. b || any_of n (option_to_list added))
       (same_any (changed_by mods) (changed_serial mods) n (filter (is_left removed) es) ∙ any_left removed n es)))
 
-  open_then : (s r a d : Bool) → s ≡ true → r ≡ false → d ≡ false → (((s && not r) || a) && not d) ≡ true
-  open_then true false a false e f g = refl
-  open_then true false a true e f g = cc
-  open_then true true a d e f g = cc
-  open_then false r a d e f g = cc
+  left_then : (s r a d : Bool) → s ≡ true → a ≡ false → (((s && not r) || a) && not d) ≡ not (r || d)
+  left_then true true false d e f = refl
+  left_then true false false d e f = refl
+  left_then s r true d e f = absurd (cc)
+  left_then false r false d e f = absurd (cc)
 
-  pub keeps_all : p.change.removed ≡ [] → p.dropped ≡ []
+  -- the entry that comes has none of the numbers that there were: so exactly those go that are named
+  pub loses_exactly : ((n : ℕ) → n < x.table.next → any_of n (option_to_list p.change.added) ≡ false)
       → (ds : List Entry) → AllByRecursion (λ (e : Entry). any_of e.serial es ≡ true) ds
-      → AllByRecursion (λ (e : Entry). any_of e.serial (after_planned x p now).table.entries ≡ true) ds
-  keeps_all none never [] h = tt
-  keeps_all none never (e ∷ ds) h = (
+      → AllByRecursion (λ (e : Entry). (0 < e.serial) × (e.serial < x.table.next)) ds
+      → AllByRecursion
+      (λ (e : Entry). any_of e.serial (after_planned x p now).table.entries
+      ≡ not (is_among (p.change.removed ++ p.dropped) e.serial))
+      ds
+  loses_exactly other [] had given = tt
+  loses_exactly other (e ∷ ds) had given = (
     has_after e.serial
-        ∙ open_then (any_of e.serial es) (is_among p.change.removed e.serial)
-        (any_of e.serial (option_to_list p.change.added)) (is_among p.dropped e.serial) h.0
-        (ap (λ ns. is_among ns e.serial) none) (ap (λ ns. is_among ns e.serial) never),
-    keeps_all none never ds h.1,
+        ∙ (left_then (any_of e.serial es) (is_among p.change.removed e.serial)
+        (any_of e.serial (option_to_list p.change.added)) (is_among p.dropped e.serial) had.0
+        (other e.serial given.0.1)
+        ∙ ap not (sym (list_any-append (λ (k : ℕ). k == e.serial) p.change.removed p.dropped))),
+    loses_exactly other ds had.1 given.1,
   )
+
+pub other_number : (h : HeldState) (removed : List ℕ) (added : Option Entry)
+    → IfSome added (CanAdd (held_table h) removed) → (n : ℕ) → n < h.state.table.next
+    → any_of n (option_to_list added) ≡ false
+other_number h removed None can n below = refl
+other_number h removed (Some e) can n below =
+    ap (λ (b : Bool). b || false) (below_not n e.serial (subst (λ m. n < m) (sym can.serial) below))

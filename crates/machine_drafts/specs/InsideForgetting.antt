@@ -1,10 +1,10 @@
 -- Which leaves are forgotten, entry by entry.
-use Rattle.std.specs.Prelude.{ℕ, Bool, ◌==◌, ◌&&◌, ◌||◌, List, Option, None, Some, fold, if◌then◌else◌, slice_get}
+use Rattle.std.specs.Prelude.{ℕ, Bool, ◌==◌, ◌&&◌, ◌||◌, List, fold, if◌then◌else◌, not, slice_get}
 use Rattle.std.specs.List.{list_any}
 use Rattle.member_table.specs.Entries.{has_serial}
 use Rattle.member_table.specs.declared.entry.Entry.{Entry}
 use Rattle.stats_map.specs.Counting.{CountsOf, forgot}
-use Rattle.machine_meaning.specs.Counted.{leaf_of}
+use Rattle.machine_meaning.specs.Counted.{leaf_at, leaf_of}
 use Rattle.machine_drafts.specs.MemberDrafts.{MemberDraftOf}
 use Rattle.machine_meaning.specs.Settling.{entries_at}
 use Rattle.machine_meaning.specs.States.{MemberOf}
@@ -22,10 +22,11 @@ matters es owed n serial = list_any (has_serial serial) es || list_any (is_owed 
 abbrev pub forget_entry : List Entry → List Owed → ℕ → CountsOf → Entry → CountsOf
 forget_entry es owed n counts e = if matters es owed n e.serial then counts else forgot (leaf_of n e) counts
 
--- if there is one
-abbrev pub forget_if_there : List Entry → List Owed → ℕ → CountsOf → Option Entry → CountsOf
-forget_if_there es owed n counts None = counts
-forget_if_there es owed n counts (Some e) = forget_entry es owed n counts e
+-- the leaf of an entry that went, if a table had the entry of the number, is forgotten, unless its FLOW_REMOVED is owed
+abbrev pub forget_serial : List Entry → List Owed → ℕ → CountsOf → ℕ → CountsOf
+forget_serial had owed n counts serial =
+    if list_any (has_serial serial) had && not (list_any (is_owed n serial) owed) then forgot (leaf_at n serial) counts
+    else counts
 
 -- the leaves of the entries of a member of a number, as they stood
 abbrev pub forget_member : List Owed → CountsOf → ℕ × MemberDraftOf → CountsOf

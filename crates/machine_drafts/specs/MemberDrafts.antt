@@ -1,5 +1,5 @@
 -- What an event makes of a member, beside the member as it stands.
-use Rattle.std.specs.Prelude.{◌≡◌, ℕ, Bool, true, not, ◌&&◌, ◌||◌, Option, Some, None, List, IsPermutation, option_to_list}
+use Rattle.std.specs.Prelude.{◌≡◌, ℕ, Bool, not, ◌&&◌, ◌||◌, Option, Some, None, List, IsPermutation, option_to_list}
 use Rattle.std.specs.List.{AllByRecursion, list_any}
 use Rattle.grants.specs.declared.grant.Grant.{Grant}
 use Rattle.incr_compile.specs.Compiling.{rules_after}
@@ -59,10 +59,11 @@ with_now f d = record d { now = f d.now }
 abbrev pub IsUnplanned : MemberDraftOf → Type 0
 IsUnplanned d = d.now.kept ≡ d.base.kept.state
 
--- each entry that its table had is there
-abbrev pub KeepsEntries : MemberDraftOf → Type 0
-KeepsEntries d =
-    AllByRecursion (λ (e : Entry). list_any (has_serial e.serial) d.now.kept.table.entries ≡ true)
+-- of the entries that its table had, exactly those of these numbers are there no more
+abbrev pub LosesExactly : List ℕ → MemberDraftOf → Type 0
+LosesExactly lost d =
+    AllByRecursion
+    (λ (e : Entry). list_any (has_serial e.serial) d.now.kept.table.entries ≡ not (is_among lost e.serial))
     d.base.kept.state.table.entries
 
 -- whether the entry of a number is there once this is planned, where it was there or not before

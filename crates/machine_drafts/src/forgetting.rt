@@ -3,20 +3,20 @@ ghost use Rattle.std.specs.Prelude.{◌≡◌, ◌<◌, ◌^◌, OnOk, fold, len
 ghost use Rattle.std.specs.List.{enumerate_from, list_any};
 ghost use Rattle.member_table.specs.Entries.{has_serial};
 ghost use Rattle.stats_map.specs.Told.{told};
-ghost use Rattle.machine_drafts.specs.InsideForgetting.{forget_entry, forget_if_there};
 ghost use Rattle.machine_drafts.specs.InsideForgetting.{forget_member as forget_member_of};
 ghost use Rattle.machine_drafts.specs.InsideForgetting.{forget_owed as forget_owed_of, is_owed as is_owed_of};
+ghost use Rattle.machine_drafts.specs.InsideForgetting.{forget_serial as forget_serial_of};
 ghost use Rattle.machine_drafts.specs.Outcomes.{IsBefore, bases, draft_in, members_in};
 ghost use Rattle.machine_meaning.specs.Settling.{entries_at};
 ghost use Rattle.machine_meaning.specs.States.{State};
 ghost use Rattle.machine_meaning.specs.Telling.{forget as forget_of};
 
 use crate::counting::leaf_of;
-use crate::member_draft::MemberDraft;
+use crate::member_draft::{MemberDraft, is_there};
 use crate::outcome::Outcome;
 use cv_io::Memory;
 use machine_meaning::Owed;
-use member_table::Entry;
+use member_table::Table;
 use stats_map::Pending;
 
 /// The FLOW_REMOVED of the entry of a member is owed.
@@ -27,63 +27,44 @@ fn is_owed(owed: &[Owed], n: u32, serial: u64) -> bool
         .any(|one| n == one.member && serial == one.entry.serial)
 }
 
-/// The leaf of an entry is forgotten, unless it still matters.
-fn forget_unless(
+/// The leaf of an entry that went, if a table had the entry of the number, is forgotten, unless its FLOW_REMOVED is owed.
+fn forget_serial(
     counts: &mut Pending<'_>,
-    member: &MemberDraft<'_>,
+    table: &Table,
     owed: &[Owed],
     n: u32,
-    entry: &Entry,
+    serial: u64,
 ) -> Result<(), Memory>
     ensures base { counts.new.base ≡ counts.old.base }
     ensures told { OnOk result (told counts.new.now
-        ≡ forget_entry member.now.now.kept.table.entries owed.now n (told counts.old.now) entry.now) }
+        ≡ forget_serial_of table.now.table.entries owed.now n (told counts.old.now) serial) }
 {
-    if member.has(entry.serial) {
-        return Ok(());
-    }
-    if is_owed(owed, n, entry.serial) {
-        return Ok(());
-    }
-    counts.forget(&leaf_of(n, entry.serial)?)
-}
-
-/// The leaf of the entry at a place of a member's table as it stood is forgotten, unless it still matters.
-fn forget_at(
-    counts: &mut Pending<'_>,
-    member: &MemberDraft<'_>,
-    owed: &[Owed],
-    n: u32,
-    place: usize,
-) -> Result<(), Memory>
-    ensures base { counts.new.base ≡ counts.old.base }
-    ensures told { OnOk result (told counts.new.now ≡ forget_if_there member.now.now.kept.table.entries owed.now n
-        (told counts.old.now) (slice_get member.now.base.kept.state.table.entries place)) }
-{
-    match member.table_before().at(place) {
-        Some(entry) => forget_unless(counts, member, owed, n, entry),
-        None => Ok(()),
-    }
-}
-
-/// The leaves of the entries of a member's table as it stood are forgotten, unless they still matter.
-fn forget_gone(
-    counts: &mut Pending<'_>,
-    member: &MemberDraft<'_>,
-    owed: &[Owed],
-    n: u32,
-) -> Result<(), Memory>
-    ensures base { counts.new.base ≡ counts.old.base }
-    ensures told { OnOk result (told counts.new.now ≡ fold (forget_entry member.now.now.kept.table.entries owed.now n)
-        (told counts.old.now) member.now.base.kept.state.table.entries) }
-{
-    for place in 0..member.table_before().len() {
-        forget_at(counts, member, owed, n, place)?;
+    if is_there(table, serial) && !is_owed(owed, n, serial) {
+        return counts.forget(&leaf_of(n, serial)?);
     }
     Ok(())
 }
 
-/// The leaves of the entries of a member as they stood are forgotten, unless they still matter.
+/// And those of several.
+fn forget_serials(
+    counts: &mut Pending<'_>,
+    table: &Table,
+    owed: &[Owed],
+    n: u32,
+    serials: &[u64],
+) -> Result<(), Memory>
+    ensures base { counts.new.base ≡ counts.old.base }
+    ensures told { OnOk result (told counts.new.now
+        ≡ fold (forget_serial_of table.now.table.entries owed.now n) (told counts.old.now) serials.now) }
+{
+    for serial in serials {
+        forget_serial(counts, table, owed, n, *serial)?;
+    }
+    Ok(())
+}
+
+/// The leaves of the entries of a member as they stood are forgotten, unless they still matter. So do those of entries
+/// that are there, so only those that went are looked at.
 fn forget_member(
     counts: &mut Pending<'_>,
     member: &MemberDraft<'_>,
@@ -93,10 +74,10 @@ fn forget_member(
     ensures base { counts.new.base ≡ counts.old.base }
     ensures told { OnOk result (told counts.new.now ≡ forget_member_of owed.now (told counts.old.now) (n, member.now)) }
 {
-    if member.loses_none() {
-        return Ok(());
-    }
-    forget_gone(counts, member, owed, n)
+    let table = member.table_before();
+    let lost = member.lost();
+    forget_serials(counts, table, owed, n, lost.removed)?;
+    forget_serials(counts, table, owed, n, lost.dropped)
 }
 
 /// And those of all members.

@@ -1,5 +1,5 @@
 //! What an event makes of a member, beside the member as it stands.
-ghost use Rattle.std.specs.Prelude.{◌≡◌, ℕ, IfOk, IfSome, IsTrue, None, OnOk, filter, option_to_list};
+ghost use Rattle.std.specs.Prelude.{◌≡◌, ◌++◌, ℕ, IfOk, IfSome, IsTrue, None, OnOk, filter, option_to_list};
 ghost use Rattle.std.specs.List.{AllByRecursion, list_any};
 ghost use Rattle.member_table.specs.Entries.{has_serial};
 ghost use Rattle.member_state.specs.Changes.{expired, is_told, touched, without};
@@ -8,7 +8,7 @@ ghost use Rattle.of10_actions.specs.Ports.{AreRising};
 ghost use Rattle.of10_match.specs.Normal.{IsNormal};
 ghost use Rattle.machine_drafts.specs.Serials.{HasSerial};
 ghost use Rattle.machine_drafts.specs.MemberDrafts.{IsLeafDelta, IsPlannedOf, IsReadyPlan, IsUnplanned, kept_after};
-ghost use Rattle.machine_drafts.specs.MemberDrafts.{KeepsEntries, kept_state, there_then};
+ghost use Rattle.machine_drafts.specs.MemberDrafts.{LosesExactly, kept_state, there_then};
 ghost use Rattle.machine_drafts.specs.MemberDrafts.{standing_member, with_now};
 ghost use Rattle.leaf_changes.specs.Plans.{IsPlanOf};
 ghost use Rattle.machine_drafts.specs.Moving.{IsMemberPart, member_moved, member_put};
@@ -56,6 +56,15 @@ pub struct MemberPart {
     pub letters: Letters,
 }
 
+/// The serial numbers of entries that go with what is planned. Others may be among them.
+#[derive(Clone, Copy)]
+pub struct Gone<'a> {
+    /// Of those that go first.
+    pub removed: &'a [u64],
+    /// And of those that go afterwards.
+    pub dropped: &'a [u64],
+}
+
 /// A member as it stands, and what an event makes of it.
 #[derive(Drop)]
 pub struct MemberDraft<'a> {
@@ -96,7 +105,7 @@ impl<'a> Kept<'a> {
 
 /// One of the entries of a table has this serial number.
 #[tactic(auto, using(member_table::proofs::Lists::any_find))]
-fn is_there(table: &Table, serial: u64) -> bool
+pub fn is_there(table: &Table, serial: u64) -> bool
     ensures { result ≡ list_any (has_serial serial) table.now.table.entries }
 {
     table.get(serial).is_some()
@@ -290,15 +299,21 @@ impl<'a> MemberDraft<'a> {
         }
     }
 
-    /// Each entry that its table had is there as the event leaves it so far: none goes with what is planned.
-    pub fn loses_none(&self) -> bool
-        ensures { IsTrue result → KeepsEntries self.now }
+    /// The numbers of the entries that its table had, and that are gone as the event leaves it so far.
+    pub fn lost(&self) -> Gone<'_>
+        ensures { LosesExactly (result.removed.now ++ result.dropped.now) self.now }
     {
         // The proof learns what is true of every table.
         let _table = self.base.kept.table();
         match &self.planned {
-            Some(planned) => planned.change.removed.is_empty() && planned.dropped.is_empty(),
-            None => true,
+            Some(planned) => Gone {
+                removed: planned.change.removed.as_slice(),
+                dropped: planned.dropped.as_slice(),
+            },
+            None => Gone {
+                removed: &[],
+                dropped: &[],
+            },
         }
     }
 
