@@ -29,77 +29,47 @@ counts_same : (c d : CountsOf) → c.live ≡ d.live → ((q : Leaf) → c.total
 counts_same c d live totals forgotten =
     λ i. record { live = live i; totals = fun_ext totals i; forgotten = fun_ext forgotten i }
 
-total_either : (a b f m : Bool) (k : Numbers)
-    → (if (b || ((a || f) && m)) && not m then nought else if (a || f) && not m then nought else k)
-    ≡ (if (a || ((b || f) && m)) && not m then nought else if (b || f) && not m then nought else k)
-total_either true true true true k = refl
-total_either true true true false k = refl
-total_either true true false true k = refl
-total_either true true false false k = refl
-total_either true false true true k = refl
-total_either true false true false k = refl
-total_either true false false true k = refl
-total_either true false false false k = refl
-total_either false true true true k = refl
-total_either false true true false k = refl
-total_either false true false true k = refl
-total_either false true false false k = refl
-total_either false false true true k = refl
-total_either false false true false k = refl
-total_either false false false true k = refl
-total_either false false false false k = refl
+-- whether a leaf is to be forgotten, and its totals, once it is named to be, or was
+abbrev mark : Bool → Bool → Bool → Bool
+mark named was live = (named || was) && live
 
-mark_either : (a b f m : Bool) → ((b || ((a || f) && m)) && m) ≡ ((a || ((b || f) && m)) && m)
-mark_either true true true true = refl
-mark_either true true true false = refl
-mark_either true true false true = refl
-mark_either true true false false = refl
-mark_either true false true true = refl
-mark_either true false true false = refl
-mark_either true false false true = refl
-mark_either true false false false = refl
-mark_either false true true true = refl
-mark_either false true true false = refl
-mark_either false true false true = refl
-mark_either false true false false = refl
-mark_either false false true true = refl
-mark_either false false true false = refl
-mark_either false false false true = refl
-mark_either false false false false = refl
+abbrev left : Bool → Bool → Bool → Numbers → Numbers
+left named was live k = if (named || was) && not live then nought else k
 
-total_twice : (a f m : Bool) (k : Numbers)
-    → (if (a || ((a || f) && m)) && not m then nought else if (a || f) && not m then nought else k)
-    ≡ (if (a || f) && not m then nought else k)
-total_twice true true true k = refl
-total_twice true true false k = refl
-total_twice true false true k = refl
-total_twice true false false k = refl
-total_twice false true true k = refl
-total_twice false true false k = refl
-total_twice false false true k = refl
-total_twice false false false k = refl
+abbrev AreSame : Bool → Bool → Numbers → Numbers → Type 0
+AreSame a b k l = (k ≡ l) × (a ≡ b)
 
-mark_twice : (a f m : Bool) → ((a || ((a || f) && m)) && m) ≡ ((a || f) && m)
-mark_twice true true true = refl
-mark_twice true true false = refl
-mark_twice true false true = refl
-mark_twice true false false = refl
-mark_twice false true true = refl
-mark_twice false true false = refl
-mark_twice false false true = refl
-mark_twice false false false = refl
+either_mark : (a b f m : Bool) (k : Numbers)
+    → AreSame (mark b (mark a f m) m) (mark a (mark b f m) m)
+    (left b (mark a f m) m (left a f m k)) (left a (mark b f m) m (left b f m k))
+either_mark true true f m k = (refl, refl)
+either_mark true false true true k = (refl, refl)
+either_mark true false true false k = (refl, refl)
+either_mark true false false true k = (refl, refl)
+either_mark true false false false k = (refl, refl)
+either_mark false true true true k = (refl, refl)
+either_mark false true true false k = (refl, refl)
+either_mark false true false true k = (refl, refl)
+either_mark false true false false k = (refl, refl)
+either_mark false false f m k = (refl, refl)
+
+mark_twice : (a f m : Bool) (k : Numbers)
+    → AreSame (mark a (mark a f m) m) (mark a f m) (left a (mark a f m) m (left a f m k)) (left a f m k)
+mark_twice true f true k = (refl, refl)
+mark_twice true f false k = (refl, refl)
+mark_twice false true true k = (refl, refl)
+mark_twice false true false k = (refl, refl)
+mark_twice false false m k = (refl, refl)
 
 forgot_either : (a b : Leaf) (c : CountsOf) → forgot b (forgot a c) ≡ forgot a (forgot b c)
 forgot_either a b c =
-    counts_same (forgot b (forgot a c)) (forgot a (forgot b c)) refl
-    (λ q. total_either (same_leaf a q) (same_leaf b q) (c.forgotten q) (is_named c q) (c.totals q))
-    (λ q. mark_either (same_leaf a q) (same_leaf b q) (c.forgotten q) (is_named c q))
+    let same = λ (q : Leaf). either_mark (same_leaf a q) (same_leaf b q) (c.forgotten q) (is_named c q) (c.totals q) in
+    counts_same (forgot b (forgot a c)) (forgot a (forgot b c)) refl (λ q. (same q).0) (λ q. (same q).1)
 
 forgot_twice : (a : Leaf) (c : CountsOf) → forgot a (forgot a c) ≡ forgot a c
 forgot_twice a c =
-    counts_same (forgot a (forgot a c)) (forgot a c) refl
-    (λ q. total_twice (same_leaf a q) (c.forgotten q) (is_named c q) (c.totals q))
-    (λ q. mark_twice (same_leaf a q) (c.forgotten q) (is_named c q))
+    let same = λ (q : Leaf). mark_twice (same_leaf a q) (c.forgotten q) (is_named c q) (c.totals q) in
+    counts_same (forgot a (forgot a c)) (forgot a c) refl (λ q. (same q).0) (λ q. (same q).1)
 
 -- the leaf of a number of a member is forgotten, where a test of the number says so ----------------------------------
 

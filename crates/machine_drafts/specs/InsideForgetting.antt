@@ -22,7 +22,7 @@ matters es owed n serial = list_any (has_serial serial) es || list_any (is_owed 
 abbrev pub forget_entry : List Entry → List Owed → ℕ → CountsOf → Entry → CountsOf
 forget_entry es owed n counts e = if matters es owed n e.serial then counts else forgot (leaf_of n e) counts
 
--- the leaf of an entry that went, if a table had the entry of the number, is forgotten, unless its FLOW_REMOVED is owed
+-- the leaf of an entry that went is forgotten, if the table had it, unless its FLOW_REMOVED is owed
 abbrev pub forget_serial : List Entry → List Owed → ℕ → CountsOf → ℕ → CountsOf
 forget_serial had owed n counts serial =
     if list_any (has_serial serial) had && not (list_any (is_owed n serial) owed) then forgot (leaf_at n serial) counts

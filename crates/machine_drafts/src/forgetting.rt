@@ -27,7 +27,7 @@ fn is_owed(owed: &[Owed], n: u32, serial: u64) -> bool
         .any(|one| n == one.member && serial == one.entry.serial)
 }
 
-/// The leaf of an entry that went, if a table had the entry of the number, is forgotten, unless its FLOW_REMOVED is owed.
+/// The leaf of an entry that went is forgotten, if the table had it, unless its FLOW_REMOVED is owed.
 fn forget_serial(
     counts: &mut Pending<'_>,
     table: &Table,
@@ -39,10 +39,10 @@ fn forget_serial(
     ensures told { OnOk result (told counts.new.now
         ≡ forget_serial_of table.now.table.entries owed.now n (told counts.old.now) serial) }
 {
-    if is_there(table, serial) && !is_owed(owed, n, serial) {
-        return counts.forget(&leaf_of(n, serial)?);
+    if !is_there(table, serial) || is_owed(owed, n, serial) {
+        return Ok(());
     }
-    Ok(())
+    counts.forget(&leaf_of(n, serial)?)
 }
 
 /// And those of several.
@@ -63,8 +63,8 @@ fn forget_serials(
     Ok(())
 }
 
-/// The leaves of the entries of a member as they stood are forgotten, unless they still matter. So do those of entries
-/// that are there, so only those that went are looked at.
+/// The leaves of the entries of a member as they stood are forgotten, unless they still matter. An entry that is there
+/// does, so only those that went are looked at.
 fn forget_member(
     counts: &mut Pending<'_>,
     member: &MemberDraft<'_>,

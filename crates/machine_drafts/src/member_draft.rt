@@ -56,7 +56,7 @@ pub struct MemberPart {
     pub letters: Letters,
 }
 
-/// The serial numbers of entries that go with what is planned. Others may be among them.
+/// The serial numbers of the entries that go with what is planned.
 #[derive(Clone, Copy)]
 pub struct Gone<'a> {
     /// Of those that go first.
@@ -105,7 +105,7 @@ impl<'a> Kept<'a> {
 
 /// One of the entries of a table has this serial number.
 #[tactic(auto, using(member_table::proofs::Lists::any_find))]
-pub fn is_there(table: &Table, serial: u64) -> bool
+pub(crate) fn is_there(table: &Table, serial: u64) -> bool
     ensures { result ≡ list_any (has_serial serial) table.now.table.entries }
 {
     table.get(serial).is_some()
@@ -299,7 +299,7 @@ impl<'a> MemberDraft<'a> {
         }
     }
 
-    /// The numbers of the entries that its table had, and that are gone as the event leaves it so far.
+    /// What goes with what is planned: of the entries that its table had, exactly those of these numbers are gone.
     pub fn lost(&self) -> Gone<'_>
         ensures { LosesExactly (result.removed.now ++ result.dropped.now) self.now }
     {

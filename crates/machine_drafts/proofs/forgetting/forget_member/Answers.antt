@@ -1,4 +1,4 @@
-use Rattle.std.proofs.Common.{List, ap}
+use Rattle.std.proofs.Common.{ap}
 use Rattle.std.proofs.lemmas.Result.{on_ok_weaker}
 use Rattle.stats_map.specs.Told.{told}
 use Rattle.member_table.specs.Tables.{TableOf}
