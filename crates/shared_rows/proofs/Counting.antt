@@ -10,17 +10,9 @@ use Rattle.policy_meaning.proofs.Lists.{all-append, all-map}
 use Rattle.switch_meaning.specs.Batches.{key_cmp}
 use Rattle.switch_meaning.specs.declared.entry.PhysEntry.{PhysEntry}
 use Rattle.shared_rows.specs.Rows.{IsLower, NotAfter, Rise, has_key, is_past}
-use Rattle.shared_rows.specs.Runs.{at_key}
+use Rattle.shared_rows.specs.InsideRuns.{at_key}
 use Rattle.shared_rows.proofs.InOrder.{behind_apart, front_low, front_not_past}
-use Rattle.shared_rows.proofs.Lists.{find_none, keep_all}
-
-pub not_true : (b : Bool) → not b ≡ true → b ≡ false
-not_true true t = cc
-not_true false t = refl
-
-pub not_false : (b : Bool) → not b ≡ false → b ≡ true
-not_false true t = refl
-not_false false t = cc
+use Rattle.shared_rows.proofs.Lists.{find_none, keep_all, not_true}
 
 module _ (e : PhysEntry) where
   pub rows_parted : (ws : List Written) → Rise ws
@@ -55,7 +47,11 @@ module _ (e : PhysEntry) where
 
   -- of rows of which none but the one at a place has the key
   module _ (ws : List Written) (k : ℕ) (before : AllByRecursion (λ w. has_key e w ≡ false) (take k ws))
-      (behind : AllByRecursion (λ w. has_key e w ≡ false) (drop (suc k) ws)) where
+      (behind : AllByRecursion (λ w. has_key e w ≡ false) (drop (k + 1) ws)) where
+    others : AllByRecursion (λ w. has_key e w ≡ false) (drop (suc k) ws)
+    others = let next : k + 1 ≡ suc k = omega arith in
+        subst (λ n. AllByRecursion (λ w. has_key e w ≡ false) (drop n ws)) next behind
+
     found_at : (us : List Written) (n : ℕ) (w : Written) → slice_get us n ≡ Some w → has_key e w ≡ true
         → AllByRecursion (λ v. has_key e v ≡ false) (take n us) → find (has_key e) us ≡ Some w
     found_at [] n w at t low = cc
@@ -89,7 +85,7 @@ module _ (e : PhysEntry) where
 
     pub left : (w : Written) → slice_get ws k ≡ Some w → at_key e (slice_get ws k) ≡ true
         → remove ws k ≡ filter (λ v. not (has_key e v)) ws
-    left w at t = sym (left_at ws k w at (has_it w at t) before behind)
+    left w at t = sym (left_at ws k w at (has_it w at t) before others)
 
     -- where that one hasn't either, or isn't there
     unlike : (us : List Written) (n : ℕ) → at_key e (slice_get us n) ≡ false
@@ -100,10 +96,10 @@ module _ (e : PhysEntry) where
     unlike (u ∷ us) (suc n) lacks low high = (low.0, unlike us n lacks low.1 high)
 
     pub none : at_key e (slice_get ws k) ≡ false → None ≡ find (has_key e) ws
-    none lacks = sym (find_none (has_key e) ws (unlike ws k lacks before behind))
+    none lacks = sym (find_none (has_key e) ws (unlike ws k lacks before others))
 
     pub all_left : at_key e (slice_get ws k) ≡ false → ws ≡ filter (λ v. not (has_key e v)) ws
-    all_left lacks = sym (keep_all (has_key e) ws (unlike ws k lacks before behind))
+    all_left lacks = sym (keep_all (has_key e) ws (unlike ws k lacks before others))
 
   pub is_there : (ws : List Written) (k : ℕ) → at_key e (slice_get ws k) ≡ true → k < length ws
   is_there [] k t = cc

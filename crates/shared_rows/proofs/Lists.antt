@@ -7,6 +7,14 @@ use Rattle.std.specs.List.Sorted.{IsPartitionedBy}
 use Rattle.std.proofs.lemmas.Bool.{cases_lt}
 use Rattle.policy_meaning.specs.LeafFact.{EachPair}
 
+pub not_true : (b : Bool) → not b ≡ true → b ≡ false
+not_true true t = cc
+not_true false t = refl
+
+pub not_false : (b : Bool) → not b ≡ false → b ≡ true
+not_false true t = refl
+not_false false t = cc
+
 module _ {A : Type 0} where
   pub taken : (n : ℕ) (xs ys : List A) → n ≤ length xs → take n (take n xs ++ ys) ≡ take n xs
   taken zero xs ys le = refl

@@ -13,17 +13,10 @@ use Rattle.policy_meaning.specs.LeafFact.{EachPair}
 use Rattle.policy_meaning.proofs.Lists.{all-append, all-map}
 use Rattle.switch_meaning.specs.declared.entry.PhysEntry.{PhysEntry}
 use Rattle.shared_rows.specs.Rows.{IsLower, NotAfter, Rise, has_key, is_past}
-use Rattle.shared_rows.specs.Runs.{HaveRows, begins_past, first_past, joined}
+use Rattle.shared_rows.specs.InsideRuns.{HaveRows, begins_past, first_past, joined}
 use Rattle.shared_rows.proofs.InOrder.{behind_past, front_apart, front_not_past}
-use Rattle.shared_rows.proofs.Lists.{all_back, all_front, dropped, pairs_across, pairs_back, pairs_front, taken}
-
-not_true : (b : Bool) → not b ≡ true → b ≡ false
-not_true true t = cc
-not_true false t = refl
-
-not_false : (b : Bool) → not b ≡ false → b ≡ true
-not_false true t = refl
-not_false false t = cc
+use Rattle.shared_rows.proofs.Lists.{all_back, all_front, dropped, not_false, not_true, pairs_across, pairs_back, pairs_front}
+use Rattle.shared_rows.proofs.Lists.{taken}
 
 less_one : (n : ℕ) → suc n - 1 ≡ n
 less_one n = omega arith

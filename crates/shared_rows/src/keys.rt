@@ -18,7 +18,7 @@ pub fn cmp_keys(first: &PhysEntry, second: &PhysEntry) -> Ordering
 }
 
 /// Whether two entries have one key.
-pub fn is_same_key(first: &PhysEntry, second: &PhysEntry) -> bool
+pub(crate) fn is_same_key(first: &PhysEntry, second: &PhysEntry) -> bool
     ensures { result ≡ same_key first.now second.now }
 {
     first.priority == second.priority && first.m == second.m

@@ -5,6 +5,7 @@
 mod keys;
 pub mod rows;
 mod runs;
+pub mod worked;
 
-pub use keys::{cmp_keys, is_same_key};
+pub use keys::cmp_keys;
 pub use rows::{Rows, Taken};

@@ -21,7 +21,7 @@ pub struct Rows {
 impl Model for Rows {
     ghost use Rattle.std.specs.Prelude.{List};
     ghost use Rattle.install_plan.specs.declared.written.Written.{Written};
-    ghost use Rattle.shared_rows.specs.Runs.{HaveRows, joined};
+    ghost use Rattle.shared_rows.specs.InsideRuns.{HaveRows, joined};
 
     ghost Value = { List Written };
 

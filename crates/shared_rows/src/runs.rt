@@ -6,7 +6,7 @@ ghost use Rattle.std.specs.List.{AllByRecursion};
 ghost use Rattle.install_plan.specs.declared.written.Written.{Written as WrittenOf};
 ghost use Rattle.policy_meaning.specs.LeafFact.{EachPair};
 ghost use Rattle.shared_rows.specs.Rows.{IsLower, Rise, has_key, is_past};
-ghost use Rattle.shared_rows.specs.Runs.{HaveRows, at_key, begins_past, joined};
+ghost use Rattle.shared_rows.specs.InsideRuns.{HaveRows, at_key, begins_past, joined};
 
 use crate::keys::{cmp_keys, is_same_key};
 use cv_io::{Duplicate, List, Memory};

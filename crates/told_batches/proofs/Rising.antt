@@ -2,10 +2,8 @@
 use Rattle.std.proofs.Common.{◌≡◌, ◌∙◌, Bool, true, false, List, [], ◌∷◌, ap, eq-eqb, filter, map, refl, subst, sym}
 use Rattle.std.specs.Prelude.{◌==◌, if◌then◌else◌}
 use Rattle.std.specs.List.{AllByRecursion, IsDistinct}
-use Rattle.std.specs.Ordering.{is_le, nat_cmp, ordering_then}
+use Rattle.std.specs.Ordering.{is_le, is_lt, nat_cmp}
 use Rattle.std.specs.declared.cmp.Ordering.TheVariants.{Equal, Less}
-use Rattle.std.proofs.lemmas.Bool.Decides.{Decides-eqb}
-use Rattle.std.proofs.lemmas.Cmp.{tied_itself}
 use Rattle.agreement.specs.FreeOrder.{HaveMatches}
 use Rattle.install_plan.specs.Tables.{entry_of}
 use Rattle.install_plan.specs.declared.written.Written.{Written}
@@ -15,7 +13,7 @@ use Rattle.of10_match.specs.Same.{same_match}
 use Rattle.of10_match.proofs.ByteOrder.{by_bytes-equal}
 use Rattle.of10_match.proofs.Same.{match_decides}
 use Rattle.policy_meaning.specs.LeafFact.{EachPair}
-use Rattle.policy_meaning.proofs.Booleans.{join_and, split_and}
+use Rattle.policy_meaning.proofs.Booleans.{join_and}
 use Rattle.policy_meaning.proofs.Listings.{both-equal, number-is}
 use Rattle.policy_meaning.proofs.Lists.{all-map, all-mapped, all-zip}
 use Rattle.policy_meaning.proofs.Rising.{differs-permuted, from-sorted}
@@ -26,6 +24,7 @@ use Rattle.switch_meaning.specs.declared.entry.PhysEntry.{PhysEntry}
 use Rattle.switch_meaning.proofs.ByKey.{key_total, sorted-by-key}
 use Rattle.machine_meaning.specs.Batches.{by_key, put_by_key}
 use Rattle.shared_rows.specs.Rows.{IsLower}
+use Rattle.shared_rows.proofs.InOrder.{lower_apart}
 
 -- rows that rise are by key, and so are some of them -----------------------------------------------------------------
 
@@ -58,25 +57,12 @@ in_order (w ∷ ws) h = ap (put_by_key w) (in_order ws h.1) ∙ put_first w ws h
 
 -- rows that rise have one key each -----------------------------------------------------------------------------------
 
-apart : (d e : PhysEntry) → key_cmp d e ≡ Less → same_key d e ≡ false
-apart d e low = by (same_key d e) refl
-  where
-    by : (b : Bool) → same_key d e ≡ b → same_key d e ≡ false
-    by false t = t
-    by true t =
-        let both = split_and (same_match d.m e.m) (d.priority == e.priority) t in
-        let m : d.m ≡ e.m = (match_decides d.m e.m).0 both.0 in
-        let p : d.priority ≡ e.priority = (Decides-eqb d.priority e.priority).0 both.1 in
-        let same : key_cmp d d ≡ key_cmp d e = (λ i. ordering_then (nat_cmp d.priority (p i)) (by_bytes d.m (m i))) in
-        let equal : key_cmp d d ≡ Equal = tied_itself key_total d in
-        cc
-
 pub keys_apart : (ws : List Written) → EachPair IsLower ws → HasOneAKey (map entry_of ws)
 unfolding IsDistinct
 keys_apart [] p = tt
 keys_apart (w ∷ ws) p = (
   all-mapped (IsLower w) (λ (e : PhysEntry). same_key w.entry e ≡ false) entry_of ws
-      (λ x low. apart w.entry x.entry low) p.0,
+      (λ x low. lower_apart x.entry w (ap is_lt low)) p.0,
   keys_apart ws p.1,
 )
 

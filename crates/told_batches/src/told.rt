@@ -52,8 +52,9 @@ fn put_all(rows: Rows, come: &[Written]) -> Result<Rows, Memory>
     Ok(all)
 }
 
-/// The change that is told of a switch, from what stands there, with cookies from the next one on. Rows that neither
-/// go nor come are not looked at.
+/// The change that is told of a switch, from what stands there, with cookies from the next one on. Of the rows that
+/// neither go nor come those in the same runs as one that does are copied; those in other runs are not, and of such a
+/// run no more than the first row is looked at.
 pub fn change_told(
     alloc: Global,
     next: u64,

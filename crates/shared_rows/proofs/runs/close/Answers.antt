@@ -2,7 +2,7 @@ use Rattle.std.proofs.Common.{◌≡◌, ◌∙◌, ◌++◌, [], ap, drop, leng
 use Rattle.std.specs.Prelude.{◌==◌}
 use Rattle.std.proofs.lemmas.Bool.Decides.{Decides-eqb}
 use Rattle.std.proofs.lemmas.List.{nil_from_length}
-use Rattle.shared_rows.specs.Runs.{joined}
+use Rattle.shared_rows.specs.InsideRuns.{joined}
 use Rattle.shared_rows.proofs.Placing.{closed, closed_twice, joined_split}
 use Rattle.shared_rows.proofs.runs.close.Goals as goal
 

@@ -5,8 +5,8 @@ use Rattle.install_plan.proofs.Ancestries.{each-drop, each-take}
 use Rattle.install_plan.specs.declared.written.Written.{Written}
 use Rattle.policy_meaning.proofs.Lists.{all-map}
 use Rattle.shared_rows.specs.Rows.{is_past}
-use Rattle.shared_rows.proofs.Counting.{rows_parted, not_false, not_true}
-use Rattle.shared_rows.proofs.Lists.{parted_pairs}
+use Rattle.shared_rows.proofs.Counting.{rows_parted}
+use Rattle.shared_rows.proofs.Lists.{not_false, not_true, parted_pairs}
 use Rattle.shared_rows.proofs.runs.count_up_to.Goals as goal
 
 pub returns-clause-before : goal.returns-clause-before

@@ -3,7 +3,7 @@ use Rattle.std.specs.List.{AllByRecursion}
 use Rattle.install_plan.specs.declared.written.Written.{Written}
 use Rattle.policy_meaning.specs.LeafFact.{EachPair}
 use Rattle.shared_rows.specs.Rows.{IsLower, Rise, has_key, is_past}
-use Rattle.shared_rows.specs.Runs.{HaveRows, joined}
+use Rattle.shared_rows.specs.InsideRuns.{HaveRows, joined}
 use Rattle.shared_rows.proofs.Placing.{back_stays, front_stays, have_others, opened, within}
 use Rattle.shared_rows.proofs.runs.open.Goals as goal
 

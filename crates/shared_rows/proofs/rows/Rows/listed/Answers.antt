@@ -1,5 +1,5 @@
 use Rattle.std.proofs.Common.{◌≡◌, ◌∙◌, ◌++◌, sym, take}
-use Rattle.shared_rows.specs.Runs.{joined}
+use Rattle.shared_rows.specs.InsideRuns.{joined}
 use Rattle.shared_rows.proofs.Placing.{joined_more}
 use Rattle.shared_rows.proofs.rows.Rows.listed.Goals as goal
 

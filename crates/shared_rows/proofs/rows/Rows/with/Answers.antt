@@ -2,7 +2,7 @@ use Rattle.std.proofs.Common.{◌≡◌, ◌∙◌, ◌++◌, [], ◌∷◌, tru
 use Rattle.std.specs.List.{AllByRecursion}
 use Rattle.install_plan.specs.declared.written.Written.{Written}
 use Rattle.shared_rows.specs.Rows.{NotAfter, Rise, by_key, is_past}
-use Rattle.shared_rows.specs.Runs.{joined}
+use Rattle.shared_rows.specs.InsideRuns.{joined}
 use Rattle.shared_rows.proofs.Lists.{pairs_back, pairs_front}
 use Rattle.shared_rows.proofs.Put.{put_among}
 use Rattle.shared_rows.proofs.rows.Rows.with.Goals as goal

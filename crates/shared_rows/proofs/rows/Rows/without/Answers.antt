@@ -4,7 +4,7 @@ use Rattle.std.specs.List.{AllByRecursion}
 use Rattle.install_plan.specs.declared.written.Written.{Written}
 use Rattle.policy_meaning.specs.LeafFact.{EachPair}
 use Rattle.shared_rows.specs.Rows.{IsLower, has_key, is_past}
-use Rattle.shared_rows.specs.Runs.{joined}
+use Rattle.shared_rows.specs.InsideRuns.{joined}
 use Rattle.shared_rows.proofs.Lists.{pairs_back, pairs_front}
 use Rattle.shared_rows.proofs.Put.{found_among, left_among, rows_rise}
 use Rattle.shared_rows.proofs.rows.Rows.without.Goals as goal
