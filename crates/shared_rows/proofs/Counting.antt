@@ -1,12 +1,12 @@
 -- Rows that rise, and a key.
-use Rattle.std.proofs.Common.{◌≡◌, ◌∙◌, ◌+◌, ◌<◌, ◌≤◌, ℕ, zero, suc, Bool, true, false, List, [], ◌∷◌, ◌++◌, Option, Some, None}
-use Rattle.std.proofs.Common.{arith, ap, drop, filter, length, not, refl, subst, sym, take}
+use Rattle.std.proofs.Common.{◌≡◌, ◌∙◌, ◌+◌, ◌<◌, ℕ, zero, suc, true, false, List, [], ◌∷◌, Some, None}
+use Rattle.std.proofs.Common.{arith, ap, drop, filter, length, not, subst, sym, take}
 use Rattle.std.specs.Prelude.{find, if◌then◌else◌, slice_get}
 use Rattle.std.specs.List.{AllByRecursion, AllWithin, remove}
 use Rattle.std.specs.Ordering.{is_lt}
 use Rattle.install_plan.specs.declared.written.Written.{Written}
 use Rattle.policy_meaning.specs.LeafFact.{EachPair}
-use Rattle.policy_meaning.proofs.Lists.{all-append, all-map}
+use Rattle.policy_meaning.proofs.Lists.{all-map}
 use Rattle.switch_meaning.specs.Batches.{key_cmp}
 use Rattle.switch_meaning.specs.declared.entry.PhysEntry.{PhysEntry}
 use Rattle.shared_rows.specs.Rows.{IsLower, NotAfter, Rise, has_key, is_past}

@@ -1,6 +1,6 @@
 -- A row is put behind those that it doesn't come before.
-use Rattle.std.proofs.Common.{◌≡◌, ◌∙◌, ℕ, Bool, true, false, List, [], ◌∷◌, ◌++◌, Option, Some}
-use Rattle.std.proofs.Common.{ap, append-nil, append_assoc, drop, filter, not, refl, subst, sym, take, take-append-drop}
+use Rattle.std.proofs.Common.{◌≡◌, ◌∙◌, ℕ, Bool, true, false, List, [], ◌∷◌, ◌++◌, Some}
+use Rattle.std.proofs.Common.{ap, append_assoc, drop, filter, not, refl, subst, sym, take, take-append-drop}
 use Rattle.std.specs.Prelude.{find, if◌then◌else◌}
 use Rattle.std.specs.List.{AllByRecursion}
 use Rattle.std.specs.Ordering.{is_gt, is_le, is_lt, ordering_reverse}
@@ -15,7 +15,7 @@ use Rattle.switch_meaning.specs.declared.entry.PhysEntry.{PhysEntry}
 use Rattle.switch_meaning.proofs.ByKey.{key_total}
 use Rattle.shared_rows.specs.Rows.{IsLower, NotAfter, Rise, by_key, has_key, is_past, put_by_key}
 use Rattle.shared_rows.proofs.InOrder.{lower_rises, not_past, past_apart}
-use Rattle.shared_rows.proofs.Lists.{all_front, find_front, find_none, keep_all, pairs_back}
+use Rattle.shared_rows.proofs.Lists.{all_front, find_front, find_none, keep_all}
 
 -- putting -----------------------------------------------------------------------------------------------------------
 

@@ -1,5 +1,5 @@
 -- The order of rows, computed on an example.
-use Rattle.std.specs.Prelude.{◌≡◌, ℕ, Some, List, [], ◌∷◌}
+use Rattle.std.specs.Prelude.{◌≡◌, ℕ, Some, [], ◌∷◌}
 use Rattle.install_plan.specs.declared.written.Written.{Written}
 use Rattle.of10_match.specs.Fields.{MatchOf}
 use Rattle.of10_match.specs.Matching.{everything}

@@ -2,7 +2,7 @@ use Rattle.std.proofs.Common.{◌≡◌, ◌+◌, suc, true, false, arith, drop,
 use Rattle.std.specs.List.{AllByRecursion}
 use Rattle.std.specs.Ordering.{is_lt}
 use Rattle.std.proofs.lemmas.List.Sorted.{IsPartitionPoint-from_clause}
-use Rattle.install_plan.proofs.Ancestries.{each-drop, each-take}
+use Rattle.install_plan.proofs.Ancestries.{each-take}
 use Rattle.install_plan.specs.declared.written.Written.{Written}
 use Rattle.policy_meaning.proofs.Lists.{all-map}
 use Rattle.switch_meaning.specs.Batches.{key_cmp}

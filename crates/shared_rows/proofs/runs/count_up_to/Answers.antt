@@ -1,5 +1,4 @@
 use Rattle.std.proofs.Common.{◌≡◌, not, true, false, rules}
-use Rattle.std.specs.List.{AllByRecursion}
 use Rattle.std.proofs.lemmas.List.Sorted.{IsPartitionPoint-from_clause}
 use Rattle.install_plan.proofs.Ancestries.{each-drop, each-take}
 use Rattle.install_plan.specs.declared.written.Written.{Written}

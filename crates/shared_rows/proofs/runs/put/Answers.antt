@@ -1,4 +1,4 @@
-use Rattle.std.proofs.Common.{◌∙◌, ◌<◌, length, subst, sym}
+use Rattle.std.proofs.Common.{◌<◌, length, subst, sym}
 use Rattle.shared_rows.proofs.Placing.{back_is, front_was, have_more, one_more}
 use Rattle.shared_rows.proofs.runs.put.Goals as goal
 

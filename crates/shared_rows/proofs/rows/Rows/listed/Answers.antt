@@ -1,5 +1,4 @@
-use Rattle.std.proofs.Common.{◌≡◌, ◌∙◌, ◌++◌, sym, take}
-use Rattle.shared_rows.specs.InsideRuns.{joined}
+use Rattle.std.proofs.Common.{◌∙◌, ◌++◌, sym}
 use Rattle.shared_rows.proofs.Placing.{joined_more}
 use Rattle.shared_rows.proofs.rows.Rows.listed.Goals as goal
 

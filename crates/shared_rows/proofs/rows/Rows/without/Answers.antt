@@ -1,9 +1,8 @@
-use Rattle.std.proofs.Common.{true, false, ◌≡◌, ◌∙◌, ◌++◌, ap, drop, filter, not, subst, sym, take}
+use Rattle.std.proofs.Common.{◌∙◌, ◌++◌, ap, drop, filter, not, subst, sym, take}
 use Rattle.std.specs.Prelude.{find}
-use Rattle.std.specs.List.{AllByRecursion}
 use Rattle.install_plan.specs.declared.written.Written.{Written}
 use Rattle.policy_meaning.specs.LeafFact.{EachPair}
-use Rattle.shared_rows.specs.Rows.{IsLower, has_key, is_past}
+use Rattle.shared_rows.specs.Rows.{IsLower, has_key}
 use Rattle.shared_rows.specs.InsideRuns.{joined}
 use Rattle.shared_rows.proofs.Lists.{pairs_back, pairs_front}
 use Rattle.shared_rows.proofs.Put.{found_among, left_among, rows_rise}
