@@ -22,6 +22,7 @@ use Rattle.shared_rows.specs.Rows.{IsLower}
 use Rattle.told_batches.specs.Told.{AreListed, BatchesAreTold, IsBetween, IsToldOf, ToldChangesAreBetween}
 use Rattle.told_batches.specs.Told.{has_key_in}
 use Rattle.told_batches.proofs.Rising.{in_order, keys_apart, pairs_kept}
+use Rattle.told_batches.proofs.Sought.{same_tests}
 
 -- tests -------------------------------------------------------------------------------------------------------------
 
@@ -35,11 +36,6 @@ filter_same p q (x ∷ xs) h =
 twice_not : (b : Bool) → not (not b) ≡ b
 twice_not true = refl
 twice_not false = refl
-
-same_tests : (a b : Bool) → (a ≡ true → b ≡ true) → (b ≡ true → a ≡ true) → a ≡ b
-same_tests true b f g = sym (f refl)
-same_tests false true f g = g refl
-same_tests false false f g = refl
 
 -- an entry is one of others
 abbrev is_in : List PhysEntry → PhysEntry → Bool

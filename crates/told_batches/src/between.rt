@@ -3,26 +3,18 @@ ghost use Rattle.std.specs.Prelude.{◌≡◌, IfOk, filter, not};
 ghost use Rattle.install_plan.specs.declared.written.Written.{Written as WrittenOf};
 ghost use Rattle.machine_meaning.specs.Batches.{batch_between, coming as coming_of, is_among as is_among_of};
 ghost use Rattle.machine_meaning.specs.Batches.{next_after, standing_after, staying};
+ghost use Rattle.switch_meaning.specs.Batches.{missing as missing_of};
 
 use crate::change::{Change, change_of};
+use crate::entries::{by_key, has};
 use crate::numbering::{Numbered, number_all};
 use crate::parting::Parted;
 use crate::rows::entries_in;
-use cv_io::{List, Memory};
+use cv_io::{Duplicate, List, Memory};
 use install_plan::Written;
 use shared_rows::Rows;
 use std::alloc::Global;
-use switch_meaning::{PhysEntry, difference, is_same};
-
-/// Whether one of these entries is the same as the one that stands.
-fn is_among(wanted: &List<PhysEntry>, written: &Written) -> bool
-    ensures { result ≡ is_among_of wanted.now written.now }
-{
-    wanted
-        .as_slice()
-        .iter()
-        .any(|entry| is_same(&written.entry, entry))
-}
+use switch_meaning::PhysEntry;
 
 /// The rows that stand and are to go or to change, and those that stay.
 fn part(alloc: Global, standing: &[Written], wanted: &List<PhysEntry>) -> Result<Parted, Memory>
@@ -30,11 +22,30 @@ fn part(alloc: Global, standing: &[Written], wanted: &List<PhysEntry>) -> Result
         p.going ≡ filter (λ (w : WrittenOf). not (is_among_of wanted.now w)) standing.now) }
     ensures staying { IfOk result (λ p. p.staying ≡ staying standing.now wanted.now) }
 {
+    let sorted = by_key(wanted.copy()?)?;
     let mut parted = Parted::new(alloc);
     for written in standing {
-        parted.push(is_among(wanted, written), written)?;
+        parted.push(has(sorted.as_slice(), &written.entry), written)?;
     }
     Ok(parted)
+}
+
+/// The entries of a table that another has not.
+fn missing(
+    alloc: Global,
+    other: List<PhysEntry>,
+    table: &List<PhysEntry>,
+) -> Result<List<PhysEntry>, Memory>
+    ensures { IfOk result (λ left. left ≡ missing_of other table.now) }
+{
+    let sorted = by_key(other)?;
+    let mut left = List::new(alloc);
+    for entry in table.as_slice() {
+        if !has(sorted.as_slice(), entry) {
+            left.push(entry.copy()?)?;
+        }
+    }
+    Ok(left)
 }
 
 /// The entries that come or changed, with cookies from the next one on.
@@ -48,8 +59,8 @@ fn coming(
     ensures next { IfOk result (λ n. n.next ≡ next_after next (coming_of next standing.now wanted.now)) }
 {
     let before = entries_in(alloc, standing)?;
-    let found = difference(alloc, &before, wanted)?;
-    number_all(alloc, next, found.adds)
+    let come = missing(alloc, before, wanted)?;
+    number_all(alloc, next, by_key(come)?)
 }
 
 /// What makes rows that stand what is wanted there, with cookies from the next one on.
@@ -68,7 +79,8 @@ fn change_of_rows(
     change_of(alloc, parted, come)
 }
 
-/// What makes what stands on a switch what is wanted there, with cookies from the next one on.
+/// What makes what stands on a switch what is wanted there, with cookies from the next one on. Both are sorted by key,
+/// and each row and entry is searched for among those of the other side.
 pub fn change_between(
     alloc: Global,
     next: u64,

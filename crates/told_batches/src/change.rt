@@ -28,7 +28,8 @@ pub(crate) fn change_of(alloc: Global, parted: Parted, come: Numbered) -> Result
 {
     let mut after = parted.staying;
     after.append(come.entries.copy()?)?;
-    let standing = Rows::of(alloc, after)?;
+    let sorted = by_key(after)?;
+    let standing = Rows::of(alloc, sorted)?;
     Ok(Change {
         batch: Batch {
             deletes: by_key(parted.going)?,

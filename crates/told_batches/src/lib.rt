@@ -4,6 +4,7 @@
 
 mod between;
 mod change;
+mod entries;
 pub mod laws;
 mod numbering;
 mod parting;

@@ -22,7 +22,8 @@ returns-then-not-is_at-clause-row c lower =
     let k = c.count_before-place.result in
     let front = subst (LackInFront e k) c.as_slice.ensures c.count_before-place.ensures.apart lower in
     let behind = subst (LackBehind e k) c.as_slice.ensures c.count_before-place.ensures.others lower in
-    let at = ap (λ ws. at_key e (slice_get ws k)) (sym c.as_slice-2.ensures) ∙ sym c.is_at.ensures ∙ c.if-not-is_at.true in
+    let at = ap (λ ws. at_key e (slice_get ws k)) (sym c.as_slice-2.ensures)
+    ∙ sym c.is_at.ensures ∙ c.if-not-is_at.true in
     none e c.args.rows.now k front behind at
 
 pub returns-then-not-is_at-clause-rows : goal.returns-then-not-is_at-clause-rows
@@ -31,14 +32,16 @@ returns-then-not-is_at-clause-rows c lower =
     let k = c.count_before-place.result in
     let front = subst (LackInFront e k) c.as_slice.ensures c.count_before-place.ensures.apart lower in
     let behind = subst (LackBehind e k) c.as_slice.ensures c.count_before-place.ensures.others lower in
-    let at = ap (λ ws. at_key e (slice_get ws k)) (sym c.as_slice-2.ensures) ∙ sym c.is_at.ensures ∙ c.if-not-is_at.true in
+    let at = ap (λ ws. at_key e (slice_get ws k)) (sym c.as_slice-2.ensures)
+    ∙ sym c.is_at.ensures ∙ c.if-not-is_at.true in
     all_left e c.args.rows.now k front behind at
 
 pub remove-requires : goal.remove-requires
 remove-requires c =
     let e = c.args.entry.now in
     let k = c.count_before-place.result in
-    let at = ap (λ ws. at_key e (slice_get ws k)) (sym c.as_slice-2.ensures) ∙ sym c.is_at.ensures ∙ c.if-not-is_at.false in
+    let at = ap (λ ws. at_key e (slice_get ws k)) (sym c.as_slice-2.ensures)
+    ∙ sym c.is_at.ensures ∙ c.if-not-is_at.false in
     is_there e c.args.rows.now k at
 
 pub returns-clause-row : goal.returns-clause-row
@@ -47,7 +50,8 @@ returns-clause-row c lower =
     let k = c.count_before-place.result in
     let front = subst (LackInFront e k) c.as_slice.ensures c.count_before-place.ensures.apart lower in
     let behind = subst (LackBehind e k) c.as_slice.ensures c.count_before-place.ensures.others lower in
-    let at = ap (λ ws. at_key e (slice_get ws k)) (sym c.as_slice-2.ensures) ∙ sym c.is_at.ensures ∙ c.if-not-is_at.false in
+    let at = ap (λ ws. at_key e (slice_get ws k)) (sym c.as_slice-2.ensures)
+    ∙ sym c.is_at.ensures ∙ c.if-not-is_at.false in
     found e c.args.rows.now k front behind c.remove.result c.remove.ensures.item at
 
 pub returns-clause-rows : goal.returns-clause-rows
@@ -56,5 +60,6 @@ returns-clause-rows c lower =
     let k = c.count_before-place.result in
     let front = subst (LackInFront e k) c.as_slice.ensures c.count_before-place.ensures.apart lower in
     let behind = subst (LackBehind e k) c.as_slice.ensures c.count_before-place.ensures.others lower in
-    let at = ap (λ ws. at_key e (slice_get ws k)) (sym c.as_slice-2.ensures) ∙ sym c.is_at.ensures ∙ c.if-not-is_at.false in
+    let at = ap (λ ws. at_key e (slice_get ws k)) (sym c.as_slice-2.ensures)
+    ∙ sym c.is_at.ensures ∙ c.if-not-is_at.false in
     c.remove.ensures.items ∙ left e c.args.rows.now k front behind c.remove.result c.remove.ensures.item at
