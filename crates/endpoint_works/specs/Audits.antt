@@ -1,5 +1,5 @@
 -- What is posted and written for the audit.
-use Rattle.std.specs.Prelude.{◌≡◌, ℕ, List, [], ◌∷◌, ◌++◌, Option, All, take}
+use Rattle.std.specs.Prelude.{◌≡◌, ◌⊎◌, ℕ, List, [], ◌∷◌, ◌++◌, Option, All, take, ⊤}
 use Rattle.std.specs.List.{flat_map}
 use Rattle.cv_io.specs.Outside.{Rose}
 use Rattle.cv_io.specs.declared.leaf.Session.{Session}
@@ -47,3 +47,9 @@ module _ (posts : List Post) (held written : Option (List ℕ)) where
 abbrev pub IsAuditEnd : (faults risen : ℕ) → AuditEnd → Type 0
 IsAuditEnd faults risen ends.Ended = risen ≡ faults
 IsAuditEnd faults risen ends.WriteFault = Rose faults risen
+
+-- the writing ends by itself only where the desk last told that after so many entries no line waited, or that after so
+-- many the audit's session had ended
+abbrev pub IsDrained : (ended waits : ℕ → Type 0) → AuditEnd → Type 0
+IsDrained ended waits ends.Ended = (at : ℕ) × (waits at ⊎ ended at)
+IsDrained ended waits ends.WriteFault = ⊤

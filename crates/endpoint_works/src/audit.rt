@@ -2,7 +2,7 @@
 ghost use Rattle.std.specs.Prelude.{◌≡◌, ◌∷◌, ◌++◌, [], IfOk, OnErr, OnOk};
 ghost use Rattle.cv_io.specs.Outside.{Rose};
 ghost use Rattle.sessions.specs.Streams.{Appends, AppendsSome};
-ghost use Rattle.endpoint_works.specs.Audits.{AuditPosts, HasAudited, IsAuditEnd};
+ghost use Rattle.endpoint_works.specs.Audits.{AuditPosts, HasAudited, IsAuditEnd, IsDrained, audit};
 
 use crate::others::Others;
 use cv_io::{Clock, Failed, Memory, Session, Sink, Who};
@@ -37,6 +37,7 @@ pub fn write_audit<R: Wait, D: Desk, K: Sink, C: Clock>(
     ensures pass { D.admits desk.now pass.new }
     ensures posted { IfOk result (AuditPosts (D.posts pass.old) (K.held out.old) (K.held out.new) (D.posts pass.new)) }
     ensures end { IfOk result (IsAuditEnd (K.faults out.old) (K.faults out.new)) }
+    ensures drained { IfOk result (IsDrained (D.ended pass.new audit) (D.waits pass.new audit)) }
     ensures memory { OnErr result (HasAudited (D.posts pass.old) (K.held out.old) (K.held out.new) (D.posts pass.new)) }
     ensures quiet { OnErr result (K.faults out.new ≡ K.faults out.old) }
 {

@@ -1,11 +1,12 @@
 -- What the works of a run came to, by their seats.
-use Rattle.std.specs.Prelude.{◌≡◌, ℕ, Bool, true, false, All, List, [], ◌∷◌, ◌++◌, Option, Some, Result}
+use Rattle.std.specs.Prelude.{◌≡◌, ℕ, Bool, true, false, All, List, [], ◌∷◌, ◌++◌, IfOk, Option, Some, Result}
 use Rattle.cv_io.specs.Connections.{Connection}
 use Rattle.cv_io.specs.declared.memory.Memory.{Memory}
 use Rattle.events.specs.declared.event.Event.{Event}
 use Rattle.events.specs.declared.event.Reply.{Reply}
 use Rattle.policy_lock.specs.Seat.{IsSeatOf, LockOf, SeatOf}
 use Rattle.policy_lock.specs.declared.machine.Machine.{Ghosts}
+use Rattle.endpoint_works.specs.Audits.{IsDrained, audit}
 use Rattle.endpoint_works.specs.Sendings.{HasSent}
 use Rattle.endpoint_works.specs.Tasks.{HasReceived, HasWrittenAudit}
 use Rattle.endpoint_works.specs.declared.arrivals.Dialled.{Dialled}
@@ -15,7 +16,7 @@ use Rattle.endpoint_works.specs.declared.sending.Sent.{Sent}
 use Rattle.endpoint_works.specs.declared.works.Task.{Task}
 use Rattle.endpoint_works.specs.declared.works.Task.TheVariants as works
 use Rattle.lock_desk.specs.declared.desk.LockDesk.{LockDesk}
-use Rattle.lock_desk.specs.Passes.{HasEnded, IsSince, own_posts}
+use Rattle.lock_desk.specs.Passes.{HasEnded, IsSince, Waits, own_posts}
 use Rattle.serving.specs.Works.{AreTeams}
 use Rattle.serving.specs.declared.dialling.Line.{Line}
 
@@ -71,4 +72,5 @@ module _ {M S D : Type 0} (g : Ghosts M Event Reply S) (lock : LockOf S) (left :
     -- no dial failed, where each is one that never does
     pub dials : All (λ (line : Line D). never_fails line.dial ≡ true) lines → failed ≡ false
     pub later : IsLaterSeat lock last last_new
+    pub drained : IfOk end (IsDrained (HasEnded g last_new.pass audit) (Waits g last_new.pass audit))
     pub audit : HasWrittenAudit (own_posts last.pass) held written faults risen (own_posts last_new.pass) end

@@ -2,6 +2,7 @@
 ghost use Rattle.std.specs.Prelude.{◌≡◌, ◌<◌, ◌+◌, ◌*◌, All, IfOk, OnErr, [], length, vec_capacity};
 ghost use Rattle.std.specs.Thread.{IsSync};
 ghost use Rattle.cv_io.specs.Works.{AllChanged, AllReady};
+ghost use Rattle.endpoint_works.specs.Audits.{IsDrained, audit};
 ghost use Rattle.endpoint_works.specs.Sides.{IsServedSide};
 ghost use Rattle.endpoint_works.specs.Tasks.{HasWrittenAudit};
 ghost use Rattle.policy_lock.specs.Seat.{IsSeatOf};
@@ -111,13 +112,15 @@ where
     ensures pass { D.admits desk.now pass.new }
     ensures written { HasWrittenAudit (D.posts pass.old) (K.held out.old) (K.held out.new)
         (K.faults out.old) (K.faults out.new) (D.posts pass.new) result }
+    ensures drained { IfOk result (IsDrained (D.ended pass.new audit) (D.waits pass.new audit)) }
     ensures done { AllChanged W.changes works.old works.new }
 {
     let mut audit = || -> Result<AuditEnd, Memory>
         requires { IsSync R.row × IsSync D.row × D.admits desk.now pass.now }
         ensures { D.admits desk.entry.now pass.exit.now
             × HasWrittenAudit (D.posts pass.entry.now) (K.held out.entry.now) (K.held out.exit.now)
-            (K.faults out.entry.now) (K.faults out.exit.now) (D.posts pass.exit.now) result }
+            (K.faults out.entry.now) (K.faults out.exit.now) (D.posts pass.exit.now) result
+            × IfOk result (IsDrained (D.ended pass.exit.now audit) (D.waits pass.exit.now audit)) }
     { write_audit(rt, desk, pass, out, others, clock) };
     let mut endpoints = ||
         requires { IsSync R.row × AllReady W.ready works.now }

@@ -4,10 +4,14 @@
 #[cfg(test)]
 mod endpoints;
 #[cfg(test)]
+mod lines;
+#[cfg(test)]
 mod locks;
 #[cfg(test)]
 mod loops;
 #[cfg(test)]
 mod outside;
+#[cfg(test)]
+mod runs;
 #[cfg(test)]
 mod works;

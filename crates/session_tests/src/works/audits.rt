@@ -1,9 +1,11 @@
 //! The work that writes the audit.
 use super::desks::{Book, Log, letters};
-use cv_io::{Bytes, List, MemClock, MemSink, Memory};
+use crate::lines::Lines;
+use cv_io::{Bytes, Clock, List, MemClock, MemSink, Memory};
 use endpoint_works::{AuditEnd, Others, write_audit};
 use std::alloc::Global;
 use std::sync::Wait;
+use std::sync::atomic::{AtomicU64, Ordering};
 use std::test::*;
 
 /// The audit of two lines, over a sink whose calls fail so: how its writing ends, what is written, and what is posted.
@@ -32,5 +34,48 @@ fn lines_are_written(rt: HostRuntime) -> Result<(), Fail> {
     let (end, held, _posts) = audit(&rt, rt.alloc(), &[4])?;
     assert_eq!(rt; end, AuditEnd::WriteFault);
     assert!(rt; held.as_slice() == b"up app\ndown s1".as_slice());
+    Ok(())
+}
+
+/// A clock at whose first rest the other works end. It notes how many lines had been written by then.
+#[derive(Drop)]
+struct Ending<'a> {
+    others: &'a Others,
+    written: &'a AtomicU64,
+    seen: Option<u64>,
+}
+
+impl Clock for Ending<'_> {
+    ghost greatest = { λ _. 0 };
+
+    fn now(&mut self) -> u64 {
+        0
+    }
+
+    fn rest(&mut self) {
+        if self.seen.is_none() {
+            self.seen = Some(self.written.load(Ordering::SeqCst));
+            self.others.end_one();
+        }
+    }
+}
+
+#[test]
+fn lines_are_written_as_they_come(rt: HostRuntime) -> Result<(), Fail> {
+    let alloc = rt.alloc();
+    let mut pass = Log::new(alloc, 2);
+    pass.waiting.push(Bytes::from_slice(alloc, b"up app")?)?;
+    pass.waiting.push(Bytes::from_slice(alloc, b"down s1")?)?;
+    let written = AtomicU64::new(0);
+    let others = Others::new(1);
+    let mut out = Lines { written: &written };
+    let mut clock = Ending {
+        others: &others,
+        written: &written,
+        seen: None,
+    };
+    let end = write_audit(&rt, &Book {}, &mut pass, &mut out, &others, &mut clock)?;
+    assert_eq!(rt; end, AuditEnd::Ended);
+    assert!(rt; clock.seen == Some(2));
     Ok(())
 }

@@ -104,4 +104,5 @@ returns-clause-worked g c =
         since = since-seat c.in-Some.seat c.desk-desk.result.since.value last c.desk-desk.ensures.since c.all_at_work-end.ensures.pass.2;
       };
       audit = c.all_at_work-end.ensures.written;
+      drained = c.all_at_work-end.ensures.drained;
     }
