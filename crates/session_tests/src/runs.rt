@@ -1,5 +1,4 @@
 //! A run over connections in memory, of which a line of the audit is read before it ends.
-ghost use Rattle.std.specs.Prelude.{None, false};
 
 use crate::lines::Lines;
 use cv_io::{
