@@ -48,8 +48,8 @@ abbrev pub IsAuditEnd : (faults risen : ℕ) → AuditEnd → Type 0
 IsAuditEnd faults risen ends.Ended = risen ≡ faults
 IsAuditEnd faults risen ends.WriteFault = Rose faults risen
 
--- the writing ends by itself only where the desk last told that after so many entries no line waited, or that after so
--- many the audit's session had ended
+-- the writing ends by itself only where the desk told that after so many entries no line waited, or that after so many
+-- the audit's session had ended
 abbrev pub IsDrained : (ended waits : ℕ → Type 0) → AuditEnd → Type 0
 IsDrained ended waits ends.Ended = (at : ℕ) × (waits at ⊎ ended at)
 IsDrained ended waits ends.WriteFault = ⊤
