@@ -1,6 +1,6 @@
 -- The first item that passes a test, and the list without it, or with another one in front of it.
-use Rattle.std.proofs.Common.{◌≡◌, ◌∙◌, ◌+◌, ◌<◌, ◌≤◌, ℕ, zero, suc, Bool, true, false, List, [], ◌∷◌, ◌++◌, Option, Some, None}
-use Rattle.std.proofs.Common.{arith, ap, append-nil, drop, length, refl, subst, sym, take}
+use Rattle.std.proofs.Common.{◌≡◌, ◌∙◌, ◌+◌, ◌<◌, ◌≤◌, ℕ, suc, Bool, true, false, List, [], ◌∷◌, ◌++◌, Option, Some, None}
+use Rattle.std.proofs.Common.{arith, ap, length, refl, subst, sym}
 use Rattle.std.specs.Prelude.{◌||◌, find, if◌then◌else◌, nat_lt, not, position, slice_get, unwrap_or}
 use Rattle.std.specs.List.{AllByRecursion, insert, list_any, position_or_len, remove}
 use Rattle.std.specs.Set.{remove_key}

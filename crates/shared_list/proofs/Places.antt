@@ -1,13 +1,13 @@
 -- Which run has the first item that passes.
-use Rattle.std.proofs.Common.{◌≡◌, ◌∙◌, ◌+◌, ◌-◌, ◌<◌, ◌≤◌, ℕ, zero, suc, Bool, true, false, List, [], ◌∷◌, ◌++◌, Option, Some, None}
-use Rattle.std.proofs.Common.{arith, ap, get_or, length, not, refl, subst, sym}
+use Rattle.std.proofs.Common.{◌≡◌, ◌∙◌, ◌-◌, ◌<◌, ◌≤◌, ℕ, zero, suc, Bool, true, false, List, [], ◌∷◌, ◌++◌, Some, None}
+use Rattle.std.proofs.Common.{arith, ap, get_or, length, not, refl, sym}
 use Rattle.std.specs.Prelude.{◌||◌, position, slice_get}
 use Rattle.std.specs.Arc.{arc_value}
 use Rattle.std.specs.List.{AllByRecursion, AllWithin, list_any}
 use Rattle.std.specs.List.Sorted.{IsPartitionedBy}
 use Rattle.std.proofs.lemmas.List.Quantifiers.{position-Some}
 use Rattle.shared_list.specs.Behind.{StandBehind}
-use Rattle.shared_list.specs.InsideRuns.{HaveItems, IsAtFirst, IsFirstRun, ends_with, joined}
+use Rattle.shared_list.specs.InsideRuns.{HaveItems, IsAtFirst, ends_with, joined}
 use Rattle.shared_list.proofs.Firsts.{none_found}
 use Rattle.shared_list.proofs.Runs.{Run}
 

@@ -1,6 +1,6 @@
 -- Runs, and changes of one of them.
-use Rattle.std.proofs.Common.{◌≡◌, ◌∙◌, ◌+◌, ◌<◌, ◌≤◌, ℕ, zero, suc, Bool, true, false, List, [], ◌∷◌, ◌++◌, Option, Some, None, Result, Ok, Err}
-use Rattle.std.proofs.Common.{arith, ap, append-nil, append_assoc, drop, get_or, length, map, refl, subst, sym, take, take-append-drop}
+use Rattle.std.proofs.Common.{◌≡◌, ◌∙◌, ◌+◌, ◌<◌, ℕ, zero, suc, Bool, true, false, List, [], ◌∷◌, ◌++◌, Some, None, Result, Ok, Err}
+use Rattle.std.proofs.Common.{arith, ap, append-nil, append_assoc, drop, get_or, length, map, refl, subst, sym, take}
 use Rattle.std.specs.Prelude.{◌==◌, OnErr, OnOk, find, option_map, slice_get, slice_set}
 use Rattle.std.specs.Arc.{arc_value}
 use Rattle.std.specs.List.{AllByRecursion, insert, list_any, remove}

@@ -1,5 +1,5 @@
 -- Cookies that rise.
-use Rattle.std.proofs.Common.{◌≡◌, ◌∙◌, ◌<◌, ◌≤◌, ℕ, Bool, true, false, List, [], ◌∷◌, Option, Some, None, Result, Ok, Err}
+use Rattle.std.proofs.Common.{◌≡◌, ◌∙◌, ◌<◌, ◌≤◌, ℕ, Bool, true, false, List, [], ◌∷◌, Some, None, Result, Ok, Err}
 use Rattle.std.proofs.Common.{arith, ap, inl, inr, refl, subst, sym}
 use Rattle.std.specs.Prelude.{◌==◌, ◌||◌, ◌⊎◌, OnErr, OnOk, find, if◌then◌else◌, nat_le}
 use Rattle.std.specs.BTreeMap.{is_at}

@@ -1,6 +1,6 @@
 -- Answers of numbers in a row.
 use Rattle.std.proofs.Common.{◌≡◌, ◌∙◌, ◌+◌, ◌-◌, ◌<◌, ◌≤◌, ℕ, zero, suc, Bool, true, false, List, [], ◌∷◌, ◌++◌, Some, Result, Ok, Err}
-use Rattle.std.proofs.Common.{arith, ap, ap₂, append-nil, append_assoc, drop, get_or, inl, inr, length, map, not, refl, subst, sym, take}
+use Rattle.std.proofs.Common.{arith, ap, ap₂, append-nil, append_assoc, get_or, inl, inr, length, map, not, refl, subst, sym, take}
 use Rattle.std.specs.Prelude.{◌==◌, ◌&&◌, ◌||◌, ◌⊎◌, OnOk, filter, if◌then◌else◌, nat_le, nat_lt, slice_get, slice_set}
 use Rattle.std.specs.List.{AllByRecursion, list_any, refill}
 use Rattle.std.proofs.lemmas.Bool.{cases_lt}
@@ -87,12 +87,15 @@ module _ (n number : ℕ) where
       none f out =
           ap (λ (b : Bool). (s.switch == n) && b) f
           ∙ (and_false (s.switch == n) ∙ sym (out_of s.switch s.first (suc (s.last - s.first)) out))
+
       low_false : number < s.first → (nat_le s.first number && nat_le number s.last) ≡ false
       low_false lt = ap (λ (b : Bool). b && nat_le number s.last) (let f : nat_le s.first number ≡ false = grind (arith, nat_tests) in f)
+
       high_false : s.last < number → (nat_le s.first number && nat_le number s.last) ≡ false
       high_false lt =
           let f : nat_le number s.last ≡ false = grind (arith, nat_tests) in
           ap (λ (b : Bool). nat_le s.first number && b) f ∙ and_false (nat_le s.first number)
+
       there : (s.switch == n) ≡ true → s.first ≤ number → number ≤ s.last
           → has_in n number s ≡ list_any (is_part n number) (spelled s)
       there e low high =
@@ -100,11 +103,13 @@ module _ (n number : ℕ) where
           let b : nat_le number s.last ≡ true = grind (arith, nat_tests) in
           (λ i. e i && (a i && b i))
           ∙ sym (within s.switch s.first (suc (s.last - s.first)) e low (omega (arith, low, high)))
+
       places : (s.switch == n) ≡ true → (number < s.first) ⊎ (s.first ≤ number)
           → (s.last < number) ⊎ (number ≤ s.last) → has_in n number s ≡ list_any (is_part n number) (spelled s)
       places e (inl lt) right = none (low_false lt) (inl lt)
       places e (inr low) (inl lt) = none (high_false lt) (inr (omega (arith, is.0, lt)))
       places e (inr low) (inr high) = there e low high
+
       by : (b : Bool) → (s.switch == n) ≡ b → has_in n number s ≡ list_any (is_part n number) (spelled s)
       by false e =
           ap (λ (b : Bool). b && (nat_le s.first number && nat_le number s.last)) e
@@ -143,6 +148,7 @@ module _ (n number : ℕ) where
     where
       rest_of : List Part
       rest_of = filter (λ (part : Part). not (is_part n number part)) (row s (suc first) count)
+
       by : (first < number) ⊎ (number ≤ first)
           → (suc first ≤ number → number < suc first + count
           → filter (λ (part : Part). not (is_part n number part)) (row s (suc first) count)
@@ -178,6 +184,7 @@ module _ (n number : ℕ) where
           → row s.switch s.first (number - s.first) ++ row s.switch (suc number) (s.last - number)
           ≡ filter (λ (part : Part). not (is_part n number part)) (spelled s)
       never f = let e : true ≡ false = there ∙ sym f in cc
+
       by : (b : Bool) → (s.switch == n) ≡ b → (number < s.first) ⊎ (s.first ≤ number)
           → (s.last < number) ⊎ (number ≤ s.last)
           → row s.switch s.first (number - s.first) ++ row s.switch (suc number) (s.last - number)
@@ -442,6 +449,7 @@ module _ (n xid : ℕ) where
       stays f same =
           ap (λ (b : Bool). spelled (if b then record { switch = s.switch; first = xid; last = xid } else s)) f
           ∙ sym same
+
       by : (b : Bool) → (s.switch == n) ≡ b → (0 < s.first) ⊎ (s.first ≤ 0)
           → spelled (span_with_xid n xid s) ≡ map (part_with_xid n xid) (spelled s)
       by false e at =

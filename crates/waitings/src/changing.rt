@@ -30,13 +30,7 @@ impl Waiting {
     }
 
     /// After the last part of a switch its answer isn't waited for any more.
-    fn end_unless(
-        &mut self,
-        alloc: Global,
-        more: bool,
-        switch: u32,
-        xid: u32,
-    ) -> Result<(), Memory>
+    fn end_unless(&mut self, alloc: Global, more: bool, switch: u32, xid: u32) -> Result<(), Memory>
         ensures ended { OnOk result (self.new ≡ unless_more more switch xid self.old) }
         ensures memory { OnErr result (self.new ≡ self.old) }
     {

@@ -1,7 +1,7 @@
 use Rattle.std.proofs.Common.{◌≡◌, ◌∙◌, ◌+◌, ◌++◌, [], ◌∷◌, Some, ap, drop, length, subst, take}
 use Rattle.std.specs.Prelude.{option_map, slice_get}
 use Rattle.std.specs.Arc.{arc_value}
-use Rattle.shared_list.specs.InsideRuns.{HaveItems, joined}
+use Rattle.shared_list.specs.InsideRuns.{joined}
 use Rattle.shared_list.proofs.Runs.{appended, at_last, have_pushed, on_ok}
 use Rattle.shared_list.proofs.changing.append.Goals as goal
 

@@ -1,4 +1,4 @@
-use Rattle.std.proofs.Common.{◌≡◌, ◌∙◌, ◌+◌, ◌<◌, ◌++◌, arith, ap, drop, length, subst, sym, take, take-append-drop}
+use Rattle.std.proofs.Common.{◌≡◌, ◌∙◌, ◌<◌, ◌++◌, ap, drop, length, subst, sym, take, take-append-drop}
 use Rattle.std.specs.Prelude.{slice_set}
 use Rattle.std.specs.Arc.{arc_value}
 use Rattle.shared_list.specs.InsideRuns.{HaveItems, joined}

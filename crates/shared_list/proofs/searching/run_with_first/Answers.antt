@@ -1,4 +1,4 @@
-use Rattle.std.proofs.Common.{◌≡◌, rules}
+use Rattle.std.proofs.Common.{rules}
 use Rattle.std.proofs.lemmas.List.Sorted.{IsPartitionPoint-from_clause}
 use Rattle.shared_list.proofs.Places.{runs_parted, searched, searched_none}
 use Rattle.shared_list.specs.InsideRuns.{ends_with}

@@ -1,4 +1,3 @@
-use Rattle.std.proofs.Common.{◌≡◌}
 use Rattle.switch_state.proofs.Cookies.{behind, has_none, has_some}
 use Rattle.switch_state.proofs.outstanding.has.Goals as goal
 

@@ -1,8 +1,3 @@
-use Rattle.std.proofs.Common.{◌≡◌, ◌∙◌, Err, Ok, Result, subst, sym}
-use Rattle.std.specs.Prelude.{OnErr, OnOk}
-use Rattle.std.specs.BTreeSet.{insert_key}
-use Rattle.std.specs.Ordering.{nat_cmp}
-use Rattle.switch_state.specs.InsideKnown.{Rise}
 use Rattle.switch_state.proofs.Cookies.{behind, is_put, is_there, on_ok_then, rise_after}
 use Rattle.switch_state.proofs.outstanding.insert.Goals as goal
 

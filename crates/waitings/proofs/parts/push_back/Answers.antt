@@ -1,4 +1,4 @@
-use Rattle.std.proofs.Common.{◌≡◌, ◌∙◌, ◌++◌, ap}
+use Rattle.std.proofs.Common.{◌∙◌, ◌++◌, ap}
 use Rattle.waitings.specs.InsideSpans.{all_spelled}
 use Rattle.waitings.proofs.Spans.{back_spelled, on_ok, one_more}
 use Rattle.waitings.proofs.parts.push_back.Goals as goal

@@ -1,4 +1,4 @@
-use Rattle.std.proofs.Common.{◌≡◌, ◌∙◌, ◌-◌, ◌++◌, ap, append_assoc, suc}
+use Rattle.std.proofs.Common.{◌∙◌, ◌-◌, ◌++◌, ap, append_assoc, suc}
 use Rattle.waitings.specs.InsideSpans.{all_spelled, row}
 use Rattle.waitings.proofs.Spans.{on_ok, one_more, span_left, span_stays}
 use Rattle.waitings.proofs.parts.push_without.Goals as goal

@@ -1,5 +1,4 @@
-use Rattle.std.proofs.Common.{◌≡◌, ◌∙◌, ◌++◌, sym, take}
-use Rattle.shared_list.specs.InsideRuns.{joined}
+use Rattle.std.proofs.Common.{◌∙◌, ◌++◌, sym}
 use Rattle.shared_list.proofs.Runs.{joined_more}
 use Rattle.shared_list.proofs.list.SharedList.listed.Goals as goal
 

@@ -1,4 +1,4 @@
-use Rattle.std.proofs.Common.{◌≡◌, ◌∙◌, ap, length, map, subst, sym}
+use Rattle.std.proofs.Common.{◌∙◌, ap, map, subst, sym}
 use Rattle.std.specs.List.{AllByRecursion}
 use Rattle.waitings.specs.InsideSpans.{IsSpan, all_spelled, span_with_xid}
 use Rattle.waitings.specs.Waitings.{part_with_xid}

@@ -1,4 +1,4 @@
-use Rattle.std.proofs.Common.{◌≡◌, ◌∙◌, ap, length}
+use Rattle.std.proofs.Common.{◌∙◌, ap, length}
 use Rattle.std.specs.Prelude.{◌==◌}
 use Rattle.waitings.specs.declared.state.Part.{Part}
 use Rattle.std.proofs.Common.{List}

@@ -1,4 +1,4 @@
-use Rattle.std.proofs.Common.{◌≡◌, ◌∙◌, ◌∷◌, ◌++◌, [], List, ap, refl}
+use Rattle.std.proofs.Common.{◌∙◌, ◌∷◌, ◌++◌, [], List, ap, refl}
 use Rattle.waitings.specs.InsideSpans.{all_spelled}
 use Rattle.waitings.specs.declared.state.Part.{Part}
 use Rattle.waitings.proofs.Spans.{on_ok, one_more}

@@ -1,8 +1,7 @@
-use Rattle.std.proofs.Common.{◌≡◌, ◌∙◌, ◌++◌, List, ap, get_or, not, sym, take}
+use Rattle.std.proofs.Common.{◌∙◌, ap, not}
 use Rattle.std.specs.Prelude.{filter}
 use Rattle.std.proofs.lemmas.List.{take_all}
-use Rattle.std.proofs.lemmas.List.Elements.{filter-append}
-use Rattle.waitings.specs.InsideSpans.{all_spelled, spelled}
+use Rattle.waitings.specs.InsideSpans.{all_spelled}
 use Rattle.waitings.specs.Waitings.{is_part}
 use Rattle.waitings.specs.declared.state.Part.{Part}
 use Rattle.waitings.proofs.Spans.{without_more}

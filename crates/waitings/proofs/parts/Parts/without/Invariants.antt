@@ -1,4 +1,4 @@
-use Rattle.std.proofs.Common.{◌≡◌, ◌∙◌, not, take}
+use Rattle.std.proofs.Common.{◌≡◌, not, take}
 use Rattle.std.specs.Prelude.{filter}
 use Rattle.std.specs.List.{AllByRecursion}
 use Rattle.waitings.specs.InsideSpans.{IsSpan, all_spelled}

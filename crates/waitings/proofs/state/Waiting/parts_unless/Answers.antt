@@ -1,4 +1,4 @@
-use Rattle.std.proofs.Common.{◌≡◌, false, subst, sym}
+use Rattle.std.proofs.Common.{◌≡◌, subst, sym}
 use Rattle.std.specs.Prelude.{IfOk}
 use Rattle.waitings.specs.Waitings.{unless_more, without_part}
 use Rattle.waitings.proofs.Same.{parts_left}
