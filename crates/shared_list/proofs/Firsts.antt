@@ -1,5 +1,6 @@
 -- The first item that passes a test, and the list without it, or with another one in front of it.
-use Rattle.std.proofs.Common.{◌≡◌, ◌∙◌, ◌+◌, ◌<◌, ◌≤◌, ℕ, suc, Bool, true, false, List, [], ◌∷◌, ◌++◌, Option, Some, None}
+use Rattle.std.proofs.Common.{◌≡◌, ◌∙◌, ◌+◌, ◌<◌, ◌≤◌, ℕ, suc, Bool, true, false, List, [], ◌∷◌, ◌++◌, Option}
+use Rattle.std.proofs.Common.{Some, None}
 use Rattle.std.proofs.Common.{arith, ap, length, refl, subst, sym}
 use Rattle.std.specs.Prelude.{◌||◌, find, if◌then◌else◌, nat_lt, not, position, slice_get, unwrap_or}
 use Rattle.std.specs.List.{AllByRecursion, insert, list_any, position_or_len, remove}
@@ -64,7 +65,8 @@ module _ {A : Type 0} (p : A → Bool) where
     where
       by : (b : Bool) → nat_lt (position_or_len p xs) (length xs) ≡ b → length xs ≤ position_or_len p xs
       by true t =
-          absurd (none-some (position_or_len p xs) (sym e ∙ ap (λ b. if b then Some (position_or_len p xs) else None) t))
+          absurd (none-some (position_or_len p xs)
+          (sym e ∙ ap (λ b. if b then Some (position_or_len p xs) else None) t))
       by false f = ltb-false (position_or_len p xs) (length xs) f
 
   none_before : (xs : List A) → length xs ≤ position_or_len p xs → AllByRecursion (λ x. p x ≡ false) xs

@@ -1,5 +1,6 @@
 -- Runs, and changes of one of them.
-use Rattle.std.proofs.Common.{◌≡◌, ◌∙◌, ◌+◌, ◌<◌, ℕ, zero, suc, Bool, true, false, List, [], ◌∷◌, ◌++◌, Some, None, Result, Ok, Err}
+use Rattle.std.proofs.Common.{◌≡◌, ◌∙◌, ◌+◌, ◌<◌, ℕ, zero, suc, Bool, true, false, List, [], ◌∷◌, ◌++◌, Some}
+use Rattle.std.proofs.Common.{None, Result, Ok, Err}
 use Rattle.std.proofs.Common.{arith, ap, append-nil, append_assoc, drop, get_or, length, map, refl, subst, sym, take}
 use Rattle.std.specs.Prelude.{◌==◌, OnErr, OnOk, find, option_map, slice_get, slice_set}
 use Rattle.std.specs.Arc.{arc_value}
@@ -147,7 +148,8 @@ module _ {A Z : Type 0} where
 
   -- the last run
   pub at_end : (rs : List (Run A Z)) (p : ℕ) (items : List A) (x : A) → suc p ≡ length rs
-      → option_map (λ r. arc_value r) (slice_get rs p) ≡ Some items → with_items rs p (items ++ x ∷ []) ≡ joined rs ++ x ∷ []
+      → option_map (λ r. arc_value r) (slice_get rs p) ≡ Some items
+      → with_items rs p (items ++ x ∷ []) ≡ joined rs ++ x ∷ []
   at_end [] p items x long at = cc
   at_end (r ∷ []) zero items x long at =
       let same : arc_value r ≡ items = cc in
@@ -165,7 +167,8 @@ module _ {A Z : Type 0} where
       let next : suc p ≡ length rs = omega (arith, long) in
       sym (at_next rs p (items ++ x ∷ [])) ∙ at_end rs p items x next at
 
-  pub appended : (rs : List (Run A Z)) (r : Run A Z) (x : A) → arc_value r ≡ x ∷ [] → joined (rs ++ r ∷ []) ≡ joined rs ++ x ∷ []
+  pub appended : (rs : List (Run A Z)) (r : Run A Z) (x : A) → arc_value r ≡ x ∷ []
+      → joined (rs ++ r ∷ []) ≡ joined rs ++ x ∷ []
   appended rs r x is = joined_append rs (r ∷ []) ∙ ap (λ ws. joined rs ++ ws) (append-nil (arc_value r) ∙ is)
 
   pub have_pushed : (rs now : List (Run A Z)) (r : Run A Z) {E : Type 0} (result : Result (Unit {0}) E) (x : A)

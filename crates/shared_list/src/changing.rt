@@ -1,5 +1,6 @@
 //! Changes of runs. Where memory is wanted they stay as they were.
-ghost use Rattle.std.specs.Prelude.{◌≡◌, ◌<◌, ◌+◌, ◌++◌, [], ◌∷◌, IfOk, IfSome, OnErr, OnOk, Some, drop, find, length, option_map};
+ghost use Rattle.std.specs.Prelude.{◌≡◌, ◌<◌, ◌+◌, ◌++◌, [], ◌∷◌, IfOk, IfSome, OnErr, OnOk, Some, drop, find};
+ghost use Rattle.std.specs.Prelude.{length, option_map};
 ghost use Rattle.std.specs.Prelude.{slice_get, take};
 ghost use Rattle.std.specs.Arc.{arc_value};
 ghost use Rattle.std.specs.Set.{remove_key};

@@ -1,6 +1,7 @@
 -- Where rows of a key belong among runs.
 use Rattle.std.proofs.Common.{◌≡◌, ◌∙◌, ◌+◌, ◌-◌, ◌<◌, ◌≤◌, ℕ, zero, suc, Bool, true, false, List, [], ◌∷◌, ◌++◌}
-use Rattle.std.proofs.Common.{arith, ap, append-nil, append_assoc, drop, get_or, length, map, not, refl, subst, sym, take, take-append-drop, Some}
+use Rattle.std.proofs.Common.{arith, ap, append-nil, append_assoc, drop, get_or, length, map, not, refl, subst}
+use Rattle.std.proofs.Common.{sym, take, take-append-drop, Some}
 use Rattle.std.specs.Prelude.{slice_get}
 use Rattle.std.specs.List.{insert, remove}
 use Rattle.std.specs.Arc.{arc_value}
@@ -15,7 +16,8 @@ use Rattle.switch_meaning.specs.declared.entry.PhysEntry.{PhysEntry}
 use Rattle.shared_rows.specs.Rows.{IsLower, NotAfter, Rise, has_key, is_past}
 use Rattle.shared_rows.specs.InsideRuns.{HaveRows, begins_past, first_past, joined}
 use Rattle.shared_rows.proofs.InOrder.{behind_past, front_apart, front_not_past}
-use Rattle.shared_rows.proofs.Lists.{all_back, all_front, dropped, not_false, not_true, pairs_across, pairs_back, pairs_front}
+use Rattle.shared_rows.proofs.Lists.{all_back, all_front, dropped, not_false, not_true, pairs_across}
+use Rattle.shared_rows.proofs.Lists.{pairs_back, pairs_front}
 use Rattle.shared_rows.proofs.Lists.{taken}
 
 less_one : (n : ℕ) → suc n - 1 ≡ n

@@ -1,5 +1,5 @@
-//! The rows that stand on a switch, by rising key, in short runs that copies share: a copy takes a pointer for each run,
-//! and a change of one row writes one run anew.
+//! The rows that stand on a switch, by rising key, in short runs that copies share: a copy takes a pointer for each
+//! run, and a change of one row writes one run anew.
 #![tactic(auto)]
 
 mod keys;

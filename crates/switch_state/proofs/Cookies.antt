@@ -252,7 +252,8 @@ module _ (k : ℕ) where
           → Rise (match_ordering r (k ∷ m ∷ ns) (m ∷ ns) (m ∷ insert_key nat_cmp ns k))
           → Rise (insert_key nat_cmp (m ∷ ns) k)
       make r e h =
-          subst (λ (s : Ordering). Rise (match_ordering s (k ∷ m ∷ ns) (m ∷ ns) (m ∷ insert_key nat_cmp ns k))) (sym e) h
+          subst (λ (s : Ordering). Rise (match_ordering s (k ∷ m ∷ ns) (m ∷ ns) (m ∷ insert_key nat_cmp ns k)))
+          (sym e) h
 
       less : k < m → Rise (insert_key nat_cmp (m ∷ ns) k)
       less lt = make Less (cmp_less k m lt) ((lt, all_above m ns lt up.0), up)

@@ -1,6 +1,8 @@
 -- Answers of numbers in a row.
-use Rattle.std.proofs.Common.{◌≡◌, ◌∙◌, ◌+◌, ◌-◌, ◌<◌, ◌≤◌, ℕ, zero, suc, Bool, true, false, List, [], ◌∷◌, ◌++◌, Some, Result, Ok, Err}
-use Rattle.std.proofs.Common.{arith, ap, ap₂, append-nil, append_assoc, get_or, inl, inr, length, map, not, refl, subst, sym, take}
+use Rattle.std.proofs.Common.{◌≡◌, ◌∙◌, ◌+◌, ◌-◌, ◌<◌, ◌≤◌, ℕ, zero, suc, Bool, true, false, List, [], ◌∷◌}
+use Rattle.std.proofs.Common.{◌++◌, Some, Result, Ok, Err}
+use Rattle.std.proofs.Common.{arith, ap, ap₂, append-nil, append_assoc, get_or, inl, inr, length, map, not}
+use Rattle.std.proofs.Common.{refl, subst, sym, take}
 use Rattle.std.specs.Prelude.{◌==◌, ◌&&◌, ◌||◌, ◌⊎◌, OnOk, filter, if◌then◌else◌, nat_le, nat_lt, slice_get, slice_set}
 use Rattle.std.specs.List.{AllByRecursion, list_any, refill}
 use Rattle.std.proofs.lemmas.Bool.{cases_lt}
@@ -33,7 +35,7 @@ refilled xs ws e =
 -- a row of answers --------------------------------------------------------------------------------------------------
 
 module _ (n number : ℕ) where
-  -- one of another switch has no answer of this one, and one that ends before a number or begins behind it has none of it
+  -- a row of another switch has no answer of this one, and one that ends before a number or begins behind it not that
   other_switch : (s first count : ℕ) → (s == n) ≡ false → list_any (is_part n number) (row s first count) ≡ false
   other_switch s first zero e = refl
   other_switch s first (suc count) e =
@@ -89,7 +91,9 @@ module _ (n number : ℕ) where
           ∙ (and_false (s.switch == n) ∙ sym (out_of s.switch s.first (suc (s.last - s.first)) out))
 
       low_false : number < s.first → (nat_le s.first number && nat_le number s.last) ≡ false
-      low_false lt = ap (λ (b : Bool). b && nat_le number s.last) (let f : nat_le s.first number ≡ false = grind (arith, nat_tests) in f)
+      low_false lt =
+          let f : nat_le s.first number ≡ false = grind (arith, nat_tests) in
+          ap (λ (b : Bool). b && nat_le number s.last) f
 
       high_false : s.last < number → (nat_le s.first number && nat_le number s.last) ≡ false
       high_false lt =

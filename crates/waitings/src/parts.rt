@@ -1,5 +1,6 @@
 //! The answers that are waited for, those of one switch with numbers in a row together.
-ghost use Rattle.std.specs.Prelude.{◌≡◌, ◌≤◌, ◌-◌, ◌==◌, ◌∷◌, ◌++◌, [], IfOk, IsTrue, OnErr, OnOk, false, filter, length};
+ghost use Rattle.std.specs.Prelude.{◌≡◌, ◌≤◌, ◌-◌, ◌==◌, ◌∷◌, ◌++◌, [], IfOk, IsTrue, OnErr, OnOk, false};
+ghost use Rattle.std.specs.Prelude.{filter, length};
 ghost use Rattle.std.specs.Prelude.{map, not, suc};
 ghost use Rattle.std.specs.List.{AllByRecursion, list_any};
 ghost use Rattle.waitings.specs.InsideSpans.{IsSpan, all_spelled, has_in, is_next, row, span_with_xid, spelled};

@@ -31,10 +31,13 @@ pub returns-clause-replaced : goal.returns-clause-replaced
 returns-clause-replaced g c =
     let items = c.args.items in
     let front : arc_value c.in_ok-first.first ≡ take 16 items =
-    c.in_ok-first.ensures.ok ∙ (c.from_vec.ensures ∙ (c.in_ok-back.ensures.items ∙ ap (take 16) c.into_vec-front.ensures)) in
+    c.in_ok-first.ensures.ok
+    ∙ (c.from_vec.ensures ∙ (c.in_ok-back.ensures.items ∙ ap (take 16) c.into_vec-front.ensures)) in
     let back : arc_value c.in_ok-second.second ≡ drop 16 items =
-    c.in_ok-second.ensures.ok ∙ (c.from_vec-2.ensures ∙ (c.in_ok-back.ensures.tail ∙ ap (drop 16) c.into_vec-front.ensures)) in
-    ap joined (c.set-2.ensures ∙ ap (λ rs. slice_set rs c.args.place c.in_ok-first.first) c.in_ok-insert.ensures.inserted)
+    c.in_ok-second.ensures.ok
+    ∙ (c.from_vec-2.ensures ∙ (c.in_ok-back.ensures.tail ∙ ap (drop 16) c.into_vec-front.ensures)) in
+    ap joined (c.set-2.ensures
+    ∙ ap (λ rs. slice_set rs c.args.place c.in_ok-first.first) c.in_ok-insert.ensures.inserted)
     ∙ (parted_next c.args.runs.now c.args.place c.in_ok-first.first c.in_ok-second.second c.requires
     ∙ (ap (with_items c.args.runs.now c.args.place) ((λ i. front i ++ back i) ∙ take-append-drop 16 items)
     ∙ at_next c.args.runs.now c.args.place items))
@@ -43,9 +46,11 @@ pub returns-clause-each : goal.returns-clause-each
 returns-clause-each g c have =
     let items = c.args.items in
     let front : arc_value c.in_ok-first.first ≡ take 16 items =
-    c.in_ok-first.ensures.ok ∙ (c.from_vec.ensures ∙ (c.in_ok-back.ensures.items ∙ ap (take 16) c.into_vec-front.ensures)) in
+    c.in_ok-first.ensures.ok
+    ∙ (c.from_vec.ensures ∙ (c.in_ok-back.ensures.items ∙ ap (take 16) c.into_vec-front.ensures)) in
     let back : arc_value c.in_ok-second.second ≡ drop 16 items =
-    c.in_ok-second.ensures.ok ∙ (c.from_vec-2.ensures ∙ (c.in_ok-back.ensures.tail ∙ ap (drop 16) c.into_vec-front.ensures)) in
+    c.in_ok-second.ensures.ok
+    ∙ (c.from_vec-2.ensures ∙ (c.in_ok-back.ensures.tail ∙ ap (drop 16) c.into_vec-front.ensures)) in
     subst HaveItems
     (sym (c.set-2.ensures ∙ ap (λ rs. slice_set rs c.args.place c.in_ok-first.first) c.in_ok-insert.ensures.inserted))
     (have_parted_next c.args.runs.now c.args.place c.in_ok-first.first c.in_ok-second.second

@@ -7,4 +7,5 @@ pub returns-clause-back : goal.returns-clause-back
 returns-clause-back c =
     on_ok c.push.result c.push.ensures.pushed
     (λ e. ap all_spelled e ∙ (one_more c.args.spans.now _
-    ∙ ap (λ ps. all_spelled c.args.spans.now ++ ps) (back_spelled c.args.span.now c.args.number c.if-span-number.false)))
+    ∙ ap (λ ps. all_spelled c.args.spans.now ++ ps)
+    (back_spelled c.args.span.now c.args.number c.if-span-number.false)))

@@ -7,4 +7,5 @@ pub returns-clause-front : goal.returns-clause-front
 returns-clause-front c =
     on_ok c.push.result c.push.ensures.pushed
     (λ e. ap all_spelled e ∙ (one_more c.args.spans.now _
-    ∙ ap (λ ps. all_spelled c.args.spans.now ++ ps) (front_spelled c.args.span.now c.args.number c.if-number-span.false)))
+    ∙ ap (λ ps. all_spelled c.args.spans.now ++ ps)
+    (front_spelled c.args.span.now c.args.number c.if-number-span.false)))
