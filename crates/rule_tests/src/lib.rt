@@ -18,6 +18,8 @@ mod priorities;
 #[cfg(test)]
 mod pulls;
 #[cfg(test)]
+mod shared_lists;
+#[cfg(test)]
 mod stores;
 #[cfg(test)]
 mod tables;

@@ -1,0 +1,50 @@
+//! Lists that copies share.
+use cv_io::{Duplicate, Memory};
+use shared_list::{SharedList, Wanted};
+use std::alloc::Global;
+use std::test::Fail;
+
+/// Numbers from one on are wanted.
+#[derive(Drop)]
+struct From(u64);
+
+impl Wanted<u64> for From {
+    ghost use Rattle.std.specs.Prelude.{nat_le};
+
+    ghost wants = { λ a. nat_le a.0 };
+
+    fn wants(&self, number: &u64) -> bool {
+        self.0 <= *number
+    }
+}
+
+/// Even numbers from 0 to 198: more than a run has.
+fn evens(alloc: Global) -> Result<SharedList<u64>, Memory> {
+    let mut list = SharedList::new(alloc);
+    for half in 0..100u64 {
+        list.push(half + half)?;
+    }
+    Ok(list)
+}
+
+/// The last item, and how many there are.
+fn end(list: &SharedList<u64>) -> Result<(Option<u64>, usize), Memory> {
+    let items = list.listed()?;
+    Ok((items.as_slice().last().copied(), items.len()))
+}
+
+#[test]
+fn items_are_put_and_taken(rt: HostRuntime) -> Result<(), Fail> {
+    let mut list = evens(rt.alloc())?;
+    let copied = list.copy()?;
+    list.put(&From(101), 101)?;
+    assert_eq!(rt; list.first(&From(101)), Some(&101));
+    assert_eq!(rt; list.take(&From(102))?, Some(102));
+    assert_eq!(rt; list.take_first(&From(199))?, None);
+    assert_eq!(rt; list.take_first(&From(198))?, Some(198));
+    list.put(&From(300), 300)?;
+    assert_eq!(rt; end(&list)?, (Some(300), 100));
+    assert_eq!(rt; copied.first(&From(101)), Some(&102));
+    assert_eq!(rt; end(&copied)?, (Some(198), 100));
+    Ok(())
+}
