@@ -27,6 +27,13 @@ fn evens(alloc: Global) -> Result<SharedList<u64>, Memory> {
     Ok(list)
 }
 
+/// These and 101.
+fn with_odd(alloc: Global) -> Result<SharedList<u64>, Memory> {
+    let mut list = evens(alloc)?;
+    list.put(&From(101), 101)?;
+    Ok(list)
+}
+
 /// The last item, and how many there are.
 fn end(list: &SharedList<u64>) -> Result<(Option<u64>, usize), Memory> {
     let items = list.listed()?;
@@ -34,17 +41,28 @@ fn end(list: &SharedList<u64>) -> Result<(Option<u64>, usize), Memory> {
 }
 
 #[test]
-fn items_are_put_and_taken(rt: HostRuntime) -> Result<(), Fail> {
-    let mut list = evens(rt.alloc())?;
-    let copied = list.copy()?;
-    list.put(&From(101), 101)?;
+fn an_item_is_put_in_its_place(rt: HostRuntime) -> Result<(), Fail> {
+    let list = with_odd(rt.alloc())?;
     assert_eq!(rt; list.first(&From(101)), Some(&101));
+    assert_eq!(rt; list.first(&From(102)), Some(&102));
+    assert_eq!(rt; end(&list)?, (Some(198), 101));
+    Ok(())
+}
+
+#[test]
+fn items_are_taken(rt: HostRuntime) -> Result<(), Fail> {
+    let mut list = with_odd(rt.alloc())?;
     assert_eq!(rt; list.take(&From(102))?, Some(102));
     assert_eq!(rt; list.take_first(&From(199))?, None);
-    assert_eq!(rt; list.take_first(&From(198))?, Some(198));
+    assert_eq!(rt; end(&list)?, (Some(198), 100));
+    Ok(())
+}
+
+#[test]
+fn a_copy_stays(rt: HostRuntime) -> Result<(), Fail> {
+    let mut list = evens(rt.alloc())?;
+    let copied = list.copy()?;
     list.put(&From(300), 300)?;
-    assert_eq!(rt; end(&list)?, (Some(300), 100));
-    assert_eq!(rt; copied.first(&From(101)), Some(&102));
     assert_eq!(rt; end(&copied)?, (Some(198), 100));
     Ok(())
 }

@@ -50,18 +50,23 @@ fn a_round_is_counted(rt: HostRuntime) -> Result<(), Fail> {
     Ok(())
 }
 
+/// What the removal of a cookie is before a barrier is answered, the barrier's number, and what it is after that.
+fn removals(known: &mut Known) -> Result<(Removal, Option<u64>, Removal), Memory> {
+    let early = known.flow_removed(1)?;
+    let number = known.barrier_reply(3)?;
+    let late = known.flow_removed(1)?;
+    Ok((early, number, late))
+}
+
 /// The removal is ignored before a barrier is answered, and then taken once.
 #[test]
 fn a_removal_is_taken_once(rt: HostRuntime) -> Result<(), Fail> {
     let (mut known, _) = round(rt.alloc())?;
-    let early = known.flow_removed(1)?;
-    let number = known.barrier_reply(3)?;
-    let first = known.flow_removed(1)?;
-    let second = known.flow_removed(1)?;
+    let (early, number, late) = removals(&mut known)?;
     assert_eq!(rt; early, Removal::Ignored);
     assert_eq!(rt; number, Some(1));
-    assert_eq!(rt; first, Removal::Taken);
-    assert_eq!(rt; second, Removal::Strange);
+    assert_eq!(rt; late, Removal::Taken);
+    assert_eq!(rt; known.flow_removed(1)?, Removal::Strange);
     Ok(())
 }
 
