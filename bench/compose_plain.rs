@@ -1,5 +1,5 @@
-//! The same job as `crates/bench_compose`, in plain Rust: the rules of two members are composed, and kept
-//! as entries of the left member come and go.
+//! The same job as the part `compose` of `crates/bench_parts`, in plain Rust: the rules of two members are
+//! composed, and kept as entries of the left member come and go.
 use std::collections::{BTreeSet, HashMap};
 use std::env;
 

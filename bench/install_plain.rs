@@ -1,5 +1,5 @@
-//! The same job as `crates/bench_install`, in plain Rust: entries are put on a switch, some change, all
-//! are installed anew, and switches report.
+//! The same job as the part `install` of `crates/bench_parts`, in plain Rust: entries are put on a switch, some
+//! change, all are installed anew, and switches report.
 use std::collections::{BTreeMap, HashMap};
 use std::env;
 

@@ -1,5 +1,5 @@
-//! The same job as `crates/bench_join`, in plain Rust: each rule of the left is joined with each of
-//! the right, under `+` and under `>>`.
+//! The same job as the part `join` of `crates/bench_parts`, in plain Rust: each rule of the left is joined with
+//! each of the right, under `+` and under `>>`.
 #[derive(Clone, Copy, PartialEq)]
 struct Prefix {
     addr: u32,

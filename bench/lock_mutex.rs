@@ -1,5 +1,5 @@
-//! The same job as `crates/bench_lock`, in plain Rust: threads post to a counting machine under a
-//! `Mutex` of std, which takes each number that isn't 0 and keeps it, as the lock keeps its events.
+//! The same job as the part `lock` of `crates/bench_parts`, in plain Rust: threads post to a counting machine
+//! under a `Mutex` of std, which takes each number that isn't 0 and keeps it, as the lock keeps its events.
 use std::sync::Mutex;
 use std::thread;
 

@@ -1,5 +1,5 @@
-//! The same job as `crates/bench_map`, in plain Rust: headers are followed through a policy of one, four
-//! or twelve members, each of which has a flow table.
+//! The same job as the part `map` of `crates/bench_parts`, in plain Rust: headers are followed through a policy
+//! of one, four or twelve members, each of which has a flow table.
 use std::collections::HashMap;
 use std::env;
 

@@ -1,4 +1,5 @@
-//! The same job as `crates/bench_packet`, in plain Rust: reads or rewrites four frames so many times.
+//! The same job as the part `packet` of `crates/bench_parts`, in plain Rust: reads or rewrites four frames so
+//! many times.
 const FRAMES: [[u8; 60]; 4] = [
     [
         0x00, 0x00, 0x00, 0x00, 0x00, 0x02, 0x00, 0x00, 0x00, 0x00, 0x00, 0x01, 0x08, 0x00, 0x45,

@@ -1,5 +1,5 @@
-//! The same job as `crates/bench_table`, in plain Rust: entries are added to a table, given other
-//! actions and taken out, each by a message.
+//! The same job as the part `table` of `crates/bench_parts`, in plain Rust: entries are added to a table, given
+//! other actions and taken out, each by a message.
 use std::collections::{BTreeMap, HashMap, HashSet};
 
 #[derive(Clone, Copy, PartialEq, Eq, Hash)]

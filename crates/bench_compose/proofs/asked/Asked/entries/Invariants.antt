@@ -1,5 +1,0 @@
-use Rattle.bench_compose.proofs.Entries.{AreNumbered}
-use Rattle.bench_compose.proofs.asked.Asked.entries.Given as goal
-
-abbrev pub invariant-loop-number : goal.invariant-loop-number
-invariant-loop-number l = AreNumbered l.number l.entries

@@ -1,7 +1,0 @@
-use Rattle.bench_compose.proofs.Entries.{sound-table}
-use Rattle.bench_compose.proofs.asked.Asked.table.Goals as goal
-
-pub returns : goal.returns
-returns c =
-    sound-table c.args.member c.in_ok-region.region c.in_ok-visible.visible c.in_ok-entries.entries c.in_ok-entries.ensures c.in_ok-region.ensures
-    c.in_ok-visible.ensures

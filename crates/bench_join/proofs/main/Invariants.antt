@@ -1,5 +1,0 @@
-use Rattle.bench_join.proofs.main.Given as goal
-
--- the ledger of the counter is the blank one's
-abbrev pub ghosts-counted : goal.ghosts-counted
-ghosts-counted a = record { name = a.blank.name; parts = a.blank.parts }
