@@ -7,6 +7,7 @@ mod install;
 mod join;
 mod lock;
 mod map;
+mod nets;
 mod packet;
 mod parts;
 mod table;

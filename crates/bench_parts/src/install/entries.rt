@@ -1,22 +1,12 @@
 //! The entries that are put on the switch.
 ghost use Rattle.std.specs.Prelude.{◌<◌, ◌≤◌};
-ghost use Rattle.of10_match.specs.Ranges.{IsPrefix};
 
+use crate::nets::net;
 use cv_io::{Leaf, List, Memory};
 use of10_actions::Action;
-use of10_match::{Header, IPV4, Match, Prefix, TCP, UNTAGGED};
+use of10_match::{Header, IPV4, Match, TCP, UNTAGGED};
 use std::alloc::Global;
 use switch_meaning::PhysEntry;
-
-/// The net 10.x.y.0/24 of this number.
-fn net(number: u32) -> Prefix
-    ensures { IsPrefix result }
-{
-    Prefix {
-        addr: (0x000a_0000 + number % 0x10_0000) * 256,
-        len: 24,
-    }
-}
 
 /// A TCP packet of the port to a host of the net of this number.
 pub fn header(number: u32) -> Header {

@@ -1,26 +1,16 @@
 //! The rules that are joined.
-ghost use Rattle.of10_match.specs.Ranges.{IsPrefix};
 
+use crate::nets::net;
 use cv_io::{Leaf, List, Memory};
 use of10_actions::{Dest, Effects, Out, Rewrite, Tail};
-use of10_match::{Match, Prefix};
+use of10_match::Match;
 use op_compose::{Rule, leaf};
 use std::alloc::Global;
 
 /// How many levels an operand's rules have.
 pub const SIZE: u64 = 16;
 
-/// The net 10.x.y.0/24 of this number.
-fn net(number: u16) -> Prefix
-    ensures { IsPrefix result }
-{
-    Prefix {
-        addr: (0x000a_0000 + u32::from(number)) * 256,
-        len: 24,
-    }
-}
-
-/// An address in that net.
+/// An address in the net of this number.
 fn server(number: u16) -> u32 {
     0x0a00_0001 + u32::from(number) * 256
 }
@@ -30,7 +20,7 @@ fn from_net(number: u16) -> Match {
     Match {
         in_port: Some(1 + number % 4),
         dl_type: Some(0x0800),
-        nw_src: Some(net(number)),
+        nw_src: Some(net(u32::from(number))),
         ..Match::everything()
     }
 }
@@ -40,7 +30,7 @@ fn to_net(number: u16) -> Match {
     Match {
         in_port: Some(1 + number % 4),
         dl_type: Some(0x0800),
-        nw_dst: Some(net(number)),
+        nw_dst: Some(net(u32::from(number))),
         ..Match::everything()
     }
 }

@@ -1,14 +1,14 @@
 //! The members' tables.
 ghost use Rattle.std.specs.Prelude.{◌<◌, ◌≤◌, IfOk};
 ghost use Rattle.of10_actions.specs.Actions.{AreInRange};
-ghost use Rattle.of10_match.specs.Ranges.{IsPrefix};
 
 use super::asked::Asked;
 use super::fault::Fault;
+use crate::nets::net;
 use cv_io::{List, Memory};
 use member_table::{Table, TableFault};
 use of10_actions::{Action, port};
-use of10_match::{Match, Prefix, TCP};
+use of10_match::{Match, TCP};
 use of10_msgs::{Command, FlowMod};
 use std::alloc::Global;
 
@@ -17,16 +17,6 @@ const LIMIT: u32 = 4096;
 
 /// How many priorities there are.
 const PRIORITIES: u32 = 64;
-
-/// The net 10.x.y.0/24 of this number.
-pub fn net(number: u32) -> Prefix
-    ensures { IsPrefix result }
-{
-    Prefix {
-        addr: (0x000a_0000 + number % 0x1_0000) * 256,
-        len: 24,
-    }
-}
 
 /// Packets to the net of this number: of one port or of any, and of TCP or of any protocol.
 fn to_net(number: u32) -> Match {

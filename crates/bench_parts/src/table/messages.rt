@@ -1,29 +1,19 @@
 //! The messages that are sent.
 ghost use Rattle.std.specs.Prelude.{◌<◌, IfOk};
 ghost use Rattle.of10_actions.specs.Actions.{AreInRange};
-ghost use Rattle.of10_match.specs.Ranges.{IsPrefix};
 
+use crate::nets::net;
 use cv_io::{List, Memory};
 use of10_actions::{Action, port};
-use of10_match::{Match, Prefix};
+use of10_match::Match;
 use of10_msgs::{Command, FlowMod};
 use std::alloc::Global;
-
-/// The net 10.x.y.0/24 of this number.
-fn net(number: u16) -> Prefix
-    ensures { IsPrefix result }
-{
-    Prefix {
-        addr: (0x000a_0000 + u32::from(number)) * 256,
-        len: 24,
-    }
-}
 
 /// Packets to the net of this number.
 fn to_net(number: u16) -> Match {
     Match {
         dl_type: Some(0x0800),
-        nw_dst: Some(net(number)),
+        nw_dst: Some(net(u32::from(number))),
         ..Match::everything()
     }
 }
