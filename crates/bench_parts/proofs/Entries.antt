@@ -1,5 +1,5 @@
 -- The entries of a member make a sound table.
-use Rattle.std.proofs.Common.{◌≡◌, ◌==◌, ℕ, ◌<◌, ◌+◌, ◌^◌, false, List, [], ◌∷◌, ◌++◌, refl, ap, sym, ◌∙◌, subst, arith}
+use Rattle.std.proofs.Common.{◌≡◌, ◌==◌, ℕ, ◌<◌, ◌+◌, false, List, [], ◌∷◌, ◌++◌, refl, ap, sym, ◌∙◌, subst, arith}
 use Rattle.std.specs.List.{AllByRecursion}
 use Rattle.of10_match.specs.Fields.{MatchOf}
 use Rattle.of10_match.specs.Matching.{everything, overlaps}
@@ -7,13 +7,11 @@ use Rattle.of10_match.specs.Normal.{IsNormal}
 use Rattle.of10_actions.specs.Effects.{BuildsUp, EachExtends, TailExtends}
 use Rattle.of10_actions.specs.Fields.{RewriteOf}
 use Rattle.of10_actions.specs.Rewriting.{Extends, no_rewrite}
-use Rattle.of10_actions.specs.declared.effects.Effects.{Effects}
 use Rattle.of10_actions.specs.declared.effects.Out.{Out}
 use Rattle.of10_actions.specs.declared.effects.Tail.{Tail}
 use Rattle.of10_actions.specs.declared.effects.Tail.TheVariants.{Nothing}
 use Rattle.policy_meaning.specs.LeafFact.{AreApart, EachPair, IsSoundEntry, IsSoundTable}
 use Rattle.policy_meaning.specs.declared.leaf.LeafEntry.{LeafEntry}
-use Rattle.policy_meaning.specs.declared.leaf.LeafTable.{LeafTable}
 use Rattle.policy_meaning.proofs.Lists.{all-append, all-map}
 use Rattle.policy_meaning.proofs.Normality.{normal-everything}
 use Rattle.bench_parts.specs.Entries.{AreEntries, IsEntry, SIZE}
