@@ -15,6 +15,7 @@ pub mod Seen
 pub mod MemberBodies
 pub mod Placed
 pub mod Requesting
+pub mod PortsStill
 pub mod PortsTold
 pub mod Expiring
 pub mod Doubting

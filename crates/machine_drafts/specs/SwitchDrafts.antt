@@ -39,3 +39,8 @@ standing_switch x = record { base = x; now = switch_of x; standing = x.standing 
 pub record IsUnmoved (d : SwitchDraftOf) : Type 0 where
   pub up : d.now.outbox.up ≡ d.base.outbox.up
   pub standing : d.standing ≡ d.base.standing
+
+-- it is up or down as it was, and what is known of it is what was
+pub record IsStill (d : SwitchDraftOf) : Type 0 where
+  pub up : d.now.outbox.up ≡ d.base.outbox.up
+  pub known : d.now.known ≡ d.base.known

@@ -9,7 +9,8 @@ ghost use Rattle.switch_state.specs.Reports.{removal};
 ghost use Rattle.switch_state.specs.Sending.{send, send_all, sending_of};
 ghost use Rattle.machine_meaning.specs.Rounds.{begun_switch, ended_switch};
 ghost use Rattle.machine_drafts.specs.Moving.{IsSwitchPart, standing_moved, switch_moved, switch_put};
-ghost use Rattle.machine_drafts.specs.SwitchDrafts.{IsUnmoved, standing_switch, with_known, with_round, with_written};
+ghost use Rattle.machine_drafts.specs.SwitchDrafts.{IsStill, IsUnmoved, standing_switch};
+ghost use Rattle.machine_drafts.specs.SwitchDrafts.{with_known, with_round, with_written};
 ghost use Rattle.machine_drafts.specs.Views.{standing_of, switch_of};
 
 use crate::session::Switch;
@@ -131,6 +132,13 @@ impl<'a> SwitchDraft<'a> {
         ensures { IsTrue result → IsUnmoved self.now }
     {
         self.turn.up == self.base.outbox.is_up() && self.standing.is_none()
+    }
+
+    /// It is up or down as it was, and what is known of it is what was.
+    pub fn is_still(&self) -> bool
+        ensures { IsTrue result → IsStill self.now }
+    {
+        self.turn.up == self.base.outbox.is_up() && self.known.is_none()
     }
 
     /// The round ends: nothing is known of the switch any more, and nothing stands on it.

@@ -1,6 +1,6 @@
 //! Members are told which outside ports went dark, and which aren't dark any more.
-ghost use Rattle.std.specs.Prelude.{◌≡◌, ◌++◌, ◌<◌, OnOk, flat_map, length, map};
-ghost use Rattle.std.specs.List.{enumerate_from};
+ghost use Rattle.std.specs.Prelude.{◌≡◌, ◌++◌, ◌<◌, IsTrue, OnOk, flat_map, length, map};
+ghost use Rattle.std.specs.List.{AllByRecursion, enumerate_from};
 ghost use Rattle.policy_file.specs.declared.policy.MemberItem.{MemberItem as MemberItemOf};
 ghost use Rattle.policy_file.specs.Policies.{plan};
 ghost use Rattle.machine_drafts.specs.InsideSwitches.{is_dark_among, is_dark_over};
@@ -10,6 +10,7 @@ ghost use Rattle.machine_meaning.specs.Lists.{places};
 ghost use Rattle.machine_drafts.specs.Outcomes.{bases, draft_in, members_in, switch_bases, switches_in};
 ghost use Rattle.machine_meaning.specs.States.{State};
 ghost use Rattle.machine_meaning.specs.Telling.{tell_ports as tell_ports_of};
+ghost use Rattle.machine_drafts.specs.SwitchDrafts.{IsStill};
 ghost use Rattle.machine_drafts.specs.Views.{switch_of};
 
 use crate::looking::is_dark_at;
@@ -168,6 +169,31 @@ fn tell_members(
     Ok(())
 }
 
+/// Switches are up or down as they were, and what is known of them is what was.
+fn are_still(switches: &[SwitchDraft<'_>]) -> bool
+    ensures { IsTrue result → AllByRecursion IsStill switches.now }
+{
+    switches.iter().all(|switch| switch.is_still())
+}
+
+/// Each member that is up is told of the outside ports that it sees and that changed. Most events change nothing at a
+/// switch, and then no port is looked at.
+fn tell_turned(
+    setup: &Setup,
+    members: &[MemberDraft<'_>],
+    switches: &[SwitchDraft<'_>],
+    letters: &mut List<Letter>,
+) -> Result<(), Memory>
+    ensures { OnOk result (letters.new ≡ letters.old ++ flat_map
+        (member_letters setup.now (members_in members.now) (switches_before switches.now) (switches_in switches.now))
+        (enumerate_from 0 setup.now.members)) }
+{
+    if are_still(switches) {
+        return Ok(());
+    }
+    tell_members(setup, members, switches, letters)
+}
+
 /// Each member that is up is told of the outside ports that it sees and that changed.
 pub fn tell_ports(setup: &Setup, draft: &mut Outcome<'_>) -> Result<(), Memory>
     ensures drafted { OnOk result ((before : State)
@@ -175,7 +201,7 @@ pub fn tell_ports(setup: &Setup, draft: &mut Outcome<'_>) -> Result<(), Memory>
         → draft_in draft.new ≡ tell_ports_of setup.now before (draft_in draft.old)) }
     ensures bases { OnOk result (bases draft.new ≡ bases draft.old) }
 {
-    tell_members(
+    tell_turned(
         setup,
         draft.members.as_slice(),
         draft.switches.as_slice(),

@@ -28,8 +28,8 @@ pub struct PolicyLock<M: Machine> {
         Law<M>,
         Global,
     >,
-    /// How many seats sleep until the machine is given back.
-    pub(crate) waiting: AtomicU64,
+    /// 1 where a seat may sleep that no one wakes yet.
+    pub(crate) asleep: AtomicU64,
 }
 
 impl<M: Machine> Model for PolicyLock<M> {

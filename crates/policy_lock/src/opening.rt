@@ -51,7 +51,7 @@ impl<M: Machine> PolicyLock<M> {
             Ok((table, token)) => Ok((
                 PolicyLock {
                     table,
-                    waiting: AtomicU64::new(0),
+                    asleep: AtomicU64::new(0),
                 },
                 Seat {
                     token,

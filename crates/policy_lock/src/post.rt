@@ -19,8 +19,8 @@ use std::sync::ledger::Ledger;
 use std::thread;
 use std::thread::Threads;
 
-// How often a seat that waits lets other threads run before it sleeps for a while.
-const YIELDS: u32 = 200;
+// How often a seat that waits lets other threads run before it sleeps.
+const YIELDS: u32 = 32;
 
 impl<M: Machine> PolicyLock<M> {
     /// Gives the event to the machine, once no other seat holds it. An event that
@@ -88,31 +88,35 @@ impl<M: Machine> PolicyLock<M> {
                 let found = shared.compare_exchange::<Take>(token, 0, word, word + 1);
                 if found == word {
                     let locked = shared.exchange(token, 0, None).unwrap();
+                    if tries > YIELDS {
+                        // Beside this seat, which was woken, others may sleep.
+                        self.asleep.store(1, Ordering::SeqCst);
+                    }
                     return (word, locked);
                 }
-            }
-            if tries < YIELDS {
+            } else if tries < YIELDS {
                 tries += 1;
                 thread::yield_now();
             } else {
-                self.wait(rt, word);
+                tries = YIELDS + 1;
+                self.sleep(rt, word);
             }
         }
         unreachable!()
     }
 
-    // Sleeps until a seat gives the machine back, if the word is still this one.
-    fn wait<R: Wait>(&self, rt: &R, word: u64) {
+    // Sleeps until a seat gives the machine back, if the word is still this one, by which one holds it.
+    fn sleep<R: Wait>(&self, rt: &R, word: u64) {
         // What a sleep compares is the low half of the word.
         let low = (word % (1 << 32)) as u32;
-        self.waiting.fetch_add(1, Ordering::SeqCst);
+        self.asleep.store(1, Ordering::SeqCst);
         self.table.shared.park(rt, 0, low);
-        self.waiting.fetch_sub(1, Ordering::SeqCst);
     }
 
-    // Wakes a seat that sleeps. The word was changed before, so none falls asleep unseen.
+    // Wakes a seat, if one may sleep. The word was changed before, so none falls asleep unseen. Until that seat has had
+    // its turn no further one is woken: those that are awake need no call of the system meanwhile.
     fn wake(&self) {
-        if self.waiting.load(Ordering::SeqCst) > 0 {
+        if self.asleep.load(Ordering::SeqCst) > 0 && self.asleep.swap(0, Ordering::SeqCst) > 0 {
             self.table.shared.wake_one(0);
         }
     }

@@ -16,7 +16,7 @@ returns-clause-drafted c =
     let p = c.args.setup.now in
     let d = draft_in o in
     ap (λ (ls : List Letter). record d { ports = ls })
-    (c.in_ok-tell_members.ensures
+    (c.in_ok-tell_turned.ensures
     ∙ (ap₂ (λ (ms : List MemberDraftOf) (xs : List SwitchDraftOf). o.ports
     ++ flat_map (member_letters p (members_in ms) (switches_before xs) (switches_in xs))
     (enumerate_from 0 p.members))
