@@ -1,6 +1,6 @@
 //! The places that a plan uses.
-ghost use Rattle.std.specs.Prelude.{◌≡◌, ◌++◌, OnOk, OnErr, IfOk, map};
-ghost use Rattle.virtual_topology.specs.Places.{uses as uses_of, ends, pair_uses, port_uses, item_uses};
+ghost use Rattle.std.specs.Prelude.{◌≡◌, ◌∷◌, ◌++◌, [], OnOk, OnErr, IfOk, map};
+ghost use Rattle.virtual_topology.specs.Places.{uses as uses_of, ends, in_role, pair_uses, port_uses, item_uses};
 ghost use Rattle.virtual_topology.specs.Shown.{shown};
 ghost use Rattle.std.specs.Hash as fed;
 ghost use Rattle.std.specs.Cmp.Rules.{hashing};
@@ -57,13 +57,21 @@ impl<'a> Use<'a> {
     }
 }
 
+/// Appends a place in a role.
+fn push_place<'a>(uses: &mut Vec<Use<'a>>, role: Role, place: &'a PortPlace) -> Result<(), Memory>
+    ensures { OnOk result (map shown uses.new.items ≡ map shown uses.old.items ++ in_role role place.now ∷ []) }
+{
+    uses.push(Use::of(role, place))?;
+    Ok(())
+}
+
 /// Appends the ends of a pair, one where both are one place.
 fn push_pair<'a>(uses: &mut Vec<Use<'a>>, role: Role, pair: &'a PairItem) -> Result<(), Memory>
     ensures { OnOk result (map shown uses.new.items ≡ map shown uses.old.items ++ ends role pair.now) }
 {
-    uses.push(Use::of(role, &pair.a))?;
+    push_place(uses, role, &pair.a)?;
     if pair.a != pair.b {
-        uses.push(Use::of(role, &pair.b))?;
+        push_place(uses, role, &pair.b)?;
     }
     Ok(())
 }
@@ -92,7 +100,7 @@ fn push_port<'a>(
         port: port.port,
     })?;
     if let Some(place) = &port.at {
-        uses.push(Use::of(Role::Physical, place))?;
+        push_place(uses, Role::Physical, place)?;
     }
     Ok(())
 }

@@ -1,5 +1,5 @@
 //! How ports are joined, by numbers.
-ghost use Rattle.std.specs.Prelude.{◌≡◌, ◌++◌, ◌<◌, ◌^◌, IfOk, OnOk, option_to_list, length};
+ghost use Rattle.std.specs.Prelude.{◌≡◌, ◌∷◌, ◌++◌, ◌<◌, [], ◌^◌, IfOk, OnOk, option_to_list, length};
 ghost use Rattle.std.specs.List.{list_any};
 ghost use Rattle.virtual_topology.specs.Wires.{both_ways as both_ways_of, item_joints as item_joints_of, joints_among, lie_apart as lie_apart_of, lies_off, outside_among, outside_row as outside_row_of, pair_joint as pair_joint_of, turned as turned_of};
 
@@ -92,14 +92,22 @@ pub(crate) fn pair_joints<'a>(
     Ok(joints)
 }
 
+/// Appends a joint both ways.
+fn push_both(ways: &mut Vec<Joint>, joint: &Joint) -> Result<(), Memory>
+    ensures { OnOk result (ways.new.items ≡ ways.old.items ++ joint.now ∷ (joint.now.1, joint.now.0) ∷ []) }
+{
+    ways.push(*joint)?;
+    ways.push((joint.1, joint.0))?;
+    Ok(())
+}
+
 /// From each end to the other.
 pub(crate) fn both_ways(alloc: Global, joints: &[Joint]) -> Result<Vec<Joint>, Memory>
     ensures { IfOk result (λ ways. ways.items ≡ both_ways_of joints.now) }
 {
     let mut ways = Vec::new(alloc);
     for joint in joints {
-        ways.push(*joint)?;
-        ways.push((joint.1, joint.0))?;
+        push_both(&mut ways, joint)?;
     }
     Ok(ways)
 }
