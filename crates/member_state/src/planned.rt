@@ -95,21 +95,28 @@ fn copy_modified(alloc: Global, modified: &[Modified]) -> Result<List<Modified>,
     Ok(copied)
 }
 
+/// A copy of what a message changes. What holds actions comes last, so that fewer failures have to drop it.
+fn copy_change(alloc: Global, change: &Change) -> Result<Change, Memory>
+    ensures { IfOk result (λ copied. copied ≡ change.now) }
+{
+    Ok(Change {
+        removed: change.removed.copied()?,
+        modified: copy_modified(alloc, change.modified.as_slice())?,
+        added: copy_added(&change.added)?,
+    })
+}
+
 impl Planned {
     /// A copy.
     pub(crate) fn copied(&self, alloc: Global) -> Result<Planned, Memory>
         ensures { IfOk result (λ copied. copied ≡ self.now) }
     {
         Ok(Planned {
-            change: Change {
-                added: copy_added(&self.change.added)?,
-                removed: self.change.removed.copied()?,
-                modified: copy_modified(alloc, self.change.modified.as_slice())?,
-            },
             ranks: self.ranks.copied()?,
             dropped: self.dropped.copied()?,
             touched: self.touched.copied()?,
             levels: self.levels.copy()?,
+            change: copy_change(alloc, &self.change)?,
         })
     }
 }

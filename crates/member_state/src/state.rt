@@ -62,10 +62,12 @@ impl MemberState {
 
 impl Duplicate for MemberState {
     fn copy(&self) -> Result<MemberState, Memory> {
+        // The table comes last, so that no failure has to drop one.
+        let levels = self.levels.copy()?;
         Ok(MemberState {
             alloc: self.alloc,
             table: self.table.copy()?,
-            levels: self.levels.copy()?,
+            levels,
         })
     }
 }

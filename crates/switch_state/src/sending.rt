@@ -30,6 +30,30 @@ fn has_place(messages: &Letters) -> bool
     messages.len() + 1 < 1 << 63
 }
 
+/// Sends a message that has the next xid.
+fn send_message(
+    alloc: Global,
+    known: &mut Known,
+    message: &Message,
+    messages: &mut Letters,
+) -> Result<(), Memory>
+    requires writable { CanWrite message.now.body }
+    requires next { message.now.xid ≡ next_xid_of known.old.xid }
+    ensures sent { OnOk result (sending_of known.new messages.new
+        ≡ send_of (sending_of known.old messages.old) message.now.body) }
+    ensures memory { OnErr result ((known.new ≡ known.old) × (messages.new ≡ messages.old)) }
+{
+    let mut letter = Letters::new(alloc);
+    letter.push(write_message(alloc, message)?)?;
+    if !has_place(messages) {
+        return Err(Memory);
+    }
+    known.note(&message.body, message.xid)?;
+    // Joining takes no memory, so what is known and what is said change together.
+    messages.join(letter);
+    Ok(())
+}
+
 /// Sends a message: it takes the next xid.
 pub(crate) fn send(
     alloc: Global,
@@ -44,15 +68,7 @@ pub(crate) fn send(
 {
     let xid = next_xid(known.xid());
     let message = Message { xid, body };
-    let mut letter = Letters::new(alloc);
-    letter.push(write_message(alloc, &message)?)?;
-    if !has_place(messages) {
-        return Err(Memory);
-    }
-    known.note(&message.body, xid)?;
-    // Joining takes no memory, so what is known and what is said change together.
-    messages.join(letter);
-    Ok(())
+    send_message(alloc, known, &message, messages)
 }
 
 /// Sends a barrier.

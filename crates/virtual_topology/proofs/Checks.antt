@@ -1,12 +1,12 @@
 -- Checks of one item after another, and of one kind after another.
-use Rattle.std.proofs.Common.{◌≡◌, ℕ, ◌+◌, ◌<◌, ◌≤◌, Option, Some, None, List, ◌∷◌, length, get_or, drop, sym, ap, ◌∙◌, inl, inr, ◌⊎◌}
+use Rattle.std.proofs.Common.{◌≡◌, ℕ, ◌+◌, ◌<◌, ◌≤◌, Option, Some, None, List, ◌∷◌, length, get_or, drop, refl, sym, ap, ◌∙◌, inl, inr, ◌⊎◌}
 use Rattle.std.specs.Option.{option_or}
 use Rattle.std.proofs.lemmas.List.{drop_more, drop_all}
 use Rattle.virtual_topology.specs.declared.plan.TopologyPlan.{TopologyPlan}
 use Rattle.virtual_topology.specs.declared.plan.VirtualItem.{VirtualItem}
-use Rattle.virtual_topology.specs.Faults.{crowded, fault_of, first_answer, mixed_among, shape_among, twice_among, unknown_among}
-use Rattle.virtual_topology.specs.Places.{PlaceUse, uses}
-use Rattle.virtual_topology.specs.Rows.{Row, rows}
+use Rattle.virtual_topology.specs.Faults.{crowded, fault_of, first_answer, misplaced, mixed_among, shape_among, twice_among, unknown_among}
+use Rattle.virtual_topology.specs.Places.{uses}
+use Rattle.virtual_topology.specs.Rows.{rows}
 use Rattle.virtual_topology.specs.Wires.{Joint, link_joints, outside_joints}
 
 -- what a failed check answers
@@ -38,13 +38,18 @@ pub first_wanted : {E : Type 0} (memory fault : E) (a b : Option E) → Wanted m
 first_wanted memory fault a b (inl none) = inl none
 first_wanted memory fault a b (inr some) = inr (ap (λ o. option_or o b) some)
 
+-- three checks before others
+before_others : {E : Type 0} (a b c d : Option E) → option_or a (option_or b (option_or c d)) ≡ option_or (option_or a (option_or b c)) d
+before_others (Some x) b c d = refl
+before_others None (Some x) c d = refl
+before_others None None c d = refl
+
 -- what is left of the first fault of a plan, once the first kinds aren't there
-pub after_shape : (plan : TopologyPlan) (us : List PlaceUse) (rs : List Row) → us ≡ uses plan → rs ≡ rows plan → twice_among us ≡ None → unknown_among rs us ≡ None → shape_among rs us plan ≡ None
-    → fault_of plan ≡ option_or (mixed_among (link_joints plan) (outside_joints plan) plan.virtuals) (crowded plan)
-after_shape plan us rs used row twice unknown shape =
+pub after_shape : (plan : TopologyPlan) → misplaced plan ≡ None → fault_of plan ≡ option_or (mixed_among (link_joints plan) (outside_joints plan) plan.virtuals) (crowded plan)
+after_shape plan none =
     let left = option_or (mixed_among (link_joints plan) (outside_joints plan) plan.virtuals) (crowded plan) in
-    λ i. option_or ((ap twice_among (sym used) ∙ twice) i) (option_or (((λ j. unknown_among (sym row j) (sym used j)) ∙ unknown) i)
-    (option_or (((λ j. shape_among (sym row j) (sym used j) plan) ∙ shape) i) left))
+    before_others (twice_among (uses plan)) (unknown_among (rows plan) (uses plan)) (shape_among (rows plan) (uses plan) plan) left
+    ∙ ap (λ o. option_or o left) none
 
 pub after_mixed : (plan : TopologyPlan) (links outside : List Joint) (virtuals : List VirtualItem) → links ≡ link_joints plan → outside ≡ outside_joints plan → virtuals ≡ plan.virtuals
     → fault_of plan ≡ option_or (mixed_among (link_joints plan) (outside_joints plan) plan.virtuals) (crowded plan) → mixed_among links outside virtuals ≡ None → fault_of plan ≡ crowded plan

@@ -123,6 +123,10 @@ crowded plan =
     option_or (first_answer too_many_at (enumerate_from 0 plan.switches))
     (option_or (too_many_pairs plan.cables) (option_or (first_answer too_many_of (enumerate_from 0 plan.virtuals)) (too_many_pairs plan.links)))
 
+-- the first of the faults 1 to 3
+abbrev pub misplaced : TopologyPlan → Option TopologyFault
+misplaced plan = option_or (twice_among (uses plan)) (option_or (unknown_among (rows plan) (uses plan)) (shape_among (rows plan) (uses plan) plan))
+
 -- the first fault of a plan: each is looked for in the whole file before the next
 abbrev pub fault_of : TopologyPlan → Option TopologyFault
 fault_of plan =

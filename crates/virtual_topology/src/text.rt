@@ -1,5 +1,5 @@
 //! Places as texts.
-ghost use Rattle.std.specs.Prelude.{◌≡◌, IfOk};
+ghost use Rattle.std.specs.Prelude.{◌≡◌, ◌++◌, ◌∷◌, [], IfOk, OnOk};
 ghost use Rattle.virtual_topology.specs.Faults.{place_text as place_text_of};
 ghost use Rattle.std.specs.Fmt.{decimal};
 ghost use Rattle.virtual_topology.specs.Shown.{shown};
@@ -17,14 +17,22 @@ fn decimal_text(alloc: Global, number: u16) -> Result<Text, Memory>
     Text::from_slice(alloc, digits.as_bytes())
 }
 
+/// Appends NAME:DIGITS.
+fn push_parts(text: &mut Text, name: &Text, digits: &Text) -> Result<(), Memory>
+    ensures { OnOk result (text.new ≡ ((text.old ++ name.now) ++ 58 ∷ []) ++ digits.now) }
+{
+    text.push_text(name)?;
+    text.push(b':')?;
+    text.push_text(digits)
+}
+
 /// A place as a policy file writes it: NAME:PORT.
 fn text_of(alloc: Global, name: &Text, port: u16) -> Result<Text, Memory>
     ensures { IfOk result (λ text. text ≡ place_text_of (record { name = name.now; port = port })) }
 {
+    let digits = decimal_text(alloc, port)?;
     let mut text = Text::new(alloc);
-    text.push_text(name)?;
-    text.push(b':')?;
-    text.push_text(&decimal_text(alloc, port)?)?;
+    push_parts(&mut text, name, &digits)?;
     Ok(text)
 }
 

@@ -1,10 +1,10 @@
 //! Topologies: plans without fault, whose ports are found by number.
 ghost use Rattle.std.specs.Prelude.{◌≡◌, ◌<◌, ◌≤◌, ◌^◌, None, IfOk, length};
 ghost use Rattle.std.specs.List.{slice_get};
-ghost use Rattle.virtual_topology.specs.Faults.{Answers, fault_of};
+ghost use Rattle.virtual_topology.specs.Faults.{Answers, fault_of, misplaced};
 ghost use Rattle.virtual_topology.specs.Rows.{rows as rows_of};
 ghost use Rattle.virtual_topology.specs.Within.{AreWithin};
-ghost use Rattle.virtual_topology.specs.Wires.{both_ways as both_ways_of, cable_joints, entering_of, far_end_of, is_lone_of, is_spread_of, link_joints, outside_joints as outside_joints_of, outside_of, peer_of};
+ghost use Rattle.virtual_topology.specs.Wires.{both_ways as both_ways_of, cable_joints, entering_of, far_end_of, is_lone_of, is_spread_of, link_joints, outside_joints as outside_joints_of, outside_of, peer_of, turned as turned_of};
 
 use crate::check::{check_places, check_shapes};
 use crate::fault::TopologyFault;
@@ -45,6 +45,36 @@ impl Model for Topology {
     ghost invariant = { λ a. IsMade a.plan a.outside a.entering a.peers a.far_ends a.standings };
 }
 
+/// From each end of a plan's cables to the other.
+fn cable_ways<'a>(
+    alloc: Global,
+    plan: &'a TopologyPlan,
+    known: &Known<'a>,
+) -> Result<Vec<Joint>, Memory>
+    requires { known.now ≡ rows_of plan.now }
+    ensures { IfOk result (λ ways. ways.items ≡ both_ways_of (cable_joints plan.now)) }
+{
+    let cables = pair_joints(alloc, known, Role::Physical, plan.cables.as_slice())?;
+    let ways = both_ways(alloc, &cables)?;
+    Ok(ways)
+}
+
+/// Joints by their second ends.
+fn turned_rows(alloc: Global, joints: &[Joint]) -> Result<Rows<Spot, Spot>, Memory>
+    ensures { IfOk result (λ rows. rows ≡ turned_of joints.now) }
+{
+    let rows = Rows::of(alloc, turned(alloc, joints)?)?;
+    Ok(rows)
+}
+
+/// Joints by each of their ends.
+fn rows_both_ways(alloc: Global, joints: &[Joint]) -> Result<Rows<Spot, Spot>, Memory>
+    ensures { IfOk result (λ rows. rows ≡ both_ways_of joints.now) }
+{
+    let rows = Rows::of(alloc, both_ways(alloc, joints)?)?;
+    Ok(rows)
+}
+
 /// The plan with its ports by number.
 fn numbered<'a>(
     alloc: Global,
@@ -60,23 +90,49 @@ fn numbered<'a>(
     requires links { links.now ≡ link_joints plan.now }
     ensures { IfOk result (λ t. t ≡ plan.now) }
 {
-    let cables = pair_joints(alloc, known, Role::Physical, plan.cables.as_slice())?;
-    let cable_ways = both_ways(alloc, &cables)?;
-    let standings = standings(
-        alloc,
-        known,
-        &cable_ways,
-        &outside,
-        plan.virtuals.as_slice(),
-    )?;
+    let ways = cable_ways(alloc, plan, known)?;
+    let standings = standings(alloc, known, &ways, &outside, plan.virtuals.as_slice())?;
     Ok(Topology {
-        plan: plan.copy()?,
-        entering: Rows::of(alloc, turned(alloc, &outside)?)?,
+        entering: turned_rows(alloc, &outside)?,
         outside: Rows::of(alloc, outside)?,
-        peers: Rows::of(alloc, both_ways(alloc, links)?)?,
-        far_ends: Rows::of(alloc, cable_ways)?,
+        peers: rows_both_ways(alloc, links)?,
+        far_ends: Rows::of(alloc, ways)?,
         standings: List::from_vec(standings),
+        plan: plan.copy()?,
     })
+}
+
+/// Where the ports of a plan are, if its places are there and used once each, and cables and links can be so.
+fn known_places<'a>(alloc: Global, plan: &'a TopologyPlan) -> Result<Known<'a>, TopologyFault>
+    requires switches { length plan.now.switches < 2 ^ 32 }
+    requires virtuals { length plan.now.virtuals < 2 ^ 32 }
+    ensures fault { Answers TopologyFault.Memory result (misplaced plan.now) }
+    ensures known { IfOk result (λ known. known ≡ rows_of plan.now) }
+{
+    let used = Used::of(alloc, uses(alloc, plan)?)?;
+    let known = Known::of(alloc, plan)?;
+    check_places(alloc, &known, &used)?;
+    check_shapes(alloc, &known, &used, plan)?;
+    Ok(known)
+}
+
+/// The topology of a plan whose places are known, if its links and numbers can be so.
+fn joined<'a>(
+    alloc: Global,
+    plan: &'a TopologyPlan,
+    known: &Known<'a>,
+) -> Result<Topology, TopologyFault>
+    requires virtuals { length plan.now.virtuals < 2 ^ 32 }
+    requires known { known.now ≡ rows_of plan.now }
+    requires placed { misplaced plan.now ≡ None }
+    ensures fault { Answers TopologyFault.Memory result (fault_of plan.now) }
+    ensures plan { IfOk result (λ t. t ≡ plan.now) }
+{
+    let outside = outside_joints(alloc, known, plan.virtuals.as_slice())?;
+    let links = pair_joints(alloc, known, Role::Link, plan.links.as_slice())?;
+    check_mixed(alloc, &links, &outside, plan.virtuals.as_slice())?;
+    check_limits(alloc, plan)?;
+    Ok(numbered(alloc, plan, known, outside, &links)?)
 }
 
 impl Topology {
@@ -91,15 +147,8 @@ impl Topology {
         if plan.switches.len() > most || plan.virtuals.len() > most {
             return Err(TopologyFault::Memory);
         }
-        let used = Used::of(alloc, uses(alloc, plan)?)?;
-        let known = Known::of(alloc, plan)?;
-        check_places(alloc, &known, &used)?;
-        check_shapes(alloc, &known, &used, plan)?;
-        let outside = outside_joints(alloc, &known, plan.virtuals.as_slice())?;
-        let links = pair_joints(alloc, &known, Role::Link, plan.links.as_slice())?;
-        check_mixed(alloc, &links, &outside, plan.virtuals.as_slice())?;
-        check_limits(alloc, plan)?;
-        Ok(numbered(alloc, plan, &known, outside, &links)?)
+        let known = known_places(alloc, plan)?;
+        joined(alloc, plan, &known)
     }
 
     /// The plan that it was made of.
@@ -182,13 +231,14 @@ impl Topology {
 
 impl Duplicate for Topology {
     fn copy(&self) -> Result<Topology, Memory> {
+        // The plan comes last, so that no failure has to drop one.
         Ok(Topology {
-            plan: self.plan.copy()?,
+            standings: self.standings.copy()?,
             outside: self.outside.copy()?,
             entering: self.entering.copy()?,
             peers: self.peers.copy()?,
             far_ends: self.far_ends.copy()?,
-            standings: self.standings.copy()?,
+            plan: self.plan.copy()?,
         })
     }
 }
