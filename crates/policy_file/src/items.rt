@@ -189,14 +189,16 @@ fn found_virtual_ports(
     section: Section,
     table: &Table,
 ) -> Result<List<VirtualPort>, PolicyFault>
-    ensures { Gives (found section (codes "ports") (read_at virtual_ports_of (codes "ports") (table_view table.now))) result }
+    ensures { Gives (found section (codes "ports")
+        (read_at virtual_ports_of (codes "ports") (table_view table.now))) result }
 {
     section.found(alloc, "ports", virtual_ports_at(alloc, table)?)
 }
 
 /// The expression that it gives a virtual switch.
 fn found_expression(alloc: Global, section: Section, table: &Table) -> Result<Text, PolicyFault>
-    ensures { Gives (found section (codes "expr") (read_at expression_of (codes "expr") (table_view table.now))) result }
+    ensures { Gives (found section (codes "expr")
+        (read_at expression_of (codes "expr") (table_view table.now))) result }
 {
     section.found(alloc, "expr", expression_at(alloc, table)?)
 }

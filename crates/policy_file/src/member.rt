@@ -288,8 +288,8 @@ fn found_region(
     table: &Table,
     version: Version,
 ) -> Result<List<Match>, PolicyFault>
-    ensures { Gives (found section (region_key_of version)
-        (or_absent all_headers (region_in version) (get_member (region_key_of version) (table_view table.now)))) result }
+    ensures { Gives (found section (region_key_of version) (or_absent all_headers (region_in version)
+        (get_member (region_key_of version) (table_view table.now)))) result }
 {
     section.found(
         alloc,
