@@ -6,6 +6,7 @@ use Rattle.toml.specs.Parse.{parse_document}
 use Rattle.virtual_topology.specs.declared.plan.TopologyPlan.{TopologyPlan}
 use Rattle.virtual_topology.specs.Faults.{fault_of}
 use Rattle.inner_paths.specs.Cuts.{cut_fault}
+use Rattle.policy_expr.specs.Policy as expr
 use Rattle.policy_file.specs.declared.fault.PolicyFault.{PolicyFault}
 use Rattle.policy_file.specs.declared.fault.PolicyFault.TheVariants as faults
 use Rattle.policy_file.specs.declared.head.Head.{Head}
@@ -62,6 +63,13 @@ fits p =
     then_do (exprs_of p.virtuals p.members) (λ exprs.
     unless (topology_fault (plan p)) (unless (path_fault (plan p))
     (unless (too_wide_in (plan p) p.members exprs p.hops) (Ok tt))))
+
+-- 7 and 8, and 6 to 8, over expressions that were read
+abbrev pub fits_over : TopologyPlan → List MemberItem → List expr.Policy → ℕ → Result (Unit {0}) PolicyFault
+fits_over plan members exprs hops = unless (path_fault plan) (unless (too_wide_in plan members exprs hops) (Ok tt))
+
+abbrev pub fits_made : TopologyPlan → List MemberItem → List expr.Policy → ℕ → Result (Unit {0}) PolicyFault
+fits_made plan members exprs hops = unless (topology_fault plan) (fits_over plan members exprs hops)
 
 -- the policy, if what the keys say fits together
 abbrev pub whole : Draft → Result PolicyOf PolicyFault

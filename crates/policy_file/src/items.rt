@@ -4,7 +4,7 @@ ghost use Rattle.toml.specs.View.{table_view};
 ghost use Rattle.policy_file.specs.Values.{dpid as dpid_of, name as name_of, expression as expression_of, port_place as port_place_of, ports as ports_of};
 ghost use Rattle.policy_file.specs.Words.{virtual_ports as virtual_ports_of};
 ghost use Rattle.policy_file.specs.Plans.{switch as switch_of, pair as pair_of, virtual_switch as virtual_switch_of, plan_of, read_at, dpid_is_taken, name_is_taken, new_dpid, new_name};
-ghost use Rattle.policy_file.specs.Outcomes.{Gives};
+ghost use Rattle.policy_file.specs.Outcomes.{Gives, found};
 
 use crate::fault::PolicyFault;
 use crate::item_reader::{ItemReader, read_items};
@@ -152,6 +152,57 @@ fn new_virtual_name(
     Ok(Some(name))
 }
 
+/// The name that the file gives a new switch.
+fn found_switch_name(
+    alloc: Global,
+    section: Section,
+    table: &Table,
+    earlier: &[SwitchItem],
+) -> Result<Text, PolicyFault>
+    ensures { Gives (found section (codes "name") (new_name (λ s. s.name) earlier.now (table_view table.now))) result }
+{
+    section.found(alloc, "name", new_switch_name(alloc, table, earlier)?)
+}
+
+/// The name that it gives a new virtual switch.
+fn found_virtual_name(
+    alloc: Global,
+    section: Section,
+    table: &Table,
+    earlier: &[VirtualItem],
+) -> Result<Text, PolicyFault>
+    ensures { Gives (found section (codes "name") (new_name (λ s. s.name) earlier.now (table_view table.now))) result }
+{
+    section.found(alloc, "name", new_virtual_name(alloc, table, earlier)?)
+}
+
+/// The ports that it gives a switch.
+fn found_ports(alloc: Global, section: Section, table: &Table) -> Result<List<u16>, PolicyFault>
+    ensures { Gives (found section (codes "ports") (read_at ports_of (codes "ports") (table_view table.now))) result }
+{
+    section.found(alloc, "ports", ports_at(alloc, table)?)
+}
+
+/// And those that it gives a virtual switch.
+fn found_virtual_ports(
+    alloc: Global,
+    section: Section,
+    table: &Table,
+) -> Result<List<VirtualPort>, PolicyFault>
+    ensures { Gives (found section (codes "ports")
+        (read_at virtual_ports_of (codes "ports") (table_view table.now))) result }
+{
+    section.found(alloc, "ports", virtual_ports_at(alloc, table)?)
+}
+
+/// The expression that it gives a virtual switch.
+fn found_expression(alloc: Global, section: Section, table: &Table) -> Result<Text, PolicyFault>
+    ensures { Gives (found section (codes "expr")
+        (read_at expression_of (codes "expr") (table_view table.now))) result }
+{
+    section.found(alloc, "expr", expression_at(alloc, table)?)
+}
+
 /// Reads physical switches.
 #[derive(Drop)]
 struct SwitchReader;
@@ -169,8 +220,8 @@ impl ItemReader for SwitchReader {
         earlier: &[SwitchItem],
     ) -> Result<SwitchItem, PolicyFault> {
         let dpid = section.found(alloc, "dpid", new_switch_dpid(table, earlier))?;
-        let name = section.found(alloc, "name", new_switch_name(alloc, table, earlier)?)?;
-        let ports = section.found(alloc, "ports", ports_at(alloc, table)?)?;
+        let name = found_switch_name(alloc, section, table, earlier)?;
+        let ports = found_ports(alloc, section, table)?;
         Ok(SwitchItem { name, dpid, ports })
     }
 }
@@ -214,9 +265,9 @@ impl ItemReader for VirtualReader {
         earlier: &[VirtualItem],
     ) -> Result<VirtualItem, PolicyFault> {
         let dpid = section.found(alloc, "dpid", new_virtual_dpid(table, earlier))?;
-        let expr = section.found(alloc, "expr", expression_at(alloc, table)?)?;
-        let name = section.found(alloc, "name", new_virtual_name(alloc, table, earlier)?)?;
-        let ports = section.found(alloc, "ports", virtual_ports_at(alloc, table)?)?;
+        let expr = found_expression(alloc, section, table)?;
+        let name = found_virtual_name(alloc, section, table, earlier)?;
+        let ports = found_virtual_ports(alloc, section, table)?;
         Ok(VirtualItem {
             name,
             dpid,

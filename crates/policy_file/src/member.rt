@@ -4,14 +4,14 @@ ghost use Rattle.std.specs.List.{list_all, list_any};
 ghost use Rattle.virtual_topology.specs.Places.{same_name};
 ghost use Rattle.toml.specs.Data.{get_member, as_bool, as_str};
 ghost use Rattle.toml.specs.View.{table_view};
-ghost use Rattle.policy_file.specs.Values.{name as name_of, number as number_of};
+ghost use Rattle.policy_file.specs.Values.{address as address_of, name as name_of, number as number_of};
 ghost use Rattle.policy_file.specs.Words.{actions as actions_of, fields as fields_of, nothing};
 ghost use Rattle.policy_file.specs.Regions.{all_headers};
 ghost use Rattle.policy_file.specs.Heads.{or_absent};
 ghost use Rattle.policy_file.specs.Plans.{read_at};
-ghost use Rattle.policy_file.specs.Views.{has_port as has_port_of};
+ghost use Rattle.policy_file.specs.Views.{has_port as has_port_of, view_of};
 ghost use Rattle.policy_file.specs.Members.{virtual_at as virtual_at_of, is_at as is_at_of, is_used as is_used_of, new_controller as new_controller_of, are_there as are_there_of, ports_at as ports_at_of, region_key as region_key_of, region_in, place as place_of, rights as rights_of, member_with, member as member_of, number_of as number_of_section, next_member as next_member_of, members_of as members_in};
-ghost use Rattle.policy_file.specs.Outcomes.{Gives};
+ghost use Rattle.policy_file.specs.Outcomes.{Gives, found};
 
 use crate::fault::PolicyFault;
 use crate::head::{address_or, number_or};
@@ -27,6 +27,7 @@ use crate::view::{has_port, view};
 use crate::words::{Nameable, actions, fields};
 use cv_io::{Duplicate, List, Memory, Text};
 use grants::Grant;
+use of10_actions::PortView;
 use of10_match::Match;
 use std::alloc::Global;
 use toml::Table;
@@ -244,6 +245,59 @@ struct Rights {
     regions: List<Match>,
 }
 
+/// The address that the file gives a member.
+fn found_address(alloc: Global, section: Section, table: &Table) -> Result<Text, PolicyFault>
+    ensures { Gives (found section (codes "address")
+        (or_absent (codes "127.0.0.1:6634") address_of (get_member (codes "address") (table_view table.now)))) result }
+{
+    section.found(
+        alloc,
+        "address",
+        address_or(alloc, table, "address", ADDRESS)?,
+    )
+}
+
+/// The controller that it gives a new member.
+fn found_controller(
+    alloc: Global,
+    section: Section,
+    table: &Table,
+    earlier: &[MemberItem],
+) -> Result<Text, PolicyFault>
+    ensures { Gives (found section (codes "controller") (new_controller_of earlier.now (table_view table.now))) result }
+{
+    section.found(alloc, "controller", new_controller(alloc, table, earlier)?)
+}
+
+/// The ports that it gives a member.
+fn found_ports(
+    alloc: Global,
+    section: Section,
+    table: &Table,
+    virtuals: &[VirtualItem],
+) -> Result<Option<List<u16>>, PolicyFault>
+    ensures { Gives (found section (codes "ports") (ports_at_of virtuals.now (table_view table.now))) result }
+{
+    section.found(alloc, "ports", ports_at(alloc, table, virtuals)?)
+}
+
+/// The region that it gives a member.
+fn found_region(
+    alloc: Global,
+    section: Section,
+    table: &Table,
+    version: Version,
+) -> Result<List<Match>, PolicyFault>
+    ensures { Gives (found section (region_key_of version) (or_absent all_headers (region_in version)
+        (get_member (region_key_of version) (table_view table.now)))) result }
+{
+    section.found(
+        alloc,
+        region_key(version),
+        region_at(alloc, table, version)?,
+    )
+}
+
 fn read_place(
     alloc: Global,
     section: Section,
@@ -253,11 +307,9 @@ fn read_place(
     ensures { Gives (place_of earlier.now section (table_view table.now)) result }
 {
     let actions = section.found(alloc, "actions", actions_at(table))?;
-    let address = address_or(alloc, table, "address", ADDRESS)?;
-    let address = section.found(alloc, "address", address)?;
+    let address = found_address(alloc, section, table)?;
     let bits = section.found(alloc, "bits", bits_at(table))?;
-    let controller = new_controller(alloc, table, earlier)?;
-    let controller = section.found(alloc, "controller", controller)?;
+    let controller = found_controller(alloc, section, table, earlier)?;
     let entries = number_or(table, "entries", 1, 4_096, 1_024);
     let entries = section.found(alloc, "entries", entries)?;
     Ok(Place {
@@ -281,9 +333,8 @@ fn read_rights(
     let nameable = section.found(alloc, "match", fields_at(table))?;
     let misses = section.found(alloc, "misses", flag_or(table, "misses", true))?;
     let packet_out = section.found(alloc, "packet_out", flag_or(table, "packet_out", false))?;
-    let listed = section.found(alloc, "ports", ports_at(alloc, table, virtuals)?)?;
-    let regions = region_at(alloc, table, version)?;
-    let regions = section.found(alloc, region_key(version), regions)?;
+    let listed = found_ports(alloc, section, table, virtuals)?;
+    let regions = found_region(alloc, section, table, version)?;
     Ok(Rights {
         nameable,
         misses,
@@ -291,6 +342,19 @@ fn read_rights(
         listed,
         regions,
     })
+}
+
+/// What a member sees of a virtual switch, and the name of that.
+fn seen(
+    alloc: Global,
+    v: u32,
+    item: &VirtualItem,
+    listed: &Option<List<u16>>,
+) -> Result<(PortView, Text), Memory>
+    ensures { IfOk result (λ seen. (seen.0 ≡ view_of v item.now listed.now) × (seen.1 ≡ item.now.name)) }
+{
+    let ports = view(alloc, v, item, listed)?;
+    Ok((ports, item.name.copy()?))
 }
 
 /// The member at a virtual switch of this number.
@@ -303,7 +367,7 @@ fn member_at(
 ) -> Result<MemberItem, Memory>
     ensures { IfOk result (λ member. member ≡ member_with v item.now place rights) }
 {
-    let ports = view(alloc, v, item, &rights.listed)?;
+    let (ports, vsw) = seen(alloc, v, item, &rights.listed)?;
     let Place {
         actions,
         address,
@@ -320,7 +384,7 @@ fn member_at(
     } = rights;
     Ok(MemberItem {
         controller,
-        vsw: item.name.copy()?,
+        vsw,
         grant: Grant {
             fields: nameable.fields,
             src_max: nameable.src_max,

@@ -1,5 +1,6 @@
 //! Policies.
 ghost use Rattle.std.specs.Prelude.{◌≡◌, None, Ok, IfOk, map};
+ghost use Rattle.inner_paths.specs.Cuts.{cut_fault};
 ghost use Rattle.policy_expr.specs.Policy.{policy_of};
 ghost use Rattle.policy_file.specs.Exprs.{exprs_of};
 ghost use Rattle.policy_file.specs.Policies.{plan as plan_of};
@@ -88,6 +89,17 @@ fn wanted_by_paths(fault: PathFault) -> Memory
     }
 }
 
+/// The paths of a topology that has them.
+fn made_paths(alloc: Global, topology: &Topology) -> Result<Paths, Memory>
+    requires { cut_fault topology.now ≡ None }
+    ensures { IfOk result (λ paths. paths ≡ topology.now) }
+{
+    match Paths::make(alloc, topology) {
+        Ok(paths) => Ok(paths),
+        Err(fault) => Err(wanted_by_paths(fault)),
+    }
+}
+
 /// All ports of a virtual switch of this number.
 pub fn all_ports(alloc: Global, v: u32, item: &VirtualItem) -> Result<PortView, Memory>
     ensures { IfOk result (λ ports. ports ≡ view_of v item.now None) }
@@ -124,10 +136,8 @@ impl Policy {
         ensures { IfOk result (λ paths. paths ≡ plan_of self.now) }
     {
         self.is_sound();
-        match Paths::make(alloc, &self.topology(alloc)?) {
-            Ok(paths) => Ok(paths),
-            Err(fault) => Err(wanted_by_paths(fault)),
-        }
+        let topology = self.topology(alloc)?;
+        made_paths(alloc, &topology)
     }
 
     /// The expressions of its virtual switches, which are such but for want of memory.
@@ -167,11 +177,14 @@ impl Duplicate for Policy {
     fn copy(&self) -> Result<Policy, Memory> {
         let listen = self.listen.copy()?;
         let standby = self.standby.copy()?;
-        let switches = self.switches.copy()?;
-        let cables = self.cables.copy()?;
-        let virtuals = self.virtuals.copy()?;
-        let links = self.links.copy()?;
+        let plan = self.plan()?;
         let members = self.members.copy()?;
+        let TopologyPlan {
+            switches,
+            cables,
+            virtuals,
+            links,
+        } = plan;
         Ok(Policy {
             version: self.version,
             hops: self.hops,

@@ -1,10 +1,11 @@
 //! Reading a policy file.
-ghost use Rattle.std.specs.Prelude.{◌≡◌, ◌⊎◌, IfOk, IfErr, None, Some};
+ghost use Rattle.std.specs.Prelude.{◌≡◌, ◌⊎◌, IfOk, IfErr, None, Some, map};
+ghost use Rattle.policy_expr.specs.Policy.{policy_of as as_policy};
 ghost use Rattle.toml.specs.View.{table_view};
 ghost use Rattle.virtual_topology.specs.Faults.{Answers};
 ghost use Rattle.policy_file.specs.Outcomes.{Gives};
 ghost use Rattle.policy_file.specs.Sound.{IsSound};
-ghost use Rattle.policy_file.specs.Reading.{draft_of, topology_fault, path_fault, fits, policy_of, document_of, policy_in_bytes};
+ghost use Rattle.policy_file.specs.Reading.{draft_of, topology_fault, path_fault, fits, fits_made, fits_over, policy_of, document_of, policy_in_bytes};
 
 use crate::exprs::exprs;
 use crate::fault::PolicyFault;
@@ -17,6 +18,7 @@ use crate::policy::{MemberItem, Policy};
 use crate::wide::check_widths;
 use cv_io::List;
 use inner_paths::{PathFault, Paths};
+use policy_expr::Expr;
 use std::alloc::Global;
 use toml::Table;
 use virtual_topology::{Topology, TopologyFault, TopologyPlan};
@@ -81,15 +83,36 @@ fn check_paths(alloc: Global, topology: &Topology) -> Result<(), PolicyFault>
     }
 }
 
+/// A topology has paths, and no virtual switch of it is too wide.
+fn check_over(
+    alloc: Global,
+    topology: &Topology,
+    exprs: &[Expr],
+    members: &[MemberItem],
+    hops: u32,
+) -> Result<(), PolicyFault>
+    ensures { Gives (fits_over topology.now members.now (map as_policy exprs.now) hops) result }
+{
+    check_paths(alloc, topology)?;
+    check_widths(alloc, topology, exprs, members, hops)
+}
+
+/// The topology of what the keys say fits together, over expressions that were read.
+fn check_made(alloc: Global, draft: &Draft, exprs: &[Expr]) -> Result<(), PolicyFault>
+    ensures { Gives (fits_made draft.now.plan draft.now.members (map as_policy exprs.now) draft.now.head.hops) result }
+{
+    let topology = topology(alloc, &draft.plan)?;
+    let members = draft.members.as_slice();
+    check_over(alloc, &topology, exprs, members, draft.head.hops)
+}
+
 /// What the keys say fits together.
 fn check_whole(alloc: Global, draft: &Draft) -> Result<(), PolicyFault>
     ensures { Gives (fits (policy_of draft.now)) result }
 {
     let members = draft.members.as_slice();
     let exprs = exprs(alloc, draft.plan.virtuals.as_slice(), members)?;
-    let topology = topology(alloc, &draft.plan)?;
-    check_paths(alloc, &topology)?;
-    check_widths(alloc, &topology, exprs.as_slice(), members, draft.head.hops)
+    check_made(alloc, draft, exprs.as_slice())
 }
 
 fn policy(draft: Draft) -> Policy

@@ -11,24 +11,45 @@ pub(crate) fn allowed(name: &[u8]) -> &'static str {
         b"hops" => "has to be a number from 1 to 4",
         b"rounds" => "has to be a number from 1 to 1000000",
         b"listen" | b"standby" | b"address" => "has to be a text of 1 to 64 printable characters",
+        _ => allowed_in_switch(name, key),
+    }
+}
+
+/// The same of the keys of switches and pairs.
+fn allowed_in_switch(name: &[u8], key: &[u8]) -> &'static str {
+    match key {
         b"name" =>
             "has to be a letter a to z and up to 15 of a to z, 0 to 9 and _, used by no other switch",
         b"dpid" => "has to be a text of 16 hexadecimal digits, used by no other switch",
         b"expr" => "has to be a text in ASCII",
         b"a" | b"b" => "has to be a text NAME:PORT, with PORT from 0 to 65535",
+        b"ports" => allowed_ports(name),
+        _ => allowed_in_member(key),
+    }
+}
+
+/// The same of the keys of members.
+fn allowed_in_member(key: &[u8]) -> &'static str {
+    match key {
         b"bits" => "has to be a number from 2 to 15",
         b"entries" => "has to be a number from 1 to 4096",
         b"controller" => "has to be a name that no other member of this virtual switch has",
         b"virtual" => "has to be the name of a virtual switch of the file",
+        b"actions" => "has to list kinds of action, each once",
+        _ => allowed_in_rights(key),
+    }
+}
+
+/// The same of the keys that say what members see.
+fn allowed_in_rights(key: &[u8]) -> &'static str {
+    match key {
         b"match" =>
             "has to list fields, each once; nw_src and nw_dst may have a prefix, as nw_src/24",
-        b"actions" => "has to list kinds of action, each once",
         b"misses" | b"packet_out" => "has to be true or false",
         b"region" =>
             "has to be a table of fields and their values, each with the fields that it needs",
         b"regions" =>
             "has to list 1 to 16 tables of fields and their values, no two of which overlap",
-        b"ports" => allowed_ports(name),
         _ => allowed_items(key),
     }
 }
