@@ -8,7 +8,7 @@ ghost use Rattle.policy_file.specs.Values.{number as number_of, address as addre
 ghost use Rattle.policy_file.specs.Regions.{if_there};
 ghost use Rattle.policy_file.specs.Heads.{or_absent, is_table, lists_tables as lists_tables_of, tables as tables_of, items_at, first_of, last_of, head_of};
 ghost use Rattle.policy_file.specs.Keys.{kind_key};
-ghost use Rattle.policy_file.specs.Outcomes.{Gives};
+ghost use Rattle.policy_file.specs.Outcomes.{Gives, found};
 
 use crate::fault::PolicyFault;
 use crate::keys::{ItemKind, Version};
@@ -114,6 +114,14 @@ fn check_kind(alloc: Global, file: &Table, kind: ItemKind) -> Result<(), PolicyF
     Section::Top.found(alloc, kind.key(), tables(file, kind))
 }
 
+/// Where switches connect, as the file says it.
+fn found_listen(alloc: Global, file: &Table) -> Result<Text, PolicyFault>
+    ensures { Gives (found Section.Top (codes "listen") (or_absent (codes "127.0.0.1:6633") address_of
+        (get_member (codes "listen") (table_view file.now)))) result }
+{
+    Section::Top.found(alloc, "listen", address_or(alloc, file, "listen", LISTEN)?)
+}
+
 /// The top keys from `cable` to `member`: the most hops, and where switches connect.
 fn read_first(alloc: Global, file: &Table) -> Result<(u32, Text), PolicyFault>
     ensures { Gives (first_of (table_view file.now)) result }
@@ -122,9 +130,17 @@ fn read_first(alloc: Global, file: &Table) -> Result<(u32, Text), PolicyFault>
     check_kind(alloc, file, ItemKind::Cable)?;
     let hops = top.found(alloc, "hops", number_or(file, "hops", 1, 4, 4))?;
     check_kind(alloc, file, ItemKind::Link)?;
-    let listen = top.found(alloc, "listen", address_or(alloc, file, "listen", LISTEN)?)?;
+    let listen = found_listen(alloc, file)?;
     check_kind(alloc, file, ItemKind::Member)?;
     Ok((hops, listen))
+}
+
+/// Where a second proxy follows, as the file says it.
+fn found_standby(alloc: Global, file: &Table) -> Result<Option<Text>, PolicyFault>
+    ensures { Gives (found Section.Top (codes "standby")
+        (if_there address_of (get_member (codes "standby") (table_view file.now)))) result }
+{
+    Section::Top.found(alloc, "standby", standby(alloc, file)?)
 }
 
 /// The top keys from `rounds` to `virtual`: the rounds, the second proxy, and the version.
@@ -134,7 +150,7 @@ fn read_last(alloc: Global, file: &Table) -> Result<(u32, Option<Text>, Version)
     let top = Section::Top;
     let rounds = number_or(file, "rounds", 1, 1_000_000, 1_000);
     let rounds = top.found(alloc, "rounds", rounds)?;
-    let standby = top.found(alloc, "standby", standby(alloc, file)?)?;
+    let standby = found_standby(alloc, file)?;
     check_kind(alloc, file, ItemKind::Switch)?;
     let version = top.found(alloc, "version", version_of(file))?;
     check_kind(alloc, file, ItemKind::Virtual)?;

@@ -1,12 +1,12 @@
 //! Regions: boxes of headers, each a table of fields and their values.
-ghost use Rattle.std.specs.Prelude.{◌≡◌, ◌<◌, ◌≤◌, ◌+◌, ◌^◌, [], ◌∷◌, ◌++◌, IfOk, IfSome, length, option_map};
+ghost use Rattle.std.specs.Prelude.{◌≡◌, ◌<◌, ◌≤◌, ◌+◌, ◌^◌, [], ◌∷◌, ◌++◌, IfOk, IfSome, length, option_map, codes};
 ghost use Rattle.std.specs.List.{list_any};
 ghost use Rattle.toml.specs.View.{view, table_view};
 ghost use Rattle.of10_match.specs.Matching.{overlaps};
 ghost use Rattle.of10_match.specs.Ranges.{IsPrefix, IsTos, IsVlan};
 ghost use Rattle.policy_file.specs.Values.{number as number_of};
 ghost use Rattle.policy_file.specs.Shown.{shown_value};
-ghost use Rattle.policy_file.specs.Regions.{vlan as vlan_of, tos as tos_of, pair_at as pair_of_text, half_at as half_of_text, is_ether_form as is_ether_form_of, ether_text as ether_text_of, ether as ether_of, next_octet as next_octet_of, ip_text as ip_text_of, prefix_if, if_there, prefix_text as prefix_text_of, prefix as prefix_in, link_fields as link_fields_of, with_network_fields as with_network_fields_of, with_transport_fields as with_transport_fields_of, may_name as may_name_of, names_fields as names_fields_of, fields_named, is_normal as is_normal_of, box_of as box_of_table, all_headers, region as region_of, with_box, regions as regions_of};
+ghost use Rattle.policy_file.specs.Regions.{at as at_of, vlan as vlan_of, tos as tos_of, pair_at as pair_of_text, half_at as half_of_text, is_ether_form as is_ether_form_of, ether_text as ether_text_of, ether as ether_of, next_octet as next_octet_of, ip_text as ip_text_of, prefix_if, if_there, prefix_text as prefix_text_of, prefix as prefix_in, link_fields as link_fields_of, with_network_fields as with_network_fields_of, with_transport_fields as with_transport_fields_of, may_name as may_name_of, names_fields as names_fields_of, fields_named, is_normal as is_normal_of, box_of as box_of_table, all_headers, region as region_of, with_box, regions as regions_of};
 
 use crate::tables::{at, list};
 use crate::values::{decimal_within, digit, number, split_at_first};
@@ -204,15 +204,46 @@ fn link_fields(table: &Table) -> Option<Match>
     })
 }
 
+/// The type of service that a table names.
+fn tos_at(table: &Table) -> Option<Option<u8>>
+    ensures value { result ≡ at_of tos_of (codes "nw_tos") (table_view table.now) }
+    ensures in_range { IfSome result (λ v. IfSome v IsTos) }
+{
+    tos(at(table, Field::NwTos.name()))
+}
+
+/// The protocol that it names.
+fn proto_at(table: &Table) -> Option<Option<u8>>
+    ensures { result ≡ at_of (number_of 0 255) (codes "nw_proto") (table_view table.now) }
+{
+    byte(at(table, Field::NwProto.name()))
+}
+
+/// The senders that it names.
+fn src_at(table: &Table) -> Option<Option<Prefix>>
+    ensures value { result ≡ at_of prefix_in (codes "nw_src") (table_view table.now) }
+    ensures in_range { IfSome result (λ v. IfSome v IsPrefix) }
+{
+    prefix(at(table, Field::NwSrc.name()))
+}
+
+/// And the receivers.
+fn dst_at(table: &Table) -> Option<Option<Prefix>>
+    ensures value { result ≡ at_of prefix_in (codes "nw_dst") (table_view table.now) }
+    ensures in_range { IfSome result (λ v. IfSome v IsPrefix) }
+{
+    prefix(at(table, Field::NwDst.name()))
+}
+
 /// A match with the fields of IP that a table names.
 fn with_network_fields(link: Match, table: &Table) -> Option<Match>
     ensures { result ≡ with_network_fields_of link (table_view table.now) }
 {
     Some(Match {
-        nw_tos: tos(at(table, Field::NwTos.name()))?,
-        nw_proto: byte(at(table, Field::NwProto.name()))?,
-        nw_src: prefix(at(table, Field::NwSrc.name()))?,
-        nw_dst: prefix(at(table, Field::NwDst.name()))?,
+        nw_tos: tos_at(table)?,
+        nw_proto: proto_at(table)?,
+        nw_src: src_at(table)?,
+        nw_dst: dst_at(table)?,
         ..link
     })
 }

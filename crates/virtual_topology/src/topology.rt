@@ -1,7 +1,8 @@
 //! Topologies: plans without fault, whose ports are found by number.
 ghost use Rattle.std.specs.Prelude.{◌≡◌, ◌<◌, ◌≤◌, ◌^◌, None, IfOk, length};
 ghost use Rattle.std.specs.List.{slice_get};
-ghost use Rattle.virtual_topology.specs.Faults.{Answers, fault_of, misplaced};
+ghost use Rattle.virtual_topology.specs.Faults.{Answers, fault_of, misplaced, shape_among, unknown_among};
+ghost use Rattle.std.specs.Option.{option_or};
 ghost use Rattle.virtual_topology.specs.Rows.{rows as rows_of};
 ghost use Rattle.virtual_topology.specs.Within.{AreWithin};
 ghost use Rattle.virtual_topology.specs.Wires.{both_ways as both_ways_of, cable_joints, entering_of, far_end_of, is_lone_of, is_spread_of, link_joints, outside_joints as outside_joints_of, outside_of, peer_of, turned as turned_of};
@@ -102,6 +103,20 @@ fn numbered<'a>(
     })
 }
 
+/// The places that a plan uses are there, and its cables and links can be so.
+fn check_used<'a>(
+    alloc: Global,
+    known: &Known<'a>,
+    used: &Used<'_>,
+    plan: &'a TopologyPlan,
+) -> Result<(), TopologyFault>
+    ensures { Answers TopologyFault.Memory result
+        (option_or (unknown_among known.now used.now) (shape_among known.now used.now plan.now)) }
+{
+    check_places(alloc, known, used)?;
+    check_shapes(alloc, known, used, plan)
+}
+
 /// Where the ports of a plan are, if its places are there and used once each, and cables and links can be so.
 fn known_places<'a>(alloc: Global, plan: &'a TopologyPlan) -> Result<Known<'a>, TopologyFault>
     requires switches { length plan.now.switches < 2 ^ 32 }
@@ -111,8 +126,7 @@ fn known_places<'a>(alloc: Global, plan: &'a TopologyPlan) -> Result<Known<'a>, 
 {
     let used = Used::of(alloc, uses(alloc, plan)?)?;
     let known = Known::of(alloc, plan)?;
-    check_places(alloc, &known, &used)?;
-    check_shapes(alloc, &known, &used, plan)?;
+    check_used(alloc, &known, &used, plan)?;
     Ok(known)
 }
 
