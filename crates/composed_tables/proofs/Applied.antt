@@ -1,5 +1,5 @@
 -- The composed rules after a change of a member.
-use Rattle.std.proofs.Common.{◌≡◌, ◌≢◌, ℕ, ◌<◌, ◌==◌, Bool, true, false, List, [], ◌∷◌, ◌++◌, Option, Some, None, length, refl, sym, ap, subst, ◌∙◌, arith, eqb-true, eq-eqb}
+use Rattle.std.proofs.Common.{◌≡◌, ◌≢◌, ℕ, ◌<◌, ◌==◌, Bool, true, false, List, [], ◌∷◌, ◌++◌, Option, Some, None, length, refl, sym, ap, subst, ◌∙◌, eqb-true}
 use Rattle.std.specs.Prelude.{IsPermutation, slice_get}
 use Rattle.std.proofs.lemmas.List.Sorted.{IsPermutation-sym, IsPermutation-trans}
 use Rattle.agreement.specs.declared.state.Setting.{Setting}
@@ -23,6 +23,7 @@ use Rattle.composed_tables.proofs.Cancelling.{same-after}
 use Rattle.composed_tables.proofs.Exact.{parted-exact, whole-exact}
 use Rattle.composed_tables.proofs.Kept.{There, beside, within}
 use Rattle.composed_tables.proofs.Trees.{sized-of, stays-of}
+use Rattle.composed_tables.proofs.Tests.{both, differ}
 
 pub same-rest : (before after : TableOf) → after ≡ before → KeepsRest before after
 same-rest before after same = same ∙ (λ i. record before { rules = (sym same i).rules })
@@ -80,7 +81,7 @@ module _ (v : ℕ) (delta : LeafDelta) (r r' : RulesOf) (told : RuleDelta) (tied
           subst (λ (z : TableOf). IsPermutation (rules_at (tree_of t)) (rules_kept z u)) (sym same)
           (tied.each u t (sym (changed.others u e) ∙ is) (ap (λ (z : TableOf). is_whole z u) (sym same) ∙ w))
       each u t is w true e =
-          absurd (let f : is_whole r.hops v ≡ false = ap (is_whole r.hops) (sym (eqb-true u v e)) ∙ (ap (λ (z : TableOf). is_whole z u) (sym same) ∙ w) in cc)
+          absurd (both (is_whole r.hops v) whole (ap (is_whole r.hops) (sym (eqb-true u v e)) ∙ (ap (λ (z : TableOf). is_whole z u) (sym same) ∙ w)))
 
 -- what the compiled expression told to go was there in the table of hops
 pub gone-there : (v : ℕ) (delta : LeafDelta) (r : RulesOf) (trees : List Tree) (told : RuleDelta) → AreTied r → IsChangedAt v delta r.trees trees told
@@ -130,7 +131,7 @@ module _ (v : ℕ) (delta : LeafDelta) (s s' : Setting) (c : Changes v delta s s
         let sizes' = λ (i : ℕ). table_size (slice_get s'.network.tables i) in
         let rules = λ (i : ℕ). table_rules (ports_of x) (slice_get s.network.tables i) in
         let rules' = λ (i : ℕ). table_rules (ports_of x) (slice_get s'.network.tables i) in
-        let apart : u ≢ v = λ same. let g : (u == v) ≡ true = eq-eqb u v same in cc in
+        let apart : u ≢ v = differ u v e in
         record {
           policy = f.policy;
           tables_are = stays-of sizes sizes' rules rules' (tree_of t) c.sizes
@@ -164,7 +165,7 @@ module _ (v : ℕ) (delta : LeafDelta) (s s' : Setting) (c : Changes v delta s s
 module _ (v : ℕ) (delta : LeafDelta) (r r' : RulesOf) (told : RuleDelta) (tied : AreTied r) (changed : IsChangedAt v delta r.trees r'.trees told)
     (sizes : r'.sizes ≡ r.sizes) (wholes : r'.whole ≡ r.whole) (there : v < length r.trees) (s s' : Setting) (of : AreRulesOf s r) (c : Changes v delta s s') where
   here : There s.network.switches v
-  here = within s.network.switches v (let e = of.count in omega arith)
+  here = within s.network.switches v (subst (λ (n : ℕ). v < n) of.count there)
 
   pub exact-parted : is_whole r.hops v ≡ false → IsHanded r.hops r'.hops v told.gone told.come → (deltas : List PortDelta) → ArePortDeltas r.hops r'.hops deltas
       → AreExact s.network.switches (rules_in s) (rules_in s') deltas

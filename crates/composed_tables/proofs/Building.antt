@@ -17,6 +17,7 @@ use Rattle.policy_meaning.proofs.Lists.{all-map}
 use Rattle.virtual_topology.specs.declared.plan.TopologyPlan.{TopologyPlan}
 use Rattle.composed_tables.specs.Rules.{IsEmptyTable, IsFitting, IsHandedOver, KeepsRest}
 use Rattle.composed_tables.proofs.Cancelling.{same-after}
+use Rattle.composed_tables.proofs.Tests.{below-differ, both, from-past, past-differ}
 
 abbrev no-rules : List Rule
 no-rules = []
@@ -37,7 +38,7 @@ handed-over v trees before after come none h is = record {
 
 -- of a whole virtual switch nothing is handed over
 pub whole-over : (v : ℕ) (trees : List Tree) (t : TableOf) → is_whole t v ≡ true → IsHandedOver v trees t t
-whole-over v trees t w = record { rest = refl; others = λ u e. refl; own = λ tree at f. absurd (cc) }
+whole-over v trees t w = record { rest = refl; others = λ u e. refl; own = λ tree at f. absurd (both (is_whole t v) w f) }
 
 below-or-at : (m n : ℕ) → m < n + 1 → (m < n) ⊎ (m ≡ n)
 below-or-at m n lt = by (cases_lt m n)
@@ -66,13 +67,13 @@ module _ (v : ℕ) (trees : List Tree) (first before after : TableOf) (rest : Ke
   done-more done u t lt at w = by (below-or-at u v lt)
     where
       by : (u < v) ⊎ (u ≡ v) → IsPermutation (rules_at (tree_of t)) (rules_kept after u)
-      by (inl l) = subst (λ (z : List Rule). IsPermutation (rules_at (tree_of t)) z) (sym (h.others u (apart-number u v (λ e. omega arith)))) (done u t l at w)
+      by (inl l) = subst (λ (z : List Rule). IsPermutation (rules_at (tree_of t)) z) (sym (h.others u (apart-number u v (below-differ u v l)))) (done u t l at w)
       by (inr e) =
           subst (λ (n : ℕ). IsPermutation (rules_at (tree_of t)) (rules_kept after n)) (sym e)
           (h.own t (ap (slice_get trees) (sym e) ∙ at) (ap (is_whole before) (sym e) ∙ (whole-as u ∙ w)))
 
   pub none-more : ((u : ℕ) → v ≤ u → rules_kept before u ≡ []) → (u : ℕ) → v + 1 ≤ u → rules_kept after u ≡ []
-  none-more none u le = h.others u (apart-number u v (λ e. omega arith)) ∙ none u (omega arith)
+  none-more none u le = h.others u (apart-number u v (past-differ u v le)) ∙ none u (from-past u v le)
 
 -- nothing was handed over yet
 pub none-kept : (sizes : List ℕ) (v : ℕ) → slice_index_or (map (λ (n : ℕ). no-rules) sizes) v no-rules ≡ no-rules

@@ -23,9 +23,13 @@ use Rattle.composed_tables.specs.Rules.{AreHandedOver, AreRulesOf, AreSound, Are
 use Rattle.composed_tables.specs.Steps.{building_steps, compile_steps, first_steps}
 use Rattle.composed_tables.proofs.Building.{over-hops}
 use Rattle.composed_tables.proofs.Pushing.{index-mapped}
+use Rattle.composed_tables.proofs.Tests.{more-spent}
 
 capped-same : (n : ℕ) → n < 2 ^ 64 → capped n ≡ n
 capped-same n lt = omega arith
+
+few-of : (m n : ℕ) → m ≡ n → n ≤ 65534 → m < 2 ^ 64
+few-of m n e le = omega arith
 
 module _ (s : Setting) (plan : TopologyPlan) (ready : IsReadyFor plan s) (sizes : List ℕ) (whole : List Bool)
     (sizes-are : sizes ≡ map (λ (x : SwitchOf). capped (levels_of s.network.tables x.expr)) s.network.switches)
@@ -106,11 +110,11 @@ module _ (s : Setting) (plan : TopologyPlan) (ready : IsReadyFor plan s) (sizes 
       let now : s2 ≤ s1 + first_steps plan s (length s.network.switches) =
       subst (λ (z : TopologyPlan). s2 ≤ s1 + first_steps z s (length s.network.switches)) plan-is
       (subst (λ (n : ℕ). s2 ≤ s1 + first_steps empty.plan s n) (ap length same ∙ count) there) in
-      omega (arith, compiled, now)
+      more-spent s0 s1 s2 (sum_by (compile_steps s.network.tables) s.network.switches) (first_steps plan s (length s.network.switches)) compiled now
 
   -- the sizes over hops leave room for priorities
   pub few-over-hops : IsFittingSetting s → (v : ℕ) → hop_size (fabric (empty_table plan sizes s.hops whole)) s.hops v < 2 ^ 64
   few-over-hops fits v =
       let e = over-hops (fabric (empty_table plan sizes s.hops whole)) (fabric_of s.network) size-at ready.links_are s.hops v in
       let f = fits.sizes v in
-      omega (arith, e, f)
+      few-of _ _ e f

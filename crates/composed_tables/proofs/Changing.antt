@@ -1,5 +1,5 @@
 -- A compiled expression comes to the others, or changes among them.
-use Rattle.std.proofs.Common.{◌≡◌, ℕ, ◌==◌, true, List, Some, length, set, sym, ap, subst, ◌∙◌, eq-eqb}
+use Rattle.std.proofs.Common.{◌≡◌, ℕ, List, Some, length, set, sym, ap, subst, ◌∙◌}
 use Rattle.std.specs.Prelude.{slice_get}
 use Rattle.std.proofs.lemmas.Option.{slice_get_within}
 use Rattle.incr_compile.specs.Trees.{tree_of}
@@ -12,13 +12,14 @@ use Rattle.switch_meaning.proofs.Items.{some_injective}
 use Rattle.composed_tables.specs.Rules.{AreSound, AreTreesOf, IsAdded, IsChangedAt, IsTreeChanged, IsTreeOf}
 use Rattle.composed_tables.proofs.Pushing.{each-pushed, set-here, set-long, set-there}
 use Rattle.incr_compile.specs.Trees.{IsTree}
+use Rattle.composed_tables.proofs.Tests.{differ}
 
 -- one changes, in its place
 pub changed-at : (v : ℕ) (delta : LeafDelta) (trees : List Tree) (t u : Tree) (told : RuleDelta) → slice_get trees v ≡ Some t
     → IsTreeChanged delta told (tree_of t) (tree_of u) → IsChangedAt v delta trees (set trees v u) told
 changed-at v delta trees t u told is c = record {
   long = set-long trees v u;
-  others = λ w ne. set-there trees v u w (λ e. let f : (w == v) ≡ true = eq-eqb w v e in cc);
+  others = λ w ne. set-there trees v u w (differ w v ne);
   changed = λ a b at to.
       subst (λ (z : Tree). IsTreeChanged delta told (tree_of z) (tree_of b)) (some_injective (sym is ∙ at))
       (subst (λ (z : Tree). IsTreeChanged delta told (tree_of t) (tree_of z)) (some_injective (sym (set-here trees v u (slice_get_within trees v t is)) ∙ to)) c);

@@ -26,6 +26,7 @@ use Rattle.composed_tables.specs.declared.part.Part.TheVariants.{Come, Gone}
 use Rattle.composed_tables.proofs.Kept.{beside, port-rules-are, tree-rules}
 use Rattle.composed_tables.proofs.Moving.{reordered}
 use Rattle.composed_tables.proofs.Porting.{none-whole}
+use Rattle.composed_tables.proofs.Tests.{both, differ}
 
 module _ (v : ℕ) (delta : LeafDelta) (s s' : Setting) (c : Changes v delta s s') (r r' : RulesOf)
     (tied : AreTied r) (tied' : AreTied r') (of : AreRulesOf s r) (of' : AreRulesOf s' r')
@@ -104,7 +105,7 @@ module _ (v : ℕ) (delta : LeafDelta) (s s' : Setting) (c : Changes v delta s s
         (ports-before u p y at f) (ports-after u p y at f) (IsPermutation-refl _) (IsPermutation-refl _) ch.changed)
       where
         nothing : (u : ℕ) (y : SwitchOf) → slice_get s.network.switches u ≡ Some y → y.whole ≡ true → (b : Bool) → (u == v) ≡ b → At deltas (u, y) None
-        nothing u y at t true e = absurd (let q = same-one u y e at in let f : y.whole ≡ false = ap (λ (z : SwitchOf). z.whole) q ∙ w in cc)
+        nothing u y at t true e = absurd (both y.whole t (ap (λ (z : SwitchOf). z.whole) (same-one u y e at) ∙ w))
         nothing u y at t false e =
             let whole : is_whole r.hops u ≡ true = of.laid_out.whole u y at ∙ t in
             let g : changed_by Gone deltas (u, y) None ≡ [] = none-whole r.hops deltas d.others Gone (record { v = u; port = 0 }) whole in
@@ -119,7 +120,7 @@ module _ (v : ℕ) (delta : LeafDelta) (s s' : Setting) (c : Changes v delta s s
 
       flips : (a b : ℕ) (t : Bool) → (a == b) ≡ t → (b == a) ≡ t
       flips a b true e = eq-eqb b a (sym (eqb-true a b e))
-      flips a b false e = fails (b == a) (λ f. let q : (a == b) ≡ true = eq-eqb a b (sym (eqb-true b a f)) in cc)
+      flips a b false e = fails (b == a) (λ f. differ a b e (sym (eqb-true b a f)))
 
       abbrev told-of : Part → List Rule
       told-of Gone = told.gone
@@ -146,7 +147,7 @@ module _ (v : ℕ) (delta : LeafDelta) (s s' : Setting) (c : Changes v delta s s
           (subst (λ (z : List Rule). Changed (rules_in s (u, y) None) (rules_in s' (u, y) None) told.gone z) (sym (here-told Come u e)) own)
 
       port-at : (u p : ℕ) (y : SwitchOf) → slice_get s.network.switches u ≡ Some y → y.whole ≡ false → (b : Bool) → (u == v) ≡ b → At deltas (u, y) (Some p)
-      port-at u p y at f true e = absurd (let q = same-one u y e at in let g : y.whole ≡ true = ap (λ (z : SwitchOf). z.whole) q ∙ w in cc)
+      port-at u p y at f true e = absurd (both y.whole (ap (λ (z : SwitchOf). z.whole) (same-one u y e at) ∙ w) f)
       port-at u p y at f false e =
           let after : IsPermutation (port_rules r.hops (record { v = u; port = p })) (rules_in s' (u, y) (Some p)) =
           subst (λ (h : TableOf). IsPermutation (port_rules h (record { v = u; port = p })) (rules_in s' (u, y) (Some p))) same (ports-after u p y at f) in

@@ -10,6 +10,7 @@ use Rattle.virtual_topology.specs.Wires.{Joint, outside_joints}
 use Rattle.composed_tables.specs.Placing.{rules_at as rules_on}
 use Rattle.composed_tables.specs.declared.part.Part.{Part}
 use Rattle.composed_tables.specs.declared.part.Part.TheVariants.{Come, Gone}
+use Rattle.composed_tables.proofs.Tests.{both}
 
 -- a port that has rules of its own is of a virtual switch that isn't whole
 own-open : (t : TableOf) (p : Place) → Contains (own_ports t) p → is_whole t p.v ≡ false
@@ -21,5 +22,5 @@ own-open t p own = open-by (is_whole t p.v) (filter-in (λ (q : Place). not (is_
 
 -- nothing is told of a place of a whole one
 pub none-whole : (t : TableOf) (deltas : List PortDelta) → AreOfPorts t deltas → (part : Part) (p : Place) → is_whole t p.v ≡ true → rules_on part deltas p ≡ []
-none-whole t deltas d Gone p w = d.gone p (λ own. let f : is_whole t p.v ≡ false = own-open t p own in cc)
-none-whole t deltas d Come p w = d.come p (λ own. let f : is_whole t p.v ≡ false = own-open t p own in cc)
+none-whole t deltas d Gone p w = d.gone p (λ own. both (is_whole t p.v) w (own-open t p own))
+none-whole t deltas d Come p w = d.come p (λ own. both (is_whole t p.v) w (own-open t p own))

@@ -1,5 +1,5 @@
 -- The steps of a change of a setting are those at the expression that changed, and those through hops.
-use Rattle.std.proofs.Common.{◌≡◌, ◌≢◌, ℕ, zero, suc, ◌+◌, ◌<◌, ◌≤◌, ◌==◌, true, false, List, [], ◌∷◌, ◌++◌, Some, length, take, refl, sym, ap, subst, ◌∙◌, arith, eq-eqb}
+use Rattle.std.proofs.Common.{◌≡◌, ◌≢◌, ℕ, zero, suc, ◌+◌, ◌<◌, ◌≤◌, ◌==◌, false, List, [], ◌∷◌, ◌++◌, Some, length, take, refl, sym, ap, subst, ◌∙◌, arith}
 use Rattle.std.specs.Prelude.{slice_get, slice_index_or, sum_by, IsPermutation}
 use Rattle.std.specs.List.{AllByRecursion}
 use Rattle.std.proofs.lemmas.List.Sums.{sum_by-take-le, sum_by_more, sum_by_more_le}
@@ -31,6 +31,7 @@ use Rattle.composed_tables.proofs.Applied.{gone-there, rules-after, same-switche
 use Rattle.composed_tables.proofs.HopSteps.{AreAlike, steps-alike}
 use Rattle.composed_tables.proofs.Kept.{beside, kept-rules, within}
 use Rattle.composed_tables.proofs.Places.{PartedIn, ends-parted, places-parted, ports-same}
+use Rattle.composed_tables.proofs.Tests.{differ, more-spent, spent-first}
 
 -- ---- sums
 module _ {X : Type 0} (f : X → ℕ) (xs : List X) (v : ℕ) (x : X) (at : slice_get xs v ≡ Some x) (s0 s1 s2 : ℕ) where
@@ -87,7 +88,7 @@ pub rules-here : (t : TableOf) (v : ℕ) (rules : List Rule) → rules_kept (wit
 rules-here t v rules = put-here t.rules v rules
 
 pub rules-there : (t : TableOf) (v : ℕ) (rules : List Rule) (u : ℕ) → (u == v) ≡ false → rules_kept (with-rules t v rules) u ≡ rules_kept t u
-rules-there t v rules u ne = put-there t.rules v rules u (λ e. let f : (u == v) ≡ true = eq-eqb u v e in cc)
+rules-there t v rules u ne = put-there t.rules v rules u (differ u v ne)
 
 pub handed-with : (t : TableOf) (v : ℕ) (gone come kept rules : List Rule) → IsPermutation (rules_kept t v) (gone ++ kept) → rules ≡ come ++ kept
     → IsHanded t (with-rules t v rules) v gone come
@@ -136,7 +137,8 @@ module _ (v : ℕ) (delta : LeafDelta) (s s' : Setting) (c : Changes v delta s s
 
   -- that is within all
   pub tree-within : (s0 s1 : ℕ) → s1 ≤ s0 + sum_by (expression_steps s.network.tables s'.network.tables) s.network.switches → s1 ≤ s0 + setting_steps r.hops.plan s s'
-  tree-within s0 s1 le = omega (arith, le)
+  tree-within s0 s1 le =
+      spent-first s0 s1 (sum_by (expression_steps s.network.tables s'.network.tables) s.network.switches) (hop_steps r.hops.plan s (fabric_of s.network) (fabric_of s'.network)) le
 
   module _ (trees : List Tree) (told : RuleDelta) (tied : AreTied r) (changed : IsChangedAt v delta r.trees trees told) where
     pub told-apart : Apart told.gone told.come
@@ -180,4 +182,5 @@ module _ (v : ℕ) (delta : LeafDelta) (s s' : Setting) (c : Changes v delta s s
           → s2 ≤ s0 + setting_steps r.hops.plan s s'
       all-spent s0 s1 s2 le h =
           let more : s2 ≤ s1 + hop_steps r.hops.plan s (fabric_of s.network) (fabric_of s'.network) = subst (λ (n : ℕ). s2 ≤ s1 + n) hops-spent (h table-after handed told-apart) in
-          omega (arith, le, more)
+          more-spent s0 s1 s2 (sum_by (expression_steps s.network.tables s'.network.tables) s.network.switches)
+          (hop_steps r.hops.plan s (fabric_of s.network) (fabric_of s'.network)) le more

@@ -1,5 +1,5 @@
 -- What stands on switches is what is installed of a setting's entries.
-use Rattle.std.proofs.Common.{◌≡◌, ℕ, ◌<◌, ◌==◌, Bool, true, false, List, [], Some, length, map, set, refl, sym, ap, subst, ◌∙◌, eqb-true, eq-eqb}
+use Rattle.std.proofs.Common.{◌≡◌, ℕ, ◌<◌, ◌==◌, Bool, true, false, List, [], Some, length, map, set, refl, sym, ap, subst, ◌∙◌, eqb-true}
 use Rattle.std.specs.Prelude.{IsPermutation, slice_get}
 use Rattle.std.proofs.lemmas.Option.{slice_get_within}
 use Rattle.agreement.specs.Entries.{entries_of}
@@ -15,6 +15,7 @@ use Rattle.switch_tables.proofs.Switching.{stands-as-installed}
 use Rattle.composed_tables.specs.Composing.{ComposedOf, IsGood, IsOf, IsStandingOf, IsWholeAt, WasOf}
 use Rattle.composed_tables.proofs.After.{good-no-twins}
 use Rattle.composed_tables.proofs.Pushing.{set-here, set-long, set-there}
+use Rattle.composed_tables.proofs.Tests.{differ}
 
 -- what holds of each switch holds of each where one was put in the place of another
 each-set : (P : ℕ → SwitchTableOf → Type 0) (tables : List SwitchTableOf) (n : ℕ) (y : SwitchTableOf) → n < length tables → P n y
@@ -26,7 +27,7 @@ each-set P tables n y lt here all m z at = by (m == n) refl
         let same = eqb-true m n e in
         let is : y ≡ z = some_injective (sym (set-here tables n y lt) ∙ (ap (slice_get (set tables n y)) (sym same) ∙ at)) in
         subst (λ (k : ℕ). P k z) (sym same) (subst (λ (w : SwitchTableOf). P n w) is here)
-    by false e = all m z (sym (set-there tables n y m (λ f. let g : (m == n) ≡ true = eq-eqb m n f in cc)) ∙ at)
+    by false e = all m z (sym (set-there tables n y m (differ m n e)) ∙ at)
 
 -- a switch that came up
 pub whole-set : (tables : List SwitchTableOf) (n : ℕ) (x y : SwitchTableOf) (batch : Batch) → slice_get tables n ≡ Some x

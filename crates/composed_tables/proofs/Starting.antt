@@ -1,5 +1,5 @@
 -- The steps in which virtual switches are handed over one after the other.
-use Rattle.std.proofs.Common.{◌≡◌, ◌≢◌, ℕ, zero, suc, ◌+◌, ◌<◌, ◌≤◌, ◌==◌, ◌-◌, ◌⊎◌, inl, inr, Bool, true, false, List, [], ◌∷◌, Option, Some, None, length, take, refl, sym, ap, subst, ◌∙◌, arith, eqb-true, eq-eqb}
+use Rattle.std.proofs.Common.{◌≡◌, ◌≢◌, ℕ, zero, suc, ◌+◌, ◌<◌, ◌≤◌, ◌==◌, ◌-◌, ◌⊎◌, inl, inr, Bool, true, false, List, [], ◌∷◌, Option, Some, None, length, take, refl, sym, ap, subst, ◌∙◌, arith, eqb-true}
 use Rattle.std.specs.Prelude.{slice_get, Contains, IsPermutation}
 use Rattle.std.proofs.lemmas.Bool.{cases_lt}
 use Rattle.std.proofs.lemmas.List.{append-nil}
@@ -21,6 +21,7 @@ use Rattle.composed_tables.specs.Rules.{AreRulesOf, AreSound, IsLaidOut, KeepsRe
 use Rattle.composed_tables.specs.Steps.{HasFirst, first_fabric, first_steps, hop_steps}
 use Rattle.composed_tables.proofs.Kept.{beside, rules-of-tree}
 use Rattle.composed_tables.proofs.Spending.{alike, handed-with, hops-alike, rules-here, rules-there, with-rules}
+use Rattle.composed_tables.proofs.Tests.{differ, spent-up}
 
 -- ---- the first items of a list
 module _ {X : Type 0} where
@@ -44,6 +45,13 @@ module _ {X : Type 0} where
       by : (k < n) ⊎ (n ≤ k) → slice_get (take n xs) k ≡ slice_get (take (n + 1) xs) k
       by (inl lt) = take-within xs n k lt ∙ sym (take-within xs (n + 1) k (omega arith))
       by (inr le) = take-past xs n k le ∙ sym (take-past xs (n + 1) k (let far : n + 1 ≤ k = omega arith in far))
+
+-- no rule is in an empty list
+nowhere : (x : Rule) → Contains [] x → ⊥
+nowhere x i = let lt = i.1 in omega arith
+
+next-of : (u v : ℕ) → u ≡ v → u < v + 1
+next-of u v e = omega arith
 
 -- ---- steps so far
 module _ (plan : TopologyPlan) (s : Setting) where
@@ -77,7 +85,7 @@ module _ (plan : TopologyPlan) (s : Setting) where
 
   -- those of the first are within those of all
   pub first-all : (n m s0 s1 : ℕ) → n ≤ m → s1 ≤ s0 + first_steps plan s n → s1 ≤ s0 + first_steps plan s m
-  first-all n m s0 s1 le far = let up = first-up n m le in omega (arith, up, far)
+  first-all n m s0 s1 le far = spent-up s0 s1 (first_steps plan s n) (first_steps plan s m) far (first-up n m le)
 
 -- ---- a table of a setting stays one with other rules
 pub laid-rules : (s : Setting) (t : TableOf) (rules : List (List Rule)) → IsLaidOut s t → IsLaidOut s (record t { rules = rules })
@@ -111,12 +119,12 @@ module _ (s : Setting) (trees : List Tree) (sound : AreSound trees) where
         by false e =
             subst (λ (z : List Rule). IsPermutation z ((first_fabric s.network (v + 1)).rules u)) (sym (rules-there r.hops v come u e))
             (subst (λ (o : Option SwitchOf). IsPermutation (rules_kept r.hops u) (switch_rules s.network.tables o))
-            (take-next s.network.switches v u (λ q. let f : (u == v) ≡ true = eq-eqb u v q in cc)) (has u x at w))
+            (take-next s.network.switches v u (differ u v e)) (has u x at w))
         by true e =
             let q = eqb-true u v e in
             let there : slice_get r.trees u ≡ Some tree = ap (slice_get r.trees) q ∙ is in
             let kept : rules_kept after u ≡ come = ap (rules_kept after) q ∙ rules-here r.hops v come in
-            let first : slice_get (take (v + 1) s.network.switches) u ≡ Some x = take-within s.network.switches (v + 1) u (omega arith) ∙ at in
+            let first : slice_get (take (v + 1) s.network.switches) u ≡ Some x = take-within s.network.switches (v + 1) u (next-of u v q) ∙ at in
             subst (λ (z : List Rule). IsPermutation z ((first_fabric s.network (v + 1)).rules u)) (sym kept)
             (subst (λ (o : Option SwitchOf). IsPermutation come (switch_rules s.network.tables o)) (sym first)
             (IsPermutation-trans come (rules_at (tree_of tree)) (switch_rules s.network.tables (Some x)) (IsPermutation-sym (rules_at (tree_of tree)) come same)
@@ -137,9 +145,6 @@ module _ (s : Setting) (trees : List Tree) (sound : AreSound trees) where
         let apart : Apart [] come = λ x i j. nowhere x i in
         subst (λ (n : ℕ). s1 ≤ s0 + n) next-spent
         (h after (subst (λ (z : List Rule). IsHanded r.hops after v z come) (sym nothing) handed) (subst (λ (z : List Rule). Apart z come) (sym nothing) apart))
-      where
-        nowhere : (x : Rule) → Contains [] x → ⊥
-        nowhere x i = let lt = i.1 in omega arith
 
   -- the first have been handed over
   pub first-handed : (r : RulesOf) → r.trees ≡ trees → AreRulesOf s r → (v : ℕ) (t : TableOf)

@@ -68,8 +68,13 @@ fn table_of(alloc: Global, setting: &Setting, n: u32) -> Result<SwitchTable, Mem
     let come = entries_of(alloc, setting, n)?;
     let gone = List::new(alloc);
     let mut table = SwitchTable::new(alloc);
-    table.change(&gone, &come, 1)?;
-    Ok(table)
+    match table.change(&gone, &come, 1) {
+        Ok(_) => Ok(table),
+        Err(memory) => {
+            drop(table);
+            Err(memory)
+        }
+    }
 }
 
 /// What is to stand on each switch of a setting.
@@ -165,11 +170,18 @@ fn turn_all<G: Ledger>(
     Ok(batches)
 }
 
-/// The rules are given up.
+/// The rules are given up. What lets go of a value by a call has one step where its parts would have many.
 fn give_up(rules: &mut Option<Rules>)
     ensures { rules.new ≡ None }
 {
-    *rules = None;
+    drop(rules.take());
+}
+
+/// The rules are made anew.
+fn put_rules(rules: &mut Option<Rules>, made: Rules)
+    ensures { rules.new ≡ Some made }
+{
+    drop(rules.replace(made));
 }
 
 /// So they do where the rules are there; where memory is wanting they are given up.
@@ -296,7 +308,7 @@ impl Composed {
         ensures steps { steps.new ≤ steps.old + building_steps topology.now setting.now }
     {
         let rules = Rules::build(rt, self.alloc, topology, setting, steps)?;
-        self.rules = Some(rules);
+        put_rules(&mut self.rules, rules);
         Ok(())
     }
 
@@ -381,7 +393,7 @@ impl Composed {
         ensures of { (s : SettingOf) → WasOf s self.old → IsOf s self.new }
         ensures compiled { self.new.rules ≡ None }
     {
-        self.rules = None;
+        give_up(&mut self.rules);
         undo_tables(&mut self.tables);
     }
 }

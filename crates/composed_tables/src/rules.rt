@@ -90,6 +90,16 @@ fn are_fitting(size: u64, rules: &List<Rule>) -> bool
     true
 }
 
+/// The list has room for a compiled expression. Where the tree would be dropped, the proof learns that it is sound.
+fn with_room(trees: &mut List<Compiled>, tree: Compiled) -> Result<Compiled, Memory>
+    ensures same { IfOk result (λ t. t ≡ tree) }
+    ensures sound { IfOk result (λ t. IsTree (tree_of t)) }
+    ensures kept { trees.new ≡ trees.old }
+{
+    trees.reserve(1)?;
+    Ok(tree)
+}
+
 /// Appends the compiled expression of a virtual switch.
 fn add_tree<R: Threads + Sync, G: Ledger>(
     rt: &R,
@@ -107,9 +117,8 @@ fn add_tree<R: Threads + Sync, G: Ledger>(
 {
     let ports = x.ports(alloc)?;
     let tree = Compiled::build(rt, alloc, &x.expr, &network.tables, &ports, steps)?;
-    // Where the tree would be dropped, the proof learns that it is sound.
-    trees.reserve(1)?;
-    trees.push(tree)?;
+    let sound = with_room(trees, tree)?;
+    trees.push(sound)?;
     Ok(())
 }
 
@@ -292,9 +301,10 @@ fn empty_hops(
     ensures plan { IfOk result (λ t. t.plan ≡ topology.now) }
     ensures hops { IfOk result (λ t. t.hops ≡ hops) }
 {
-    let plan = topology.copy()?;
     let own_sizes = sizes.copied()?;
     let own_whole = whole.copied()?;
+    // It comes last, so that no failure has to let go of it.
+    let plan = topology.copy()?;
     let table = HopTable::new(alloc, plan, own_sizes, hops, own_whole)?;
     Ok(table)
 }
@@ -373,9 +383,16 @@ fn change_tree<G: Ledger>(
         → (sizes : ℕ → ℕ) → (before after : ℕ → List RuleOf) → MemberChanges delta before after
         → IsTreeWith sizes before (tree_of t) → steps.new ≤ steps.old + steps_of sizes before after (policy_in (tree_of t)) }
 {
-    // Taken out: where the tree would be dropped, the proof learns that it is sound.
     let mut tree = trees.remove(v as usize);
-    let told = tree.apply(delta, steps)?;
-    trees.insert(v as usize, tree)?;
-    Ok(told)
+    match tree.apply(delta, steps) {
+        Ok(told) => {
+            let sound = with_room(trees, tree)?;
+            trees.insert(v as usize, sound)?;
+            Ok(told)
+        }
+        Err(memory) => {
+            drop(tree);
+            Err(memory)
+        }
+    }
 }

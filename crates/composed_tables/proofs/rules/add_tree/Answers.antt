@@ -1,7 +1,7 @@
 use Rattle.std.proofs.Common.{◌≡◌, ◌≢◌, ◌+◌, ◌<◌, ◌≤◌, ◌^◌, ℕ, List, [], ◌∷◌, ◌++◌, ap, sym, subst, ◌∙◌}
 use Rattle.incr_compile.specs.Compiling.{IsOfTables}
 use Rattle.incr_compile.specs.Costs.{steps_from_scratch}
-use Rattle.incr_compile.specs.Trees.{IsTree, tree_of}
+use Rattle.incr_compile.specs.Trees.{tree_of}
 use Rattle.incr_compile.specs.declared.tree.Tree.{Tree}
 use Rattle.policy_expr.specs.Policy.{Policy, members_of, policy_of}
 use Rattle.policy_meaning.specs.Fitting.{levels_of}
@@ -9,6 +9,7 @@ use Rattle.policy_meaning.specs.LeafFact.{EachPair}
 use Rattle.policy_meaning.specs.Networks.{ports_of}
 use Rattle.policy_meaning.specs.Switches.{SwitchOf}
 use Rattle.policy_meaning.specs.declared.leaf.LeafTable.{LeafTable}
+use Rattle.composed_tables.specs.Rules.{IsTreeOf}
 use Rattle.composed_tables.specs.Steps.{compile_steps}
 use Rattle.composed_tables.proofs.rules.add_tree.Goals as goal
 
@@ -31,14 +32,15 @@ build-requires-clause-once g c ks lives =
 pub returns-clause-added : goal.returns-clause-added
 returns-clause-added g c =
     let tree = c.in_ok-tree.tree in
+    let sound = c.in_ok-sound.sound in
     record {
-      tree = tree;
-      added = c.in_ok-push.ensures.pushed ∙ ap (λ (z : List Tree). z ++ tree ∷ []) c.reserve.ensures;
-      of = record {
+      tree = sound;
+      added = c.in_ok-push.ensures.pushed ∙ ap (λ (z : List Tree). z ++ sound ∷ []) c.with_room.ensures.kept;
+      of = subst (λ (z : Tree). IsTreeOf c.args.network.now.tables c.args.x.now z) (sym c.in_ok-sound.ensures.same) (record {
         policy = c.in_ok-tree.ensures.policy ∙ ap (λ (z : SwitchOf). z.expr) c.x.view_is;
         tables_are = subst (λ (ports : List ℕ). IsOfTables c.args.network.now.tables ports (tree_of tree)) c.in_ok-ports.ensures c.in_ok-tree.ensures.tables;
-      };
-      sound = subst (λ (z : Tree). IsTree (tree_of z)) c.tree.view_is c.tree.invariant.0;
+      });
+      sound = c.in_ok-sound.ensures.sound;
     }
 
 pub returns-in_err-tree-clause-steps : goal.returns-in_err-tree-clause-steps
@@ -46,8 +48,8 @@ returns-in_err-tree-clause-steps g c =
     spent c.args.network.now.tables c.args.x.now c.in_ok-ports.ports (policy_of c.x.inside.expr) c.args.steps.now c.build.new.steps c.in_ok-ports.ensures
     (ap (λ (z : SwitchOf). z.expr) c.x.view_is) c.build.ensures.steps
 
-pub returns-in_err-reserve-clause-steps : goal.returns-in_err-reserve-clause-steps
-returns-in_err-reserve-clause-steps g c =
+pub returns-in_err-sound-clause-steps : goal.returns-in_err-sound-clause-steps
+returns-in_err-sound-clause-steps g c =
     spent c.args.network.now.tables c.args.x.now c.in_ok-ports.ports (policy_of c.x.inside.expr) c.args.steps.now c.build.new.steps c.in_ok-ports.ensures
     (ap (λ (z : SwitchOf). z.expr) c.x.view_is) c.build.ensures.steps
 
