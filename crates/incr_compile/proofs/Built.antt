@@ -1,7 +1,7 @@
 -- The tree of an expression over tables.
 use Rattle.std.proofs.Common.{◌≡◌, ◌≢◌, ℕ, zero, suc, ◌==◌, ◌*◌, ◌<◌, ◌^◌, Bool, true, false, ◌||◌, inl, inr, List}
-use Rattle.std.proofs.Common.{[], ◌∷◌, ◌++◌, Option, Some, None, map, refl, sym, ap, subst, ◌∙◌, arith}
-use Rattle.std.specs.Prelude.{IsPermutation, slice_get}
+use Rattle.std.proofs.Common.{[], ◌∷◌, ◌++◌, Option, Some, None, Result, Ok, map, refl, sym, ap, subst, ◌∙◌, arith}
+use Rattle.std.specs.Prelude.{IfOk, IsPermutation, slice_get}
 use Rattle.std.specs.List.{All, AllByRecursion, list_any}
 use Rattle.std.proofs.lemmas.Bool.{cases_eq}
 use Rattle.std.proofs.lemmas.List.Sorted.{IsPermutation-map, IsPermutation-sym, IsPermutation-trans}
@@ -28,7 +28,8 @@ use Rattle.made_rules.specs.Rules.{rule_of, rules_in}
 use Rattle.made_rules.specs.declared.made.Made.{Made}
 use Rattle.incr_compile.specs.Compiling.{CanBeOver, IsBuilt, IsByLeaves, IsOver, composed_by, policy_in}
 use Rattle.incr_compile.specs.Nodes.{CanJoin, IsNode, NodeOf, whole_size}
-use Rattle.incr_compile.specs.Trees.{IsMemberRule, IsOnce, IsTree, TreeOf, branch, has_member, leaf, made_in, tree_size}
+use Rattle.incr_compile.specs.Trees.{IsMemberRule, IsOnce, IsTree, TreeOf, branch, has_member, leaf, made_in, tree_of, tree_size}
+use Rattle.incr_compile.specs.declared.tree.Tree.{Tree}
 use Rattle.incr_compile.proofs.Scratch.{size-is}
 use Rattle.incr_compile.proofs.Told.{come-rules}
 use Rattle.incr_compile.proofs.TreeLemmas.{of-items, tree-fit}
@@ -208,3 +209,12 @@ once-tree (branch n l r) p =
     let ys = members_of (policy_in r) in
     let q = subst (EachPair (λ (i j : ℕ). i ≢ j)) (members-by n.op (policy_in l) (policy_in r)) p in
     (once-tree l (once-front xs ys q), once-tree r (once-back xs ys q), λ i e. named i r ∙ apart-lists i xs ys q (sym (named i l) ∙ e))
+
+-- ---- a tree that was handed on
+module _ (tables : List LeafTable) (ports : List ℕ) (e : Policy) where
+  pub built-as : (t u : Tree) → u ≡ t → IsBuilt tables ports e (tree_of t) → IsBuilt tables ports e (tree_of u)
+  built-as t u same b = subst (λ (z : Tree). IsBuilt tables ports e (tree_of z)) (sym same) b
+
+  pub built-ok : {E : Type 0} (r : Result Tree E) (t : Tree) → r ≡ Ok t → IfOk r (λ (z : Tree). IsBuilt tables ports e (tree_of z))
+      → IsBuilt tables ports e (tree_of t)
+  built-ok {E} r t is b = subst (λ (q : Result Tree E). IfOk q (λ (z : Tree). IsBuilt tables ports e (tree_of z))) is b

@@ -1,5 +1,5 @@
 //! The tree of an expression over members' tables, from scratch.
-ghost use Rattle.std.specs.Prelude.{◌≡◌, ◌+◌, ◌<◌, ◌≤◌, ◌^◌, All, IfOk, slice_get};
+ghost use Rattle.std.specs.Prelude.{◌≡◌, ◌+◌, ◌<◌, ◌≤◌, ◌^◌, All, IfOk, Ok, slice_get};
 ghost use Rattle.std.specs.List.{AllByRecursion};
 ghost use Rattle.policy_expr.specs.Policy.{member as member_of, policy_of};
 ghost use Rattle.policy_meaning.specs.Fitting.{IsFittingTable, levels_of};
@@ -92,6 +92,21 @@ fn operator_tree<R: Threads + Sync, G: Ledger>(
     Ok(Tree::Operator { node, left, right })
 }
 
+/// Both trees, where the second was built. What lets go of the first by a call has one step where its parts would
+/// have many.
+fn both(first: Tree, second: Result<Tree, Memory>) -> Result<(Tree, Tree), Memory>
+    ensures first { IfOk result (λ both. both.0 ≡ first) }
+    ensures second { IfOk result (λ both. second ≡ Ok both.1) }
+{
+    match second {
+        Ok(tree) => Ok((first, tree)),
+        Err(memory) => {
+            drop(first);
+            Err(memory)
+        }
+    }
+}
+
 /// The tree of an expression over these tables.
 pub(crate) fn build_tree<R: Threads + Sync, G: Ledger>(
     rt: &R,
@@ -111,21 +126,24 @@ pub(crate) fn build_tree<R: Threads + Sync, G: Ledger>(
         Expr::Member { index } => member_tree(alloc, tables, ports, *index),
         Expr::Par { left, right } => {
             let first = build_tree(rt, alloc, tables, ports, left, steps)?;
-            let second = build_tree(rt, alloc, tables, ports, right, steps)?;
+            let second = build_tree(rt, alloc, tables, ports, right, steps);
+            let both = both(first, second)?;
             let size = expression_size(tables, right);
-            operator_tree(rt, alloc, Op::Par, size, first, second, steps)
+            operator_tree(rt, alloc, Op::Par, size, both.0, both.1, steps)
         }
         Expr::Seq { left, right } => {
             let first = build_tree(rt, alloc, tables, ports, left, steps)?;
-            let second = build_tree(rt, alloc, tables, ports, right, steps)?;
+            let second = build_tree(rt, alloc, tables, ports, right, steps);
+            let both = both(first, second)?;
             let size = expression_size(tables, right);
-            operator_tree(rt, alloc, Op::Seq, size, first, second, steps)
+            operator_tree(rt, alloc, Op::Seq, size, both.0, both.1, steps)
         }
         Expr::Over { left, right } => {
             let first = build_tree(rt, alloc, tables, ports, left, steps)?;
-            let second = build_tree(rt, alloc, tables, ports, right, steps)?;
+            let second = build_tree(rt, alloc, tables, ports, right, steps);
+            let both = both(first, second)?;
             let size = expression_size(tables, right);
-            operator_tree(rt, alloc, Op::Over, size, first, second, steps)
+            operator_tree(rt, alloc, Op::Over, size, both.0, both.1, steps)
         }
     }
 }

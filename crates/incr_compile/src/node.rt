@@ -43,6 +43,22 @@ pub struct Node {
     pub below: Option<Below>,
 }
 
+/// Copies of what the rules of both operands are filed under. What lets go of a copy by a call has one step where
+/// its parts would have many.
+fn copies(lefts: &Index, rights: &Index) -> Result<(Index, Index), Memory>
+    ensures left { IfOk result (λ both. both.0 ≡ lefts.now) }
+    ensures right { IfOk result (λ both. both.1 ≡ rights.now) }
+{
+    let left = lefts.copy()?;
+    match rights.copy() {
+        Ok(right) => Ok((left, right)),
+        Err(memory) => {
+            drop(left);
+            Err(memory)
+        }
+    }
+}
+
 /// The ids of rules of the left operand, as origins.
 fn left_origins(alloc: Global, ids: &[usize]) -> Result<Vec<Origin>, Memory>
     ensures { IfOk result (λ origins. origins.items ≡ map left_origin ids.now) }
@@ -88,6 +104,70 @@ fn made_of_all<R: Threads + Sync, G: Ledger>(
     let mut alone = made_alone(alloc, op, size, right, steps)?;
     fresh.append(&mut alone)?;
     Ok(fresh)
+}
+
+/// The store of what is made of them.
+fn store_of_all<R: Threads + Sync, G: Ledger>(
+    rt: &R,
+    alloc: Global,
+    op: Op,
+    size: u64,
+    left: &Store<Made>,
+    right: &Store<Made>,
+    rights: &Index,
+    steps: &mut Steps<G>,
+) -> Result<Store<Made>, Memory>
+    requires can { CanJoin op size left.now right.now }
+    requires shown { IsPermutation rights.now.items (filter_map (shown (asked op)) (rules_in right.now)) }
+    ensures made { IfOk result (λ store. IsPermutation (map item_of store)
+        (made (held_way op size) (rules_in left.now) (rules_in right.now))) }
+    ensures steps { steps.new ≤ steps.old + (left_cost op (rules_in right.now) (rules_in left.now)
+        + right_cost op (rules_in left.now) (rules_in right.now)) }
+{
+    let fresh = made_of_all(rt, alloc, op, size, left, right, rights, steps)?;
+    let mut store = Store::new(alloc);
+    store.add_all(fresh)?;
+    Ok(store)
+}
+
+/// Files the rules of both operands.
+fn show_both(
+    lefts: &mut Index,
+    rights: &mut Index,
+    op: Op,
+    left: &Store<Made>,
+    right: &Store<Made>,
+) -> Result<(), Memory>
+    requires left { lefts.old.items ≡ [] }
+    requires right { rights.old.items ≡ [] }
+    ensures left { OnOk result (lefts.new.items ≡ filter_map (shown (reach op)) (rules_in left.now)) }
+    ensures right { OnOk result (rights.new.items ≡ filter_map (shown (asked op)) (rules_in right.now)) }
+{
+    show_all(lefts, op, Side::Left, left)?;
+    show_all(rights, op, Side::Right, right)?;
+    Ok(())
+}
+
+/// What the rules of both operands are filed under.
+fn filed(
+    alloc: Global,
+    op: Op,
+    left: &Store<Made>,
+    right: &Store<Made>,
+) -> Result<(Index, Index), Memory>
+    ensures left { IfOk result (λ both. both.0.items ≡ filter_map (shown (reach op)) (rules_in left.now)) }
+    ensures right { IfOk result (λ both. both.1.items ≡ filter_map (shown (asked op)) (rules_in right.now)) }
+{
+    let mut lefts = Index::new(alloc);
+    let mut rights = Index::new(alloc);
+    match show_both(&mut lefts, &mut rights, op, left, right) {
+        Ok(()) => Ok((lefts, rights)),
+        Err(memory) => {
+            drop(lefts);
+            drop(rights);
+            Err(memory)
+        }
+    }
 }
 
 /// What the rules of a right operand make alone.
@@ -140,21 +220,21 @@ impl Node {
         ensures size { IfOk result (λ node. node.size ≡ size) }
         ensures steps { steps.new ≤ steps.old + (left_cost op (rules_in right.now) (rules_in left.now) + right_cost op (rules_in left.now) (rules_in right.now)) }
     {
-        let mut lefts = Index::new(alloc);
-        show_all(&mut lefts, op, Side::Left, left)?;
-        let mut rights = Index::new(alloc);
-        show_all(&mut rights, op, Side::Right, right)?;
-        let fresh = made_of_all(rt, alloc, op, size, left, right, &rights, steps)?;
-        let mut made = Store::new(alloc);
-        made.add_all(fresh)?;
-        Ok(Node {
-            op,
-            size,
-            made,
-            lefts,
-            rights,
-            below: None,
-        })
+        let filed = filed(alloc, op, left, right)?;
+        match store_of_all(rt, alloc, op, size, left, right, &filed.1, steps) {
+            Ok(made) => Ok(Node {
+                op,
+                size,
+                made,
+                lefts: filed.0,
+                rights: filed.1,
+                below: None,
+            }),
+            Err(memory) => {
+                drop(filed);
+                Err(memory)
+            }
+        }
     }
 
     /// Makes ready what a change of the left operand changes here.
@@ -264,13 +344,20 @@ impl Node {
     pub fn copy(&self) -> Result<Node, Memory>
         ensures { IfOk result (λ copied. node_of copied ≡ node_of self.now) }
     {
-        Ok(Node {
-            op: self.op,
-            size: self.size,
-            made: self.made.copy()?,
-            lefts: self.lefts.copy()?,
-            rights: self.rights.copy()?,
-            below: None,
-        })
+        let made = self.made.copy()?;
+        match copies(&self.lefts, &self.rights) {
+            Ok((lefts, rights)) => Ok(Node {
+                op: self.op,
+                size: self.size,
+                made,
+                lefts,
+                rights,
+                below: None,
+            }),
+            Err(memory) => {
+                drop(made);
+                Err(memory)
+            }
+        }
     }
 }
