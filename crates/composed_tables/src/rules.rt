@@ -331,13 +331,18 @@ impl Rules {
         let sizes = sizes(alloc, network)?;
         let whole = wholes(alloc, network)?;
         let mut hops = empty_hops(alloc, topology, &sizes, &whole, setting.hops)?;
-        hand_over_all(alloc, &mut hops, &sizes, &whole, trees.as_slice(), steps)?;
-        Ok(Rules {
-            trees,
-            sizes,
-            whole,
-            hops,
-        })
+        match hand_over_all(alloc, &mut hops, &sizes, &whole, trees.as_slice(), steps) {
+            Ok(()) => Ok(Rules {
+                trees,
+                sizes,
+                whole,
+                hops,
+            }),
+            Err(memory) => {
+                drop(hops);
+                Err(memory)
+            }
+        }
     }
 
     /// A member of a virtual switch changes its rules. What is told is what went and came at the entrances.

@@ -194,15 +194,21 @@ impl Duplicate for HopTable {
         let sizes = self.sizes.copied()?;
         let whole = self.whole.copied()?;
         let topology = self.topology.copy()?;
-        let parts = self.parts.copy()?;
-        Ok(HopTable {
-            alloc: self.alloc,
-            topology,
-            sizes,
-            hops: self.hops,
-            whole,
-            parts,
-            is_lost: self.is_lost,
-        })
+        match self.parts.copy() {
+            Ok(parts) => Ok(HopTable {
+                alloc: self.alloc,
+                topology,
+                sizes,
+                hops: self.hops,
+                whole,
+                parts,
+                is_lost: self.is_lost,
+            }),
+            // By a call it is one step of the proof to let go of it, and many by its parts.
+            Err(memory) => {
+                drop(topology);
+                Err(memory)
+            }
+        }
     }
 }

@@ -53,22 +53,22 @@ hand_over_all-requires-clause-wholes g c =
     let count = c.in_ok-trees.ensures.count in
     omega (arith, items, wholes, mapped, count)
 
-pub returns-clause-tied : goal.returns-clause-tied
-returns-clause-tied g c =
-    let over = subst (λ (z : List Tree). AreHandedOver z c.in_ok-hops.hops c.hand_over_all.new.hops) c.as_slice.ensures c.in_ok-hand_over_all.ensures.handed in
+pub returns-in-Ok-clause-tied : goal.returns-in-Ok-clause-tied
+returns-in-Ok-clause-tied g c =
+    let over = subst (λ (z : List Tree). AreHandedOver z c.in_ok-hops.hops c.hand_over_all.new.hops) c.as_slice.ensures c.in-Ok.ensures.handed in
     made-tied c.args.setting.now c.args.topology.now c.requires.ready c.in_ok-sizes.sizes c.in_ok-whole.whole c.in_ok-sizes.ensures c.in_ok-whole.ensures
     c.in_ok-trees.trees c.in_ok-hops.hops c.hand_over_all.new.hops c.in_ok-hops.ensures.empty c.in_ok-hops.ensures.plan c.in_ok-hops.ensures.hops over.rest
     c.in_ok-trees.ensures.count c.in_ok-trees.ensures.trees c.in_ok-trees.ensures.sound over
 
-pub returns-clause-rules : goal.returns-clause-rules
-returns-clause-rules g c =
-    let over = subst (λ (z : List Tree). AreHandedOver z c.in_ok-hops.hops c.hand_over_all.new.hops) c.as_slice.ensures c.in_ok-hand_over_all.ensures.handed in
+pub returns-in-Ok-clause-rules : goal.returns-in-Ok-clause-rules
+returns-in-Ok-clause-rules g c =
+    let over = subst (λ (z : List Tree). AreHandedOver z c.in_ok-hops.hops c.hand_over_all.new.hops) c.as_slice.ensures c.in-Ok.ensures.handed in
     made-of c.args.setting.now c.args.topology.now c.requires.ready c.in_ok-sizes.sizes c.in_ok-whole.whole c.in_ok-sizes.ensures c.in_ok-whole.ensures
     c.in_ok-trees.trees c.in_ok-hops.hops c.hand_over_all.new.hops c.in_ok-hops.ensures.empty c.in_ok-hops.ensures.plan c.in_ok-hops.ensures.hops over.rest
     c.in_ok-trees.ensures.count c.in_ok-trees.ensures.trees c.in_ok-trees.ensures.sound
 
-pub returns-clause-plan : goal.returns-clause-plan
-returns-clause-plan g c = ap (λ (z : TableOf). z.plan) c.in_ok-hand_over_all.ensures.handed.rest ∙ c.in_ok-hops.ensures.plan
+pub returns-in-Ok-clause-plan : goal.returns-in-Ok-clause-plan
+returns-in-Ok-clause-plan g c = ap (λ (z : TableOf). z.plan) c.in-Ok.ensures.handed.rest ∙ c.in_ok-hops.ensures.plan
 
 pub returns-in_err-trees-clause-steps : goal.returns-in_err-trees-clause-steps
 returns-in_err-trees-clause-steps g c = let le = c.compile_all.ensures.steps in omega (arith, le)
@@ -82,14 +82,14 @@ returns-in_err-whole-clause-steps g c = let le = c.compile_all.ensures.steps in 
 pub returns-in_err-hops-clause-steps : goal.returns-in_err-hops-clause-steps
 returns-in_err-hops-clause-steps g c = let le = c.compile_all.ensures.steps in omega (arith, le)
 
-pub returns-in_err-hand_over_all-clause-steps : goal.returns-in_err-hand_over_all-clause-steps
-returns-in_err-hand_over_all-clause-steps g c =
+pub returns-in-Err-clause-steps : goal.returns-in-Err-clause-steps
+returns-in-Err-clause-steps g c =
     made-steps c.args.setting.now c.args.topology.now c.requires.ready c.in_ok-sizes.sizes c.in_ok-whole.whole c.in_ok-sizes.ensures c.in_ok-whole.ensures c.in_ok-trees.trees
     c.in_ok-hops.hops c.in_ok-hops.ensures.empty c.in_ok-hops.ensures.plan c.in_ok-hops.ensures.hops c.in_ok-trees.ensures.count c.in_ok-trees.ensures.trees c.in_ok-trees.ensures.sound
     c.as_slice.result.now c.as_slice.ensures c.args.steps.now c.compile_all.new.steps c.hand_over_all.new.steps c.compile_all.ensures.steps c.hand_over_all.ensures.steps
 
-pub returns-clause-steps : goal.returns-clause-steps
-returns-clause-steps g c =
+pub returns-in-Ok-clause-steps : goal.returns-in-Ok-clause-steps
+returns-in-Ok-clause-steps g c =
     made-steps c.args.setting.now c.args.topology.now c.requires.ready c.in_ok-sizes.sizes c.in_ok-whole.whole c.in_ok-sizes.ensures c.in_ok-whole.ensures c.in_ok-trees.trees
     c.in_ok-hops.hops c.in_ok-hops.ensures.empty c.in_ok-hops.ensures.plan c.in_ok-hops.ensures.hops c.in_ok-trees.ensures.count c.in_ok-trees.ensures.trees c.in_ok-trees.ensures.sound
     c.as_slice.result.now c.as_slice.ensures c.args.steps.now c.compile_all.new.steps c.hand_over_all.new.steps c.compile_all.ensures.steps c.hand_over_all.ensures.steps
