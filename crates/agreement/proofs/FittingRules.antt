@@ -1,5 +1,6 @@
 -- The rules of a setting that fits have levels that leave room for priorities.
-use Rattle.std.proofs.Common.{◌≡◌, ℕ, zero, suc, ◌*◌, ◌<◌, ◌≤◌, Bool, true, false, List, [], ◌∷◌, Some, None, refl, subst, sym, arith, length, get_or}
+use Rattle.std.proofs.Common.{◌≡◌, ℕ, zero, suc, ◌*◌, ◌<◌, ◌≤◌, Bool, true, false, List, [], ◌∷◌, Some, None, refl}
+use Rattle.std.proofs.Common.{subst, sym, arith, length, get_or}
 use Rattle.std.specs.Prelude.{All, if◌then◌else◌, map, slice_get}
 use Rattle.std.specs.List.{AllByRecursion}
 use Rattle.std.proofs.Math.Nat.{mul-le-mul_left}
@@ -19,7 +20,8 @@ use Rattle.agreement.specs.Fitting.{IsFittingSetting}
 use Rattle.agreement.specs.declared.state.Setting.{Setting}
 
 -- over a hop or more there are no fewer levels than those of the expression
-own-within : (net : Network) (hops v : ℕ) (x : VirtualSwitch) → 0 < hops → slice_get net.switches v ≡ Some x → levels_of net.tables x.expr ≤ hop_size (fabric_of net) hops v
+own-within : (net : Network) (hops v : ℕ) (x : VirtualSwitch) → 0 < hops → slice_get net.switches v ≡ Some x
+    → levels_of net.tables x.expr ≤ hop_size (fabric_of net) hops v
 own-within net zero v x lt at = omega arith
 own-within net (suc n) v x lt at =
     let own = levels_of net.tables x.expr in
@@ -29,7 +31,8 @@ own-within net (suc n) v x lt at =
     let le = mul-le-mul_left own p in
     omega arith
 
-module _ (s : Setting) (fits : IsFittingSetting s) (v : ℕ) (x : VirtualSwitch) (at : slice_get s.network.switches v ≡ Some x) where
+module _ (s : Setting) (fits : IsFittingSetting s) (v : ℕ) (x : VirtualSwitch)
+    (at : slice_get s.network.switches v ≡ Some x) where
   abbrev HasRoom : Rule → Type 0
   HasRoom r = r.level < 65535
 
@@ -42,21 +45,30 @@ module _ (s : Setting) (fits : IsFittingSetting s) (v : ℕ) (x : VirtualSwitch)
   at-port : (p : ℕ) → EachHasRoom (at_port p)
   at-port p =
       let size = fits.sizes v in
-      all-map (Below (hop_size (fabric_of s.network) s.hops v)) HasRoom (at_port p).rules (λ r lt. omega arith) (node-below s.network fits.tables s.hops v p)
+      all-map (Below (hop_size (fabric_of s.network) s.hops v)) HasRoom (at_port p).rules (λ r lt. omega arith)
+      (node-below s.network fits.tables s.hops v p)
 
   at-all : AllByRecursion HasRoom (switch_rules s.network.tables (Some x))
   at-all =
       let size = fits.sizes v in
       let own = own-within s.network s.hops v x fits.hops at in
-      all-map (Below (levels_of s.network.tables x.expr)) HasRoom (switch_rules s.network.tables (Some x)) (λ r lt. omega arith) (rules-below s.network.tables fits.tables (ports_of x) x.expr)
+      all-map (Below (levels_of s.network.tables x.expr)) HasRoom (switch_rules s.network.tables (Some x))
+      (λ r lt. omega arith) (rules-below s.network.tables fits.tables (ports_of x) x.expr)
 
-  entering-fit : (whole : Bool) → AllByRecursion EachHasRoom (if whole then record { port = None; rules = switch_rules s.network.tables (Some x) } ∷ [] else map at_port x.outside)
+  entering-fit : (whole : Bool)
+      → AllByRecursion EachHasRoom
+      (if whole then record { port = None; rules = switch_rules s.network.tables (Some x) } ∷ []
+      else map at_port x.outside)
   entering-fit true = (at-all, tt)
-  entering-fit false = all-mapped (λ p. Unit {0}) EachHasRoom at_port x.outside (λ p _. at-port p) (all-each (λ p. Unit {0}) x.outside (λ p. tt))
+  entering-fit false = all-mapped (λ p. Unit {0}) EachHasRoom at_port x.outside (λ p _. at-port p)
+      (all-each (λ p. Unit {0}) x.outside (λ p. tt))
 
   -- what is put on a switch at once
-  pub part-fits : (parts : List Entering) (i : ℕ) (part : Entering) → parts ≡ entering s.network s.hops v (Some x) → i < length parts → part ≡ get_or parts i part → All HasRoom part.rules
+  pub part-fits : (parts : List Entering) (i : ℕ) (part : Entering) → parts ≡ entering s.network s.hops v (Some x)
+      → i < length parts → part ≡ get_or parts i part → All HasRoom part.rules
   part-fits parts i part is lt here =
-      let all : AllByRecursion EachHasRoom parts = subst (λ (es : List Entering). AllByRecursion EachHasRoom es) (sym is) (entering-fit x.whole) in
-      let each : EachHasRoom (get_or parts i part) = All-get_or EachHasRoom parts i part lt (All-from_recursion EachHasRoom parts all) in
+      let all : AllByRecursion EachHasRoom parts =
+      subst (λ (es : List Entering). AllByRecursion EachHasRoom es) (sym is) (entering-fit x.whole) in
+      let each : EachHasRoom (get_or parts i part) =
+      All-get_or EachHasRoom parts i part lt (All-from_recursion EachHasRoom parts all) in
       All-from_recursion HasRoom part.rules (subst EachHasRoom (sym here) each)

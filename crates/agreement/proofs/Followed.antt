@@ -1,5 +1,6 @@
 -- One entry of a rule, followed over the cables.
-use Rattle.std.proofs.Common.{◌≡◌, ℕ, Bool, true, false, List, [], ◌∷◌, Option, Some, refl, ap, ◌∙◌, sym, subst, length, inl}
+use Rattle.std.proofs.Common.{◌≡◌, ℕ, Bool, true, false, List, [], ◌∷◌, Option, Some, refl, ap, ◌∙◌, sym, subst, length}
+use Rattle.std.proofs.Common.{inl}
 use Rattle.std.specs.Prelude.{if◌then◌else◌, filter_map, map, slice_get}
 use Rattle.std.proofs.lemmas.List.{append-nil}
 use Rattle.of10_match.specs.Fields.{HeaderOf}
@@ -41,12 +42,19 @@ use Rattle.agreement.proofs.Used.{all-speak, untagged-is, used}
 abbrev copied : ℕ → HeaderOf → Copied
 copied switch k = record { switch = switch; header = k }
 
-copies-are : (at : SwitchPort) (h : HeaderOf) (b : Bool) → map (copied at.switch) (if b then comes_by at.port h ∷ [] else []) ≡ (if b then copied at.switch (comes_by at.port h) ∷ [] else [])
+copies-are : (at : SwitchPort) (h : HeaderOf) (b : Bool)
+    → map (copied at.switch) (if b then comes_by at.port h ∷ [] else [])
+    ≡ (if b then copied at.switch (comes_by at.port h) ∷ [] else [])
 copies-are at h true = refl
 copies-are at h false = refl
 
-module _ (s : Setting) (good : IsSoundSetting s) (tables : ℕ → List FlowEntry) (installed : AreInstalled s tables) (v : ℕ) (x : VirtualSwitch) (there : slice_get s.network.switches v ≡ Some x) (t : x.whole ≡ false) (up : AreUp s v)
-    (h : HeaderOf) (o : Outside) (at : outside_at s.wiring v h.in_port ≡ Some o) (r : FlatRule) (is : IsForPort s.wiring v x o h.in_port r) (e : PhysEntry) (made : entry_of s.wiring (site_at o.at.switch v x) r ≡ Some e) (choice : Choice) (allowed : IsAllowed tables choice) where
+module _ (s : Setting) (good : IsSoundSetting s) (tables : ℕ
+    → List FlowEntry) (installed : AreInstalled s tables) (v : ℕ) (x : VirtualSwitch)
+    (there : slice_get s.network.switches v ≡ Some x) (t : x.whole ≡ false) (up : AreUp s v)
+    (h : HeaderOf) (o : Outside) (at : outside_at s.wiring v h.in_port ≡ Some o) (r : FlatRule)
+    (is : IsForPort s.wiring v x o h.in_port r) (e : PhysEntry)
+    (made : entry_of s.wiring (site_at o.at.switch v x) r ≡ Some e) (choice : Choice)
+    (allowed : IsAllowed tables choice) where
   abbrev k : HeaderOf
   k = comes_by o.at.port h
 
@@ -59,15 +67,21 @@ module _ (s : Setting) (good : IsSoundSetting s) (tables : ℕ → List FlowEntr
   abbrev Seems : Fired → Type 0
   Seems f = Alike (fires_on s.wiring on [] o.at.switch f) (outs_seen s.wiring o.at h r.outs)
 
-  seems : (sent : List Sent) → Shows s.wiring good.placing.open_ends o.at h on sent (filter_map (λ (d : Out). leaving d.rewrite d.dest) r.outs) → Seems (record { outs = sent; copies = if tells r.outs then k ∷ [] else [] })
-  seems sent shows = let both = shows 0 in record { outs = both.0; copies = rw (both.1) (append-nil _ ∙ copies-are o.at h (tells r.outs)) }
+  seems : (sent : List Sent)
+      → Shows s.wiring good.placing.open_ends o.at h on sent (filter_map (λ (d : Out). leaving d.rewrite d.dest) r.outs)
+      → Seems (record { outs = sent; copies = if tells r.outs then k ∷ [] else [] })
+  seems sent shows = let both = shows 0 in
+      record { outs = both.0; copies = rw (both.1) (append-nil _ ∙ copies-are o.at h (tells r.outs)) }
 
   near : x.spread ≡ false → Seems (fire e.actions k)
   near lone =
-      let placeable : IsPlaceable s.wiring site h.in_port r = record { outs = is.stays lone; extends = is.extends; in_port = inl is.names } in
+      let placeable : IsPlaceable s.wiring site h.in_port r =
+      record { outs = is.stays lone; extends = is.extends; in_port = inl is.names } in
       subst Seems
-      (sym (firing-gives-outs s.wiring good.placing.wiring site h.in_port o at refl r placeable e made k refl ∙ ap (λ outs. said s.wiring k outs) (all-speak site h.in_port r.outs t)))
-      (seems (filter_map (λ (d : Out). leaves_by s.wiring k d.rewrite d.dest) r.outs) (outs-show s.wiring good.placing.open_ends o.at h on r.outs (is.stays lone) is.numbered))
+      (sym (firing-gives-outs s.wiring good.placing.wiring site h.in_port o at refl r placeable e made k refl
+      ∙ ap (λ outs. said s.wiring k outs) (all-speak site h.in_port r.outs t)))
+      (seems (filter_map (λ (d : Out). leaves_by s.wiring k d.rewrite d.dest) r.outs)
+      (outs-show s.wiring good.placing.open_ends o.at h on r.outs (is.stays lone) is.numbered))
 
   ingress : ingress_of s.wiring site r ≡ Some o.at.port
   ingress = rw (is.names, at) refl
@@ -80,10 +94,15 @@ module _ (s : Setting) (good : IsSoundSetting s) (tables : ℕ → List FlowEntr
       let spread : switch_spread (slice_get s.network.switches v) ≡ true = ap (λ z. switch_spread z) there ∙ lone in
       let uses = used s good v tables installed up choice allowed in
       let acts : e.actions ≡ actions_of s.wiring o.at.switch (Some o.at.port) r.outs =
-      (written s.wiring site r e made).actions ∙ (ap (λ (i : Option ℕ). actions_of s.wiring o.at.switch i (outs_written site r)) ingress ∙ ap (λ outs. actions_of s.wiring o.at.switch (Some o.at.port) outs) all-written) in
+      (written s.wiring site r e made).actions
+      ∙ (ap (λ (i : Option ℕ). actions_of s.wiring o.at.switch i (outs_written site r)) ingress
+      ∙ ap (λ outs. actions_of s.wiring o.at.switch (Some o.at.port) outs) all-written) in
       subst Seems
-      (sym (ap (λ acts. fire acts k) acts ∙ fire-actions_of k s.wiring o.at.switch (Some o.at.port) r.outs is.extends (all-good s good v h o at spread plain choice uses r.outs (is.within lone) is.numbered)))
-      (seems (filter_map (goes k s.wiring o.at.switch (Some o.at.port)) r.outs) (outs-go s good v h o at spread plain choice uses r.outs (is.within lone) is.numbered))
+      (sym (ap (λ acts. fire acts k) acts
+      ∙ fire-actions_of k s.wiring o.at.switch (Some o.at.port) r.outs is.extends
+      (all-good s good v h o at spread plain choice uses r.outs (is.within lone) is.numbered)))
+      (seems (filter_map (goes k s.wiring o.at.switch (Some o.at.port)) r.outs)
+      (outs-go s good v h o at spread plain choice uses r.outs (is.within lone) is.numbered))
 
   by-spread : (b : Bool) → x.spread ≡ b → takes b h ≡ true → Seems (fire e.actions k)
   by-spread false lone taken = near lone

@@ -63,11 +63,13 @@ pub holder-tag : (q : ℕ) (m : MatchOf) (t : ℕ) → m.dl_vlan ≡ Some t → 
 unfolding holder
 holder-tag q m t e = rw e refl
 
-one-port : (ports : List ℕ) (q : ℕ) (o : Option ℕ) → has_port ports q ≡ true → IfSome o (λ p. has_port ports p ≡ true) → has_port ports (unwrap_or o q) ≡ true
+one-port : (ports : List ℕ) (q : ℕ) (o : Option ℕ) → has_port ports q ≡ true → IfSome o (λ p. has_port ports p ≡ true)
+    → has_port ports (unwrap_or o q) ≡ true
 one-port ports q None e n = e
 one-port ports q (Some p) e n = n
 
 -- it comes by one of some ports, where the match names one of them
-pub holder-ports : (ports : List ℕ) (q : ℕ) (m : MatchOf) → has_port ports q ≡ true → NamesOne ports m → has_port ports (holder q m).in_port ≡ true
+pub holder-ports : (ports : List ℕ) (q : ℕ) (m : MatchOf) → has_port ports q ≡ true → NamesOne ports m
+    → has_port ports (holder q m).in_port ≡ true
 unfolding holder
 holder-ports ports q m e n = one-port ports q m.in_port e n

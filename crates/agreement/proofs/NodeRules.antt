@@ -8,7 +8,8 @@ use Rattle.pull_back.specs.Pulling.{pulled}
 use Rattle.of10_actions.specs.declared.effects.Dest.{Dest}
 use Rattle.of10_actions.specs.declared.effects.Dest.TheVariants.{Port, Flood, Ingress, Tell}
 use Rattle.of10_actions.specs.declared.effects.Out.{Out}
-use Rattle.policy_meaning.specs.Hops.{Fabric, at_node, hop_rule, hop_size, hopped, hops_on, leads, node, out_at, outs_at, peers_size, without_port}
+use Rattle.policy_meaning.specs.Hops.{Fabric, at_node, hop_rule, hop_size, hopped, hops_on, leads, node, out_at}
+use Rattle.policy_meaning.specs.Hops.{outs_at, peers_size, without_port}
 use Rattle.policy_meaning.specs.LeafRules.{rule_met}
 use Rattle.policy_meaning.specs.Meaning.{out_after}
 use Rattle.policy_meaning.specs.declared.network.Onward.{Onward}
@@ -46,49 +47,67 @@ out-numbered true o y g e = cc
 out-numbered false o y g e = subst (λ (z : Out). IsNumbered z.dest) (some_injective e) g
 
 at-numbered : (v port : ℕ) (r : RewriteOf) (d : Dest) (y : Out) → out_at v port r d ≡ Some y → IsNumbered y.dest
-at-numbered v port r (Port w p) y e = out-numbered ((w == v) && (p == port)) (record { rewrite = r; dest = Port w p }) y tt e
-at-numbered v port r (Flood w p) y e = out-numbered ((w == v) && (p == port)) (record { rewrite = r; dest = Flood w p }) y tt e
+at-numbered v port r (Port w p) y e = out-numbered ((w == v) && (p == port)) (record { rewrite = r; dest = Port w p }) y
+    tt e
+at-numbered v port r (Flood w p) y e = out-numbered ((w == v) && (p == port)) (record { rewrite = r; dest = Flood w p })
+    y tt e
 at-numbered v port r Ingress y e = subst (λ (z : Out). IsNumbered z.dest) (some_injective e) tt
 at-numbered v port r (Tell member reason) y e = subst (λ (z : Out). IsNumbered z.dest) (some_injective e) tt
 
 here-numbered : (v port : ℕ) (outs : List Out) → AreNumbered (outs_at v port outs)
 here-numbered v port outs =
-    all-filter_map Any (λ (o : Out). IsNumbered o.dest) (λ (o : Out). out_at v port o.rewrite o.dest) outs (λ x y e _. at-numbered v port x.rewrite x.dest y e) (all-each Any outs (λ x. tt))
+    all-filter_map Any (λ (o : Out). IsNumbered o.dest) (λ (o : Out). out_at v port o.rewrite o.dest) outs
+    (λ x y e _. at-numbered v port x.rewrite x.dest y e) (all-each Any outs (λ x. tt))
 
 after-numbered : (r : RewriteOf) (outs : List Out) → AreNumbered outs → AreNumbered (map (out_after r) outs)
-after-numbered r outs g = all-mapped (λ (o : Out). IsNumbered o.dest) (λ (o : Out). IsNumbered o.dest) (out_after r) outs (λ x n. n) g
+after-numbered r outs g = all-mapped (λ (o : Out). IsNumbered o.dest) (λ (o : Out). IsNumbered o.dest) (out_after r)
+    outs (λ x n. n) g
 
-linked-numbered : (k : ℕ) (r : RewriteOf) (a b y : Rule) → AreNumbered a.outs → AreNumbered b.outs → hop_rule k r a b ≡ Some y → AreNumbered y.outs
+linked-numbered : (k : ℕ) (r : RewriteOf) (a b y : Rule) → AreNumbered a.outs → AreNumbered b.outs
+    → hop_rule k r a b ≡ Some y → AreNumbered y.outs
 linked-numbered k r a b y f g e =
     let s = some_pulled (hopped k r a b) a.m (without_port b.m) r y e in
-    subst (λ (z : Rule). AreNumbered z.outs) s.2 (all-append (λ (o : Out). IsNumbered o.dest) a.outs (map (out_after r) b.outs) f (after-numbered r b.outs g))
+    subst (λ (z : Rule). AreNumbered z.outs) s.2
+    (all-append (λ (o : Out). IsNumbered o.dest) a.outs (map (out_after r) b.outs) f (after-numbered r b.outs g))
 
 module _ (f : Fabric) where
-  on-names : (n port k : ℕ) (a : Rule) (o : Option Onward) → Names port a → AllByRecursion (Names port) (hops_on o (node f n) k a)
+  on-names : (n port k : ℕ) (a : Rule) (o : Option Onward) → Names port a
+      → AllByRecursion (Names port) (hops_on o (node f n) k a)
   on-names n port k a None g = (g, tt)
   on-names n port k a (Some on) g =
       let there = node f n on.place.v on.place.port in
-      all-filter_map Any (Names port) (hop_rule k on.rewrite a) there (λ b y e _. linked-names port k on.rewrite a b y g e) (all-each Any there (λ x. tt))
+      all-filter_map Any (Names port) (hop_rule k on.rewrite a) there
+      (λ b y e _. linked-names port k on.rewrite a b y g e) (all-each Any there (λ x. tt))
 
   -- each rule of a node of a hop or more names the port
   pub node-names : (n v port : ℕ) → AllByRecursion (Names port) (node f (suc n) v port)
   node-names n v port =
-      all-flat_map (Names port) (Names port) (λ (a : Rule). hops_on (leads a.tail (f.links v) port) (node f n) (peers_size (hop_size f n) (f.links v)) (at_node v port a))
+      all-flat_map (Names port) (Names port)
+      (λ (a : Rule). hops_on (leads a.tail (f.links v) port) (node f n) (peers_size (hop_size f n) (f.links v))
+      (at_node v port a))
       (filter_map (λ a. rule_met a (at_port port)) (f.rules v))
-      (λ x g. on-names n port (peers_size (hop_size f n) (f.links v)) (at_node v port x) (leads x.tail (f.links v) port) g)
-      (all-filter_map Any (Names port) (λ a. rule_met a (at_port port)) (f.rules v) (λ x y e _. met-names port x y e) (all-each Any (f.rules v) (λ x. tt)))
+      (λ x g. on-names n port (peers_size (hop_size f n) (f.links v)) (at_node v port x) (leads x.tail (f.links v) port)
+      g)
+      (all-filter_map Any (Names port) (λ a. rule_met a (at_port port)) (f.rules v) (λ x y e _. met-names port x y e)
+      (all-each Any (f.rules v) (λ x. tt)))
 
-  on-numbered : (n : ℕ) → ((u port : ℕ) → AllByRecursion (λ (r : Rule). AreNumbered r.outs) (node f n u port)) → (k : ℕ) (a : Rule) → AreNumbered a.outs → (o : Option Onward) → AllByRecursion (λ (r : Rule). AreNumbered r.outs) (hops_on o (node f n) k a)
+  on-numbered : (n : ℕ) → ((u port : ℕ) → AllByRecursion (λ (r : Rule). AreNumbered r.outs) (node f n u port))
+      → (k : ℕ) (a : Rule) → AreNumbered a.outs → (o : Option Onward)
+      → AllByRecursion (λ (r : Rule). AreNumbered r.outs) (hops_on o (node f n) k a)
   on-numbered n before k a own None = (own, tt)
   on-numbered n before k a own (Some on) =
-      all-filter_map (λ (r : Rule). AreNumbered r.outs) (λ (r : Rule). AreNumbered r.outs) (hop_rule k on.rewrite a) (node f n on.place.v on.place.port)
+      all-filter_map (λ (r : Rule). AreNumbered r.outs) (λ (r : Rule). AreNumbered r.outs) (hop_rule k on.rewrite a)
+      (node f n on.place.v on.place.port)
       (λ b y e g. linked-numbered k on.rewrite a b y own g e) (before on.place.v on.place.port)
 
   -- and no out of it goes to the ingress but by its number
   pub node-numbered : (n v port : ℕ) → AllByRecursion (λ (r : Rule). AreNumbered r.outs) (node f n v port)
   node-numbered zero v port = (tt, tt)
   node-numbered (suc n) v port =
-      all-flat_map Any (λ (r : Rule). AreNumbered r.outs) (λ (a : Rule). hops_on (leads a.tail (f.links v) port) (node f n) (peers_size (hop_size f n) (f.links v)) (at_node v port a))
+      all-flat_map Any (λ (r : Rule). AreNumbered r.outs)
+      (λ (a : Rule). hops_on (leads a.tail (f.links v) port) (node f n) (peers_size (hop_size f n) (f.links v))
+      (at_node v port a))
       (filter_map (λ a. rule_met a (at_port port)) (f.rules v))
-      (λ x _. on-numbered n (node-numbered n) (peers_size (hop_size f n) (f.links v)) (at_node v port x) (here-numbered v port x.outs) (leads x.tail (f.links v) port))
+      (λ x _. on-numbered n (node-numbered n) (peers_size (hop_size f n) (f.links v)) (at_node v port x)
+      (here-numbered v port x.outs) (leads x.tail (f.links v) port))
       (all-each Any (filter_map (λ a. rule_met a (at_port port)) (f.rules v)) (λ x. tt))

@@ -21,11 +21,14 @@ use Rattle.agreement.proofs.SameTables.{may-carried}
 use Rattle.agreement.proofs.SwitchEntries.{all-fit}
 
 -- where the best entry of a setting is
-pub used : (s : Setting) → IsSoundSetting s → (v : ℕ) (tables : ℕ → List FlowEntry) → AreInstalled s tables → AreUp s v → (choice : Choice) → IsAllowed tables choice
-    → (switch : ℕ) → IsSwitchOf s v switch → (way : List ℕ) (hd : HeaderOf) (best : PhysEntry) → IsBestEntry hd (entries_of s switch) best → choice way switch hd ≡ Some (flow_of best)
+pub used : (s : Setting) → IsSoundSetting s → (v : ℕ) (tables : ℕ → List FlowEntry) → AreInstalled s tables → AreUp s v
+    → (choice : Choice) → IsAllowed tables choice
+    → (switch : ℕ) → IsSwitchOf s v switch → (way : List ℕ) (hd : HeaderOf) (best : PhysEntry)
+    → IsBestEntry hd (entries_of s switch) best → choice way switch hd ≡ Some (flow_of best)
 used s good v tables installed up choice allowed switch is way hd best top =
     best-is-installed (entries_of s switch) hd best top (all-fit s good switch) (choice way switch hd)
-    (may-carried (tables switch) (table_of s switch) hd (choice way switch hd) (installed switch (up switch is)) (allowed way switch hd))
+    (may-carried (tables switch) (table_of s switch) hd (choice way switch hd) (installed switch (up switch is))
+    (allowed way switch hd))
 
 -- where rules are for one port, all outs speak of its packets
 pub all-speak : (site : Site) (port : ℕ) (outs : List Out) → site.whole ≡ false → speaking site port outs ≡ outs

@@ -1,5 +1,6 @@
 -- The router's setting is sound.
-use Rattle.std.proofs.Common.{◌≡◌, ℕ, zero, suc, ◌<◌, Bool, false, ◌&&◌, ◌==◌, [], Some, None, refl, ◌∙◌, sym, arith, eqb-true, lit≤}
+use Rattle.std.proofs.Common.{◌≡◌, ℕ, zero, suc, ◌<◌, Bool, false, ◌&&◌, ◌==◌, [], Some, None, refl, ◌∙◌, sym, arith}
+use Rattle.std.proofs.Common.{eqb-true, lit≤}
 use Rattle.std.specs.Prelude.{is_some, slice_get}
 use Rattle.std.specs.List.{AllByRecursion}
 use Rattle.of10_match.specs.Normal.{IsNormal}
@@ -39,7 +40,10 @@ all-same = (
   record { v = refl; switch = refl; port = refl; number = omega arith; tag = refl },
   (
     record { v = refl; switch = refl; port = refl; number = omega arith; tag = refl },
-    (record { v = refl; switch = refl; port = refl; number = omega arith; tag = refl }, (record { v = refl; switch = refl; port = refl; number = omega arith; tag = refl }, tt)),
+    (
+      record { v = refl; switch = refl; port = refl; number = omega arith; tag = refl },
+      (record { v = refl; switch = refl; port = refl; number = omega arith; tag = refl }, tt),
+    ),
   ),
 )
 
@@ -51,12 +55,25 @@ found v p o e =
 
 sound-wiring : IsSoundWiring one_switch
 sound-wiring = record {
-  numbers = λ v p. if-found (λ (o : Outside). o.at.port < MAX) (outside_at one_switch v p) (λ o e. let f = found v p o e in let a = f.0.port in let b = f.0.number in omega arith);
-  apart = λ v p u q a b e f s t. let x = found v p a e in let y = found u q b f in (let g = x.0.v in let h = y.0.v in let i = x.1 in let j = y.1 in omega arith, let g = x.0.port in let h = y.0.port in let i = x.2 in let j = y.2 in omega arith);
+  numbers = λ v p. if-found (λ (o : Outside). o.at.port < MAX) (outside_at one_switch v p)
+      (λ o e. let f = found v p o e in let a = f.0.port in let b = f.0.number in omega arith);
+  apart = λ v p u q a b e f s t. let x = found v p a e in let y = found u q b f in (
+    let g = x.0.v in let h = y.0.v in let i = x.1 in let j = y.1 in omega arith,
+    let g = x.0.port in let h =
+        y.0.port in let i = x.2 in let j = y.2 in omega arith,
+  );
 }
 
 pub normal-net : IsNormal (to_net 0x02000000 24)
-normal-net = record { dl_vlan_pcp = tt; nw_tos = tt; nw_proto = tt; nw_src = tt; nw_dst = refl; tp_src = tt; tp_dst = tt }
+normal-net = record {
+  dl_vlan_pcp = tt;
+  nw_tos = tt;
+  nw_proto = tt;
+  nw_src = tt;
+  nw_dst = refl;
+  tp_src = tt;
+  tp_dst = tt;
+}
 
 pub none-set : Extends no_rewrite no_rewrite
 none-set = record { dl_src = tt; dl_dst = tt; nw_src = tt; nw_dst = tt; nw_tos = tt; tp_src = tt; tp_dst = tt }
@@ -64,7 +81,15 @@ none-set = record { dl_src = tt; dl_dst = tt; nw_src = tt; nw_dst = tt; nw_tos =
 sound-table : IsSoundTable (record server_router { member = 0 })
 sound-table = record {
   apart = (tt, tt);
-  entries = (record { above = omega arith; below = omega arith; is_normal = normal-net; builds = record { outs = (none-set, tt); tail = (tt, tt) } }, tt);
+  entries = (
+    record {
+      above = omega arith;
+      below = omega arith;
+      is_normal = normal-net;
+      builds = record { outs = (none-set, tt); tail = (tt, tt) };
+    },
+    tt,
+  );
   room = omega arith;
   boxes = (normal-everything, tt);
   disjoint = (tt, tt);
@@ -72,14 +97,17 @@ sound-table = record {
 }
 
 module _ (whole : Bool) where
-  sound-switch : (v : ℕ) (x : VirtualSwitch) → slice_get (routed whole).network.switches v ≡ Some x → IsSoundSwitch (routed whole).network.tables x
-  sound-switch = only (λ v x. IsSoundSwitch (routed whole).network.tables x) _ (record { members = sound-table; lefts = tt })
+  sound-switch : (v : ℕ) (x : VirtualSwitch) → slice_get (routed whole).network.switches v ≡ Some x
+      → IsSoundSwitch (routed whole).network.tables x
+  sound-switch = only (λ v x. IsSoundSwitch (routed whole).network.tables x) _
+      (record { members = sound-table; lefts = tt })
 
   no-peer : (v p : ℕ) (q : Place) → peer_of (switch_links (slice_get (routed whole).network.switches v)) p ≡ Some q → ⊥
   no-peer zero p q e = cc
   no-peer (suc v) p q e = cc
 
-  alone : IsAlone (routed whole) 0 (record { expr = member 0; outside = four_ports; links = []; spread = false; whole = whole })
+  alone : IsAlone (routed whole) 0
+      (record { expr = member 0; outside = four_ports; links = []; spread = false; whole = whole })
   alone = record {
     links = refl;
     lone = refl;
@@ -88,12 +116,22 @@ module _ (whole : Bool) where
     names = record { visible = (refl, (refl, (refl, (refl, tt)))); region = (tt, tt); entries = (tt, tt) };
   }
 
-  sound-virtual : (v : ℕ) (x : VirtualSwitch) → slice_get (routed whole).network.switches v ≡ Some x → IsSoundVirtual (routed whole) v x
-  sound-virtual = only (λ v x. IsSoundVirtual (routed whole) v x) _ (record { distinct = ((refl, (refl, (refl, tt))), ((refl, (refl, tt)), ((refl, tt), (tt, tt)))); within = ((refl, tt), tt); unlinked = λ _. refl; whole = λ _. alone })
+  sound-virtual : (v : ℕ) (x : VirtualSwitch) → slice_get (routed whole).network.switches v ≡ Some x
+      → IsSoundVirtual (routed whole) v x
+  sound-virtual = only (λ v x. IsSoundVirtual (routed whole) v x) _
+      (record {
+        distinct = ((refl, (refl, (refl, tt))), ((refl, (refl, tt)), ((refl, tt), (tt, tt))));
+        within = ((refl, tt), tt);
+        unlinked = λ _. refl;
+        whole = λ _. alone;
+      })
 
-  same-ports : (v p : ℕ) → is_some (outside_at one_switch v p) ≡ has_port (outside_ports (slice_get (routed whole).network.switches v)) p
+  same-ports : (v p : ℕ) → is_some (outside_at one_switch v p)
+      ≡ has_port (outside_ports (slice_get (routed whole).network.switches v)) p
   same-ports zero p = is_some-find (λ (o : Outside). (o.v == 0) && (o.port == p)) one_switch.outside
-  same-ports (suc v) p = is_some-find (λ (o : Outside). (o.v == suc v) && (o.port == p)) one_switch.outside ∙ (let n : (0 == suc v) ≡ false = fails (0 == suc v) (λ t. let e : 0 ≡ suc v = eqb-true 0 (suc v) t in omega arith) in rw n refl)
+  same-ports (suc v) p = is_some-find (λ (o : Outside). (o.v == suc v) && (o.port == p)) one_switch.outside
+      ∙ (let n : (0 == suc v) ≡ false =
+      fails (0 == suc v) (λ t. let e : 0 ≡ suc v = eqb-true 0 (suc v) t in omega arith) in rw n refl)
 
   sound-placing : IsSoundPlacing (routed whole)
   sound-placing = record {
@@ -102,10 +140,18 @@ module _ (whole : Bool) where
     once = ((refl, (refl, (refl, tt))), ((refl, (refl, tt)), ((refl, tt), (tt, tt))));
     own_tags = λ v p u q t a b e f c d. let n = (found v p a e).0.tag in cc;
     one_cable = tt;
-    ways = λ v p q a b e f. record { steps = 0; way = (found v p a e).0.switch ∙ sym (found v q b f).0.switch; cables = omega arith; switches = omega arith };
+    ways = λ v p q a b e f. record {
+      steps = 0;
+      way = (found v p a e).0.switch
+          ∙ sym (found v q b f).0.switch;
+      cables = omega arith;
+      switches = omega arith;
+    };
     tags = (refl, (refl, (refl, (refl, tt))));
-    open_ends = λ v p. if-found (λ (o : Outside). far_end one_switch o.at ≡ None) (outside_at one_switch v p) (λ o e. refl);
-    together = λ v u p q a b _ _ e f. let x = found v p a e in let y = found u q b f in let g = x.0.switch in let h = y.0.switch in omega arith;
+    open_ends = λ v p. if-found (λ (o : Outside). far_end one_switch o.at ≡ None) (outside_at one_switch v p)
+        (λ o e. refl);
+    together = λ v u p q a b _ _ e f. let x = found v p a e in let y = found u q b f in let g = x.0.switch in let h =
+        y.0.switch in omega arith;
   }
 
   sound-sizes : SizesFit (routed whole)

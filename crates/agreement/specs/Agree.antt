@@ -16,7 +16,8 @@ use Rattle.agreement.specs.Seeing.{AlwaysShows, expected}
 abbrev pub Agree : Setting → (ℕ → List FlowEntry) → Type 0
 Agree s tables =
     (v p : ℕ) (o : Outside) → outside_at s.wiring v p ≡ Some o → AreUp s v → (h : HeaderOf) → h.in_port ≡ p
-    → AlwaysShows s.wiring tables (suc (length s.switches)) o.at h (expected s.wiring o.at h (walk (ground_of s.network) s.hops v h))
+    → AlwaysShows s.wiring tables (suc (length s.switches)) o.at h
+    (expected s.wiring o.at h (walk (ground_of s.network) s.hops v h))
 
 -- two tables have the same entries, in whatever order
 pub record SameEntries (a b : List FlowEntry) : Type 0 where

@@ -1,5 +1,6 @@
 -- The entries of a switch, from scratch.
-use Rattle.std.specs.Prelude.{ℕ, Bool, false, ◌==◌, ◌&&◌, Some, if◌then◌else◌, List, [], ◌++◌, map, filter_map, flat_map, slice_get, Option, None}
+use Rattle.std.specs.Prelude.{ℕ, Bool, false, ◌==◌, ◌&&◌, Some, if◌then◌else◌, List, [], ◌++◌, map, filter_map}
+use Rattle.std.specs.Prelude.{flat_map, slice_get, Option, None}
 use Rattle.std.specs.List.{list_any, enumerate_from}
 use Rattle.std.specs.Option.{option_map_or}
 use Rattle.policy_meaning.specs.Networks.{entering}
@@ -42,11 +43,13 @@ enters_on w site outside None = stands_on w site.switch site.v outside
 
 -- the entries of the rules of a port, of a virtual switch with these outside ports
 abbrev pub placed : Wiring → Site → List ℕ → Entering → List PhysEntry
-placed w site outside e = if enters_on w site outside e.port then filter_map (λ r. entry_of w site (flat r)) e.rules else []
+placed w site outside e = if enters_on w site outside e.port then filter_map (λ r. entry_of w site (flat r)) e.rules
+    else []
 
 -- the entries of a virtual switch
 abbrev pub entries_for : Setting → ℕ → ℕ × VirtualSwitch → List PhysEntry
-entries_for s switch (v, x) = flat_map (placed s.wiring (site_at switch v x) x.outside) (entering s.network s.hops v (Some x))
+entries_for s switch (v, x) = flat_map (placed s.wiring (site_at switch v x) x.outside)
+    (entering s.network s.hops v (Some x))
 
 -- the switch is all of this virtual switch
 abbrev pub is_all_of : Setting → ℕ → ℕ × VirtualSwitch → Bool
@@ -66,7 +69,8 @@ dropping s switch = if is_whole s switch then drops s.wiring switch (ports_at s 
 
 -- the entries that are put on a switch: those of each virtual switch, and those that don't hang on tables
 abbrev pub entries_of : Setting → ℕ → List PhysEntry
-entries_of s switch = flat_map (entries_for s switch) (enumerate_from 0 s.network.switches) ++ (fixed_entries s.wiring switch ++ dropping s switch)
+entries_of s switch = flat_map (entries_for s switch) (enumerate_from 0 s.network.switches)
+    ++ (fixed_entries s.wiring switch ++ dropping s switch)
 
 -- the table that a switch is to have
 abbrev pub table_of : Setting → ℕ → List FlowEntry

@@ -63,6 +63,8 @@ OnePlacedEntry =
     (s : Setting) → IsSoundSetting s → (tables : ℕ → List FlowEntry) → AreInstalled s tables
     → (v : ℕ) (x : VirtualSwitch) → slice_get s.network.switches v ≡ Some x → x.whole ≡ false → AreUp s v
     → (h : HeaderOf) (o : Outside) → outside_at s.wiring v h.in_port ≡ Some o → takes x.spread h ≡ true
-    → (r : FlatRule) → IsForPort s.wiring v x o h.in_port r → (e : PhysEntry) → entry_of s.wiring (site_at o.at.switch v x) r ≡ Some e
+    → (r : FlatRule) → IsForPort s.wiring v x o h.in_port r → (e : PhysEntry)
+    → entry_of s.wiring (site_at o.at.switch v x) r ≡ Some e
     → (choice : Choice) → IsAllowed tables choice
-    → Alike (fires_on s.wiring (follow s.wiring choice (length s.switches)) [] o.at.switch (fire e.actions (comes_by o.at.port h))) (outs_seen s.wiring o.at h r.outs)
+    → Alike (fires_on s.wiring (follow s.wiring choice (length s.switches)) [] o.at.switch
+    (fire e.actions (comes_by o.at.port h))) (outs_seen s.wiring o.at h r.outs)

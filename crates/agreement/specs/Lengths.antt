@@ -20,7 +20,8 @@ pub record IsWrittenWithin (s : Setting) (most each : ℕ) : Type 0 where
   pub leaves : (v : ℕ) (x : SwitchOf) → slice_get s.network.switches v ≡ Some x → leaf_count x.expr ≤ most
   pub actions : AllByRecursion (EntriesAreWrittenBy each) s.network.tables
 
--- an entry's actions have at most 16 bytes for each action that may stand in a member's entry, each leaf and each hop, and
+-- an entry's actions have at most 16 bytes for each action that may stand in a member's entry, each leaf and each hop,
+-- and
 -- 8 for a telling
 abbrev pub ListsAreShort : Type 0
 ListsAreShort =
@@ -40,4 +41,5 @@ AddFits e = 72 + bytes_of e < 2 ^ 16
 abbrev pub AddsFit : Type 0
 AddsFit =
     (s : Setting) → IsSoundSetting s → HasLimits s
-    → (switch : ℕ) → AllByRecursion AddFits (entries_of s switch) × AllByRecursion AddFits (installed (entries_of s switch))
+    → (switch : ℕ) → AllByRecursion AddFits (entries_of s switch)
+    × AllByRecursion AddFits (installed (entries_of s switch))

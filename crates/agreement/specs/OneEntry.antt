@@ -11,7 +11,8 @@ use Rattle.agreement.specs.Premises.{IsSoundSetting}
 
 -- no serial is named twice in a table, no member in an expression, and no port of a physical switch
 pub record IsNamedOnce (s : Setting) : Type 0 where
-  pub policies : (v : ℕ) (x : SwitchOf) → slice_get s.network.switches v ≡ Some x → IsOrderlyPolicy s.network.tables x.expr
+  pub policies : (v : ℕ) (x : SwitchOf) → slice_get s.network.switches v ≡ Some x
+      → IsOrderlyPolicy s.network.tables x.expr
   pub ports : (switch : ℕ) → EachPair (λ p q. (q == p) ≡ false) (ports_at s switch)
 
 -- so no two entries of a switch have one match, priority and ancestry
@@ -20,4 +21,5 @@ NoTwins = (s : Setting) → IsSoundSetting s → IsNamedOnce s → (switch : ℕ
 
 -- and what is installed of them has one entry for each key
 abbrev pub OneEntryAKey : Type 0
-OneEntryAKey = (s : Setting) → IsSoundSetting s → IsNamedOnce s → (switch : ℕ) → HasOneAKey (installed (entries_of s switch))
+OneEntryAKey = (s : Setting) → IsSoundSetting s → IsNamedOnce s → (switch : ℕ)
+    → HasOneAKey (installed (entries_of s switch))

@@ -1,5 +1,6 @@
 -- What is asked of a setting.
-use Rattle.std.specs.Prelude.{◌≡◌, ◌≢◌, ℕ, zero, suc, ◌<◌, ◌≤◌, ◌⊎◌, true, false, ◌==◌, ◌&&◌, Option, Some, None, IfSome, is_some, List, [], ◌∷◌, flat_map, length, slice_get}
+use Rattle.std.specs.Prelude.{◌≡◌, ◌≢◌, ℕ, zero, suc, ◌<◌, ◌≤◌, ◌⊎◌, true, false, ◌==◌, ◌&&◌, Option, Some, None}
+use Rattle.std.specs.Prelude.{IfSome, is_some, List, [], ◌∷◌, flat_map, length, slice_get}
 use Rattle.std.specs.List.{AllByRecursion}
 use Rattle.of10_match.specs.Fields.{MatchOf}
 use Rattle.of10_actions.specs.declared.effects.Dest.{Dest}
@@ -34,7 +35,8 @@ GoesWithin v (Tell member reason) = Unit {0}
 -- and so do all outs of a member's entries
 abbrev pub TableGoesWithin : ℕ → Option LeafTable → Type 0
 TableGoesWithin v None = Unit {0}
-TableGoesWithin v (Some t) = AllByRecursion (λ (e : LeafEntry). AllByRecursion (λ (o : Out). GoesWithin v o.dest) e.effects.outs) t.entries
+TableGoesWithin v (Some t) =
+    AllByRecursion (λ (e : LeafEntry). AllByRecursion (λ (o : Out). GoesWithin v o.dest) e.effects.outs) t.entries
 
 -- what names a port names one of these
 abbrev pub NamesOne : List ℕ → MatchOf → Type 0
@@ -56,10 +58,12 @@ pub record IsAlone (s : Setting) (v : ℕ) (x : VirtualSwitch) : Type 0 where
   pub links : x.links ≡ []
   pub lone : x.spread ≡ false
   -- no cable ends there
-  pub bare : (p q : ℕ) (a : Outside) → outside_at s.wiring v p ≡ Some a → far_end s.wiring (record { switch = a.at.switch; port = q }) ≡ None
+  pub bare : (p q : ℕ) (a : Outside) → outside_at s.wiring v p ≡ Some a
+      → far_end s.wiring (record { switch = a.at.switch; port = q }) ≡ None
   -- no other virtual switch has a port there
   pub alone :
-      (u p q : ℕ) (a b : Outside) → outside_at s.wiring v p ≡ Some a → outside_at s.wiring u q ≡ Some b → a.at.switch ≡ b.at.switch → u ≡ v
+      (u p q : ℕ) (a b : Outside) → outside_at s.wiring v p ≡ Some a → outside_at s.wiring u q ≡ Some b
+      → a.at.switch ≡ b.at.switch → u ≡ v
   pub names : EachMember (λ i. TableKeepsTo x.outside (slice_get s.network.tables i)) x.expr
 
 -- the outside ports of a virtual switch
@@ -110,15 +114,18 @@ pub record IsSoundPlacing (s : Setting) : Type 0 where
   -- no outside port stands twice
   pub once : EachPair (λ (a b : Outside). ((b.v == a.v) && (b.port == a.port)) ≡ false) s.wiring.outside
   -- a port has a tag where its virtual switch is spread
-  pub tags : AllByRecursion (λ (o : Outside). is_some o.tag ≡ switch_spread (slice_get s.network.switches o.v)) s.wiring.outside
+  pub tags : AllByRecursion (λ (o : Outside). is_some o.tag ≡ switch_spread (slice_get s.network.switches o.v))
+      s.wiring.outside
   -- no two ports have one tag
   pub own_tags :
-      (v p u q t : ℕ) (a b : Outside) → outside_at s.wiring v p ≡ Some a → outside_at s.wiring u q ≡ Some b → a.tag ≡ Some t → b.tag ≡ Some t
+      (v p u q t : ℕ) (a b : Outside) → outside_at s.wiring v p ≡ Some a → outside_at s.wiring u q ≡ Some b
+      → a.tag ≡ Some t → b.tag ≡ Some t
       → (v ≡ u) × (p ≡ q)
   -- no port has two cables
   pub one_cable : EachPair (λ (a b : SwitchPort). same_spot b a ≡ false) (cable_ends s.wiring.cables)
   -- packets get from each outside port of a virtual switch to each other
-  pub ways : (v p q : ℕ) (a b : Outside) → outside_at s.wiring v p ≡ Some a → outside_at s.wiring v q ≡ Some b → HasWay s a.at.switch b.at.switch
+  pub ways : (v p q : ℕ) (a b : Outside) → outside_at s.wiring v p ≡ Some a → outside_at s.wiring v q ≡ Some b
+      → HasWay s a.at.switch b.at.switch
   -- no cable ends at an outside port
   pub open_ends : (v p : ℕ) → IfSome (outside_at s.wiring v p) (λ o. far_end s.wiring o.at ≡ None)
   -- what isn't spread lies on one switch, and so does what links lead to

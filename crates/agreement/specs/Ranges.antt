@@ -17,4 +17,5 @@ CanStand e = AreInRange e.actions
 abbrev pub ActionsAreInRange : Type 0
 ActionsAreInRange =
     (s : Setting) → AllByRecursion EntriesInRange s.network.tables → AreTagsInRange s.wiring
-    → (switch : ℕ) → AllByRecursion CanStand (entries_of s switch) × AllByRecursion CanStand (installed (entries_of s switch))
+    → (switch : ℕ) → AllByRecursion CanStand (entries_of s switch)
+    × AllByRecursion CanStand (installed (entries_of s switch))

@@ -21,7 +21,8 @@ comes_by port h = record h { in_port = port }
 
 -- the packet that a walk sends out at a port of a virtual switch, where that port lies
 abbrev pub left_at : Wiring → HeaderOf → PortOut → Option Left
-left_at w h out = option_map (λ (o : Outside). record { at = o.at; header = apply out.rewrite h }) (outside_at w out.v out.port)
+left_at w h out = option_map (λ (o : Outside). record { at = o.at; header = apply out.rewrite h })
+    (outside_at w out.v out.port)
 
 -- one copy of the packet as it came, where somebody is told
 abbrev pub copy_at : SwitchPort → HeaderOf → List Told → List Copied
@@ -45,4 +46,5 @@ pub record Alike (a b : Seen) : Type 0 where
 -- whichever entries the switches use, such is seen of a packet that comes in at a physical port, and that at most so
 -- many switches take up in turn
 abbrev pub AlwaysShows : Wiring → (ℕ → List FlowEntry) → ℕ → SwitchPort → HeaderOf → Seen → Type 0
-AlwaysShows w tables n at h seen = (choice : Choice) → IsAllowed tables choice → Alike (follow w choice n [] at.switch (comes_by at.port h)) seen
+AlwaysShows w tables n at h seen = (choice : Choice) → IsAllowed tables choice
+    → Alike (follow w choice n [] at.switch (comes_by at.port h)) seen

@@ -53,19 +53,22 @@ abbrev pub EachPortHasEntries : Type 0
 EachPortHasEntries =
     table_of (routed false) 0
     ≡ missing (at_port 1) ∷ routing (at_port 1) [] ∷ missing (at_port 2) ∷ routing (at_port 2) (Output 1 0 ∷ [])
-    ∷ missing (at_port 3) ∷ routing (at_port 3) (Output 1 0 ∷ []) ∷ missing (at_port 4) ∷ routing (at_port 4) (Output 1 0 ∷ []) ∷ []
+    ∷ missing (at_port 3) ∷ routing (at_port 3) (Output 1 0 ∷ []) ∷ missing (at_port 4)
+    ∷ routing (at_port 4) (Output 1 0 ∷ []) ∷ []
 
 -- where the virtual switch is whole, both entries once, and one that drops what comes by the fifth port
 abbrev pub AllPortsHaveEntries : Type 0
 AllPortsHaveEntries =
-    table_of (routed true) 0 ≡ missing everything ∷ routing everything (Output 1 0 ∷ []) ∷ record { m = at_port 5; priority = 65535; actions = [] } ∷ []
+    table_of (routed true) 0 ≡ missing everything ∷ routing everything (Output 1 0 ∷ [])
+    ∷ record { m = at_port 5; priority = 65535; actions = [] } ∷ []
 
 abbrev pub comes_to : ℕ → ℕ → HeaderOf
 comes_to p address = record (packet_to address) { in_port = p }
 
 -- what is to be seen of a packet that comes by a port
 abbrev pub to_see : ℕ → ℕ → Seen
-to_see p address = expected one_switch (spot 0 p) (comes_to p address) (walk (ground_of (routed false).network) 4 0 (comes_to p address))
+to_see p address = expected one_switch (spot 0 p) (comes_to p address)
+    (walk (ground_of (routed false).network) 4 0 (comes_to p address))
 
 -- to 2.0.0.1 it leaves by port 1, unless it came by it; of another there is a copy
 abbrev pub RouterIsSeen : Type 0
@@ -80,7 +83,8 @@ RouterIsSound = (whole : Bool) → IsSoundSetting (routed whole)
 
 -- whatever tables have these entries agree with the policy
 abbrev pub RouterAgrees : Type 0
-RouterAgrees = (whole : Bool) (tables : ℕ → List FlowEntry) → AreInstalled (routed whole) tables → Agree (routed whole) tables
+RouterAgrees = (whole : Bool) (tables : ℕ → List FlowEntry) → AreInstalled (routed whole) tables
+    → Agree (routed whole) tables
 
 -- two virtual switches that split the switch by links, as the worked walks have them: the first has its ports 1 and 2,
 -- the second 3 and 4
@@ -91,14 +95,19 @@ abbrev pub split : Setting
 split = record {
   network = split_switch 8 true;
   hops = 4;
-  wiring = record { outside = split_port 0 1 ∷ split_port 0 2 ∷ split_port 1 1 ∷ split_port 1 2 ∷ []; cables = []; next_hops = [] };
+  wiring = record {
+    outside = split_port 0 1 ∷ split_port 0 2 ∷ split_port 1 1 ∷ split_port 1 2 ∷ [];
+    cables = [];
+    next_hops = [];
+  };
   switches = record { ports = four_ports; up = true } ∷ [];
 }
 
 -- what comes by port 1 leaves there after three hops
 abbrev pub SplitIsSeen : Type 0
 SplitIsSeen =
-    expected split.wiring (spot 0 1) (packet_to 0x0a000001) (walk (ground_of split.network) split.hops 0 (packet_to 0x0a000001))
+    expected split.wiring (spot 0 1) (packet_to 0x0a000001)
+    (walk (ground_of split.network) split.hops 0 (packet_to 0x0a000001))
     ≡ record { outs = record { at = spot 0 1; header = packet_to 0x0a000001 } ∷ []; copies = [] }
 
 -- all that the law asks is so
@@ -109,7 +118,8 @@ SplitIsSound = IsSoundSetting split
 abbrev pub SplitAgrees : Type 0
 SplitAgrees = (tables : ℕ → List FlowEntry) → AreInstalled split tables → Agree split tables
 
--- one virtual switch that is spread over two switches with a cable: its port 1 is at the first, its port 2 at the second
+-- one virtual switch that is spread over two switches with a cable: its port 1 is at the first, its port 2 at the
+-- second
 abbrev pub two_switches : Wiring
 two_switches = record {
   outside = lies 1 0 1 ∷ lies 2 1 1 ∷ [];
@@ -133,7 +143,8 @@ spread_out = record {
 abbrev pub SecondIsInstalled : Type 0
 SecondIsInstalled =
     table_of spread_out 1
-    ≡ missing (by_tag 1 65535) ∷ routing (by_tag 1 65535) (SetVlanVid 1 ∷ Output 3 0 ∷ []) ∷ record { m = at_port 1; priority = 0; actions = [] }
+    ≡ missing (by_tag 1 65535) ∷ routing (by_tag 1 65535) (SetVlanVid 1 ∷ Output 3 0 ∷ [])
+    ∷ record { m = at_port 1; priority = 0; actions = [] }
     ∷ record { m = by_tag 3 2; priority = 65535; actions = StripVlan ∷ Output 1 0 ∷ [] } ∷ []
 
 -- all that the law asks is so

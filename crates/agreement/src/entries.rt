@@ -1,6 +1,7 @@
 //! The entries of a switch, from scratch.
 ghost use Rattle.std.specs.Prelude.{◌≡◌, ◌<◌, ◌↔◌, ◌++◌, All, IfOk, IsTrue, OnOk, option_to_list};
-ghost use Rattle.agreement.specs.Entries.{enters_on as enters_on_of, flat as flat_of, lies_on as lies_on_of, placed as placed_of, stands_on as stands_on_of};
+ghost use Rattle.agreement.specs.Entries.{enters_on as enters_on_of, flat as flat_of, lies_on as lies_on_of};
+ghost use Rattle.agreement.specs.Entries.{placed as placed_of, stands_on as stands_on_of};
 ghost use Rattle.policy_meaning.specs.declared.rule.Rule.{Rule};
 ghost use Rattle.switch_meaning.specs.Placing.{entry_of};
 

@@ -1,6 +1,7 @@
 //! What is to be seen of a packet, by its walk.
 ghost use Rattle.std.specs.Prelude.{◌≡◌, ◌++◌, IfOk, OnOk, filter_map, option_to_list};
-ghost use Rattle.agreement.specs.Seeing.{comes_by as comes_by_of, copy_at as copy_at_of, expected as expected_of, left_at as left_at_of};
+ghost use Rattle.agreement.specs.Seeing.{comes_by as comes_by_of, copy_at as copy_at_of, expected as expected_of};
+ghost use Rattle.agreement.specs.Seeing.{left_at as left_at_of};
 
 use cv_io::{List, Memory};
 use of10_match::Header;

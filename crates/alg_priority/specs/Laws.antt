@@ -9,7 +9,8 @@ SumIsBelow = (a b size_a size_b : ℕ) → a < size_a → b < size_b → sum_lev
 
 -- a sum rises strictly in each of its parts
 abbrev pub SumRises : Type 0
-SumRises = (a b more : ℕ) → (a < more → sum_level a b < sum_level more b) × (b < more → sum_level a b < sum_level a more)
+SumRises = (a b more : ℕ) → (a < more → sum_level a b < sum_level more b)
+    × (b < more → sum_level a b < sum_level a more)
 
 -- a concatenation of levels below their sizes is below the concatenation's size
 abbrev pub ConcatIsBelow : Type 0

@@ -2,7 +2,9 @@
 ghost use Rattle.std.specs.Prelude.{◌≡◌};
 ghost use Rattle.alg_priority.specs.Sizes.{WIDEST as widest};
 ghost use Rattle.alg_priority.specs.Worked.{Capped, EightLevels};
-ghost use Rattle.alg_priority.specs.Laws.{SumIsBelow, SumRises, ConcatIsBelow, ConcatCompares, ShiftIsBelow, ShiftIsAbove, ShiftRises, SumSizeGroups, ConcatSizeGroups, ShiftSizeGroups, SizesArePositive, SaturatesOnce};
+ghost use Rattle.alg_priority.specs.Laws.{SumIsBelow, SumRises, ConcatIsBelow, ConcatCompares, ShiftIsBelow};
+ghost use Rattle.alg_priority.specs.Laws.{ShiftIsAbove, ShiftRises, SumSizeGroups, ConcatSizeGroups, ShiftSizeGroups};
+ghost use Rattle.alg_priority.specs.Laws.{SizesArePositive, SaturatesOnce};
 
 use crate::width::WIDEST;
 

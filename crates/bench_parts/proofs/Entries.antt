@@ -26,10 +26,12 @@ builds-none outs tail o = record {
   tail = subst (λ (z : List Out). AllByRecursion (λ (x : Out). TailExtends tail x.rewrite) z) (sym o) tt;
 }
 
-pub builds-one : (before outs : List Out) (out : Out) → before ≡ [] → outs ≡ before ++ out ∷ [] → out.rewrite ≡ no_rewrite
+pub builds-one : (before outs : List Out) (out : Out) → before ≡ [] → outs ≡ before ++ out ∷ []
+    → out.rewrite ≡ no_rewrite
     → BuildsUp (record { outs = outs; tail = Nothing })
 builds-one before outs out b p r = let o : outs ≡ out ∷ [] = p ∙ ap (λ (z : List Out). z ++ out ∷ []) b in record {
-  outs = subst (λ (z : List Out). EachExtends no_rewrite z) (sym o) (subst (λ (x : RewriteOf). Extends x no_rewrite) (sym r) none-set, tt);
+  outs = subst (λ (z : List Out). EachExtends no_rewrite z) (sym o)
+      (subst (λ (x : RewriteOf). Extends x no_rewrite) (sym r) none-set, tt);
   tail = subst (λ (z : List Out). AllByRecursion (λ (x : Out). TailExtends Nothing x.rewrite) z) (sym o) (tt, tt);
 }
 
@@ -56,27 +58,33 @@ apart-before n d e i b =
       down = λ lt. absurd (omega arith);
     }
 
-pairs-more : (es : List LeafEntry) (e : LeafEntry) → EachPair AreApart es → AllByRecursion (λ (d : LeafEntry). AreApart d e) es → EachPair AreApart (es ++ e ∷ [])
+pairs-more : (es : List LeafEntry) (e : LeafEntry) → EachPair AreApart es
+    → AllByRecursion (λ (d : LeafEntry). AreApart d e) es → EachPair AreApart (es ++ e ∷ [])
 pairs-more [] e p a = (tt, tt)
 pairs-more (d ∷ ds) e p a = (all-append (AreApart d) ds (e ∷ []) p.0 (a.0, tt), pairs-more ds e p.1 a.1)
 
 later : (n : ℕ) (d : LeafEntry) → IsBefore n d → IsBefore (n + 1) d
 later n d b = let l = b.below in record { rank = b.rank; below = omega arith }
 
-pub one-numbered : (n : ℕ) (es all : List LeafEntry) (e : LeafEntry) → AreNumbered n es → IsEntry n e → all ≡ es ++ e ∷ [] → AreNumbered (n + 1) all
+pub one-numbered : (n : ℕ) (es all : List LeafEntry) (e : LeafEntry) → AreNumbered n es → IsEntry n e
+    → all ≡ es ++ e ∷ [] → AreNumbered (n + 1) all
 one-numbered n es all e a i p =
     let few = i.few in let rank = i.rank in let level = i.level in
     subst (AreNumbered (n + 1)) (sym p) (record {
       sound = all-append (IsSoundEntry SIZE) es (e ∷ []) a.sound
           (record { above = omega arith; below = omega arith; is_normal = i.is_normal; builds = i.builds }, tt);
-      apart = pairs-more es e a.apart (all-map (IsBefore n) (λ (d : LeafEntry). AreApart d e) es (λ d b. apart-before n d e i b) a.before);
+      apart =
+          pairs-more es e a.apart
+          (all-map (IsBefore n) (λ (d : LeafEntry). AreApart d e) es (λ d b. apart-before n d e i b) a.before);
       before = all-append (IsBefore (n + 1)) es (e ∷ []) (all-map (IsBefore n) (IsBefore (n + 1)) es (later n) a.before)
           (record { rank = omega arith; below = omega arith }, tt);
     })
 
-pub sound-table : (member : ℕ) (region : List MatchOf) (visible : List ℕ) (entries : List LeafEntry) → AreEntries entries → region ≡ everything ∷ []
+pub sound-table : (member : ℕ) (region : List MatchOf) (visible : List ℕ) (entries : List LeafEntry)
+    → AreEntries entries → region ≡ everything ∷ []
     → visible ≡ 1 ∷ 2 ∷ 3 ∷ 4 ∷ []
-    → IsSoundTable (record { member = member; size = SIZE; region = region; visible = visible; misses = false; entries = entries })
+    → IsSoundTable
+    (record { member = member; size = SIZE; region = region; visible = visible; misses = false; entries = entries })
 sound-table member region visible entries a r v = record {
   apart = a.apart;
   entries = a.sound;

@@ -9,8 +9,10 @@ use Rattle.command_line.specs.Forms.{command_of, form_of, is_plain}
 
 pub listed_of_plain : (words : List (String Global)) → list_all (λ word. is_plain (string_bytes word)) words ≡ true
     → is_some (form_of (map string_bytes words)) ≡ is_some (command_of words)
-listed_of_plain words h = let e : list_all is_plain (map string_bytes words) ≡ true = list_all-map is_plain string_bytes words ∙ h in rw e refl
+listed_of_plain words h = let e : list_all is_plain (map string_bytes words) ≡ true =
+    list_all-map is_plain string_bytes words ∙ h in rw e refl
 
 pub none_of_other : (words : List (String Global)) → list_all (λ word. is_plain (string_bytes word)) words ≡ false
     → false ≡ is_some (command_of words)
-none_of_other words h = let e : list_all is_plain (map string_bytes words) ≡ false = list_all-map is_plain string_bytes words ∙ h in rw e refl
+none_of_other words h = let e : list_all is_plain (map string_bytes words) ≡ false =
+    list_all-map is_plain string_bytes words ∙ h in rw e refl

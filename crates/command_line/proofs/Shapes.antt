@@ -13,4 +13,5 @@ third true false c d e = absurd cc
 third false b c d e = absurd cc
 
 pub own : (c : Command) → (app_of c).top.is_plain ≡ true → (out-Command c).has_globals ≡ false
-own c e = third (is_empty (out-Command c).groups.items) (not (out-Command c).allow_external_subcommands) (out-Command c).has_globals _ e
+own c e = third (is_empty (out-Command c).groups.items) (not (out-Command c).allow_external_subcommands)
+    (out-Command c).has_globals _ e

@@ -4,7 +4,8 @@ use Rattle.std.specs.Prelude.{◌==◌, ◌&&◌}
 use Rattle.std.specs.Str.{bytes_eq}
 use Rattle.std.specs.List.{list_all}
 use Rattle.clap.specs.Words.{App, Row, Rule, Shape, Text, subcommand_of, takes}
-use Rattle.clap.specs.Walk.{Held, Step, Walk, after_step, arg_by_index, finished, idle, nothing_held, rows_after, to_positional, value, walked, word_met}
+use Rattle.clap.specs.Walk.{Held, Step, Walk, after_step, arg_by_index, finished, idle, nothing_held, rows_after}
+use Rattle.clap.specs.Walk.{to_positional, value, walked, word_met}
 use Rattle.clap.specs.Takes.{default_passes, is_valid, level_passes, settle_passes, step_passes, turn_passes}
 use Rattle.clap.specs.Simple.{built_leaf, inherited, marked_built, on_top, with_leaf_noted}
 use Rattle.clap.specs.Lexer.{long_of, short_of}
@@ -23,7 +24,8 @@ no_short : (x : ℕ) (xs : Text) → (x == 45) ≡ false → short_of (x ∷ xs)
 no_short x xs n = rw n refl
 
 -- it is a value
-met : (c : List Rule) (h : Held) (position x : ℕ) (xs : Text) → (x == 45) ≡ false → word_met c [] false idle position (x ∷ xs) h ≡ (h, value)
+met : (c : List Rule) (h : Held) (position x : ℕ) (xs : Text) → (x == 45) ≡ false
+    → word_met c [] false idle position (x ∷ xs) h ≡ (h, value)
 met c h position x xs n = rw (no_dashes x xs n, no_long x xs n, no_short x xs n) refl
 
 abbrev at : Held → ℕ → Walk
@@ -36,7 +38,8 @@ next c h position word = to_positional c (arg_by_index c position) word (at h po
 step : (c : List Rule) (h : Held) (position x : ℕ) (xs : Text) → (x == 45) ≡ false
     → walked c [] (at h position) (x ∷ xs) ≡ next c h position (x ∷ xs)
 unfolding clap_on_literals
-step c h position x xs n = ap (λ (m : Held × Step). after_step c (x ∷ xs) (at h position) m.0 m.1) (met c h position x xs n)
+step c h position x xs n = ap (λ (m : Held × Step). after_step c (x ∷ xs) (at h position) m.0 m.1)
+    (met c h position x xs n)
 
 -- and is refused only where there is none
 passes : (s : Shape) (h : Held) (position x : ℕ) (xs : Text) → (x == 45) ≡ false
@@ -47,10 +50,12 @@ passes s h position x xs n = rw (met s.rules h position x xs n, no_dashes x xs n
 
 -- what is checked after a walk
 abbrev after : Shape → Walk → Bool
-after s w = settle_passes s.rules s.args_override_self w.held && (list_all default_passes s.rules && is_valid s (finished s.rules w.held) false)
+after s w = settle_passes s.rules s.args_override_self w.held &&
+    (list_all default_passes s.rules && is_valid s (finished s.rules w.held) false)
 
 one_passes : (s : Shape) (x : ℕ) (xs : Text) → (x == 45) ≡ false
-    → level_passes s [] nothing_held ((x ∷ xs) ∷ []) false ≡ ((step_passes s 1 nothing_held value && true) && after s (next s.rules nothing_held 1 (x ∷ xs)))
+    → level_passes s [] nothing_held ((x ∷ xs) ∷ []) false
+    ≡ ((step_passes s 1 nothing_held value && true) && after s (next s.rules nothing_held 1 (x ∷ xs)))
 unfolding clap_on_literals
 one_passes s x xs n = λ i. (passes s nothing_held 1 x xs n i && true) && after s (step s.rules nothing_held 1 x xs n i)
 
@@ -60,7 +65,8 @@ unfolding clap_on_literals
 one_row c x xs n = ap (λ (w : Walk). finished c w.held) (step c nothing_held 1 x xs n)
 
 -- the second text, where the first leaves h
-two_passes : (s : Shape) (h : Held) (x y : ℕ) (xs ys : Text) → (x == 45) ≡ false → (y == 45) ≡ false → next s.rules nothing_held 1 (x ∷ xs) ≡ at h 2
+two_passes : (s : Shape) (h : Held) (x y : ℕ) (xs ys : Text) → (x == 45) ≡ false → (y == 45) ≡ false
+    → next s.rules nothing_held 1 (x ∷ xs) ≡ at h 2
     → level_passes s [] nothing_held ((x ∷ xs) ∷ (y ∷ ys) ∷ []) false
     ≡ ((step_passes s 1 nothing_held value && (step_passes s 2 h value && true)) && after s (next s.rules h 2 (y ∷ ys)))
 unfolding clap_on_literals
@@ -70,7 +76,8 @@ two_passes s h x y xs ys n m first =
     let turn = ap (λ w. turn_passes s [] w (y ∷ ys)) one ∙ passes s h 2 y ys m in
     λ i. (passes s nothing_held 1 x xs n i && (turn i && true)) && after s (two i)
 
-two_rows : (c : List Rule) (h : Held) (x y : ℕ) (xs ys : Text) → (x == 45) ≡ false → (y == 45) ≡ false → next c nothing_held 1 (x ∷ xs) ≡ at h 2
+two_rows : (c : List Rule) (h : Held) (x y : ℕ) (xs ys : Text) → (x == 45) ≡ false → (y == 45) ≡ false
+    → next c nothing_held 1 (x ∷ xs) ≡ at h 2
     → rows_after c [] ((x ∷ xs) ∷ (y ∷ ys) ∷ []) ≡ finished c (next c h 2 (y ∷ ys)).held
 unfolding clap_on_literals
 two_rows c h x y xs ys n m first =
@@ -99,7 +106,8 @@ pub taken_serve : (x : ℕ) (xs : Text) → (x == 45) ≡ false → takes forms 
 unfolding clap_on_literals
 taken_serve x xs n = ap (λ b. b && true) (one_passes (leaf serve_form) x xs n)
 
-pub taken_make : (x y : ℕ) (xs ys : Text) → (x == 45) ≡ false → (y == 45) ≡ false → takes forms (codes "make" ∷ (x ∷ xs) ∷ (y ∷ ys) ∷ []) ≡ true
+pub taken_make : (x y : ℕ) (xs ys : Text) → (x == 45) ≡ false → (y == 45) ≡ false
+    → takes forms (codes "make" ∷ (x ∷ xs) ∷ (y ∷ ys) ∷ []) ≡ true
 unfolding clap_on_literals
 taken_make x y xs ys n m =
     let s = leaf make_form in
@@ -110,7 +118,8 @@ abbrev pub text_rows : App → Text → List Row
 text_rows a word = finished (leaf a).rules (next (leaf a).rules nothing_held 1 word).held
 
 abbrev pub texts_rows : App → Text → Text → List Row
-texts_rows a word second = finished (leaf a).rules (next (leaf a).rules (next (leaf a).rules nothing_held 1 word).held 2 second).held
+texts_rows a word second =
+    finished (leaf a).rules (next (leaf a).rules (next (leaf a).rules nothing_held 1 word).held 2 second).held
 
 pub given_alone : subcommand_of forms (codes "replay" ∷ []) ≡ Some (codes "replay", [])
 unfolding clap_on_literals
@@ -132,7 +141,8 @@ unfolding clap_on_literals
 given_serve x xs n = ap (λ rows. Some (codes "serve", rows)) (one_row (leaf serve_form).rules x xs n)
 
 pub given_make : (x y : ℕ) (xs ys : Text) → (x == 45) ≡ false → (y == 45) ≡ false
-    → subcommand_of forms (codes "make" ∷ (x ∷ xs) ∷ (y ∷ ys) ∷ []) ≡ Some (codes "make", texts_rows make_form (x ∷ xs) (y ∷ ys))
+    → subcommand_of forms (codes "make" ∷ (x ∷ xs) ∷ (y ∷ ys) ∷ [])
+    ≡ Some (codes "make", texts_rows make_form (x ∷ xs) (y ∷ ys))
 unfolding clap_on_literals
 given_make x y xs ys n m =
     let c = (leaf make_form).rules in

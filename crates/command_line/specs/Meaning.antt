@@ -16,7 +16,8 @@ policy_in = first_of (codes "POLICY")
 
 abbrev pub made_in : List Row → Option Command
 made_in rows =
-    making (option_and_then seed_in (first_of (codes "SEED") rows)) (option_and_then count_in (first_of (codes "N") rows))
+    making (option_and_then seed_in (first_of (codes "SEED") rows))
+    (option_and_then count_in (first_of (codes "N") rows))
 
 -- what a verb asks for with its texts
 abbrev pub meant_by : Text → List Row → Option Command

@@ -2,7 +2,8 @@
 ghost use Rattle.std.specs.Prelude.{◌≡◌, ◌&&◌, is_some, map};
 ghost use Rattle.std.specs.List.{list_all};
 ghost use Rattle.std.specs.String.{string_bytes};
-ghost use Rattle.command_line.specs.Forms.{command_of, form_of, is_plain as is_plain_of, is_printable as is_printable_of};
+ghost use Rattle.command_line.specs.Forms.{command_of, form_of, is_plain as is_plain_of};
+ghost use Rattle.command_line.specs.Forms.{is_printable as is_printable_of};
 ghost use Rattle.command_line.specs.Forms.{count_in, is_of_policy, seed_in};
 
 use script_text::decimal_number;

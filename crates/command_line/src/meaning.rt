@@ -72,7 +72,8 @@ fn serving(name: Option<Text>) -> Option<Command>
 
 /// `make`, of a seed and a number of messages.
 fn making(seed: Option<&str>, count: Option<&str>) -> Option<Command>
-    ensures { result ≡ making_of (option_and_then (λ s. seed_in s.now) seed.entry) (option_and_then (λ s. count_in s.now) count.entry) }
+    ensures { result ≡ making_of (option_and_then (λ s. seed_in s.now) seed.entry)
+        (option_and_then (λ s. count_in s.now) count.entry) }
 {
     let seed = read_seed(seed?.as_bytes())?;
     let count = read_count(count?.as_bytes())?;

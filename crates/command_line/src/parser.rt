@@ -14,7 +14,8 @@ use std::alloc::{AllocError, Global};
 /// What `clap` matches of words that are of a form. It refuses them only for want of memory.
 pub(crate) fn matched<'a>(alloc: Global, words: &'a [String]) -> Result<ArgMatches<'a>, Memory>
     requires { is_some (command_of words.now) ≡ true }
-    ensures { IfOk result (λ matches. subcommand_rows_of matches ≡ subcommand_of forms_of (map string_bytes words.now)) }
+    ensures { IfOk result (λ matches. subcommand_rows_of matches
+        ≡ subcommand_of forms_of (map string_bytes words.now)) }
 {
     match forms(alloc)?.try_get_matches_from(words) {
         Ok(matches) => Ok(matches),

@@ -23,8 +23,10 @@ module _ {A B : Type 0} where
       → Changed (filter_map f before) (filter_map f after) (filter_map f gone) (filter_map f come)
   changed-made f before after gone come c = record {
     kept = filter_map f c.kept;
-    was = IsPermutation-trans _ _ _ (permuted-filter_map f before (gone ++ c.kept) c.was) (by-equation _ _ (filter_map-append f gone c.kept));
-    is = IsPermutation-trans _ _ _ (permuted-filter_map f after (come ++ c.kept) c.is) (by-equation _ _ (filter_map-append f come c.kept));
+    was = IsPermutation-trans _ _ _ (permuted-filter_map f before (gone ++ c.kept) c.was)
+        (by-equation _ _ (filter_map-append f gone c.kept));
+    is = IsPermutation-trans _ _ _ (permuted-filter_map f after (come ++ c.kept) c.is)
+        (by-equation _ _ (filter_map-append f come c.kept));
   }
 
   -- lists that stand one after the other
@@ -32,12 +34,15 @@ module _ {A B : Type 0} where
       → Changed (flat_map f xs) (flat_map g xs) (flat_map h xs) (flat_map k xs)
   changed-each f g h k [] a = unchanged []
   changed-each f g h k (x ∷ xs) a =
-      changed-beside (f x) (g x) (h x) (k x) (flat_map f xs) (flat_map g xs) (flat_map h xs) (flat_map k xs) a.0 (changed-each f g h k xs a.1)
+      changed-beside (f x) (g x) (h x) (k x) (flat_map f xs) (flat_map g xs) (flat_map h xs) (flat_map k xs) a.0
+      (changed-each f g h k xs a.1)
 
   -- where each item makes the same, in another order, all do
-  pub each-permuted : (f g : A → List B) (xs : List A) → ((a : A) → IsPermutation (f a) (g a)) → IsPermutation (flat_map f xs) (flat_map g xs)
+  pub each-permuted : (f g : A → List B) (xs : List A) → ((a : A) → IsPermutation (f a) (g a))
+      → IsPermutation (flat_map f xs) (flat_map g xs)
   each-permuted f g [] h = IsPermutation-refl []
-  each-permuted f g (x ∷ xs) h = IsPermutation-append (f x) (g x) (flat_map f xs) (flat_map g xs) (h x) (each-permuted f g xs h)
+  each-permuted f g (x ∷ xs) h = IsPermutation-append (f x) (g x) (flat_map f xs) (flat_map g xs) (h x)
+      (each-permuted f g xs h)
 
 -- what a test lets through
 pub changed-if : {X : Type 0} (b : Bool) (before after gone come : List X) → Changed before after gone come
@@ -46,8 +51,10 @@ changed-if true before after gone come c = c
 changed-if false before after gone come c = unchanged []
 
 -- beside what stays
-pub changed-with : {X : Type 0} (before after gone come rest : List X) → Changed before after gone come → Changed (before ++ rest) (after ++ rest) gone come
+pub changed-with : {X : Type 0} (before after gone come rest : List X) → Changed before after gone come
+    → Changed (before ++ rest) (after ++ rest) gone come
 changed-with {X} before after gone come rest c =
-    let d : Changed (before ++ rest) (after ++ rest) (gone ++ []) (come ++ []) = changed-beside before after gone come rest rest [] [] c (unchanged rest) in
+    let d : Changed (before ++ rest) (after ++ rest) (gone ++ []) (come ++ []) =
+    changed-beside before after gone come rest rest [] [] c (unchanged rest) in
     subst (λ (z : List X). Changed (before ++ rest) (after ++ rest) z come) (append-nil gone)
     (subst (λ (z : List X). Changed (before ++ rest) (after ++ rest) (gone ++ []) z) (append-nil come) d)

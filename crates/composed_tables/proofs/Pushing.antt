@@ -1,5 +1,6 @@
 -- Lists with one item more, or another one in its place.
-use Rattle.std.proofs.Common.{◌≡◌, ℕ, zero, suc, ◌<◌, List, [], ◌∷◌, ◌++◌, Option, Some, None, length, map, set, refl, sym, ap, subst, ◌∙◌, arith}
+use Rattle.std.proofs.Common.{◌≡◌, ℕ, zero, suc, ◌<◌, List, [], ◌∷◌, ◌++◌, Option, Some, None, length, map, set, refl}
+use Rattle.std.proofs.Common.{sym, ap, subst, ◌∙◌, arith}
 use Rattle.std.specs.List.{insert, remove}
 use Rattle.std.specs.Prelude.{◌≢◌, slice_get, slice_index_or}
 use Rattle.switch_meaning.proofs.Items.{some_injective}
@@ -21,7 +22,8 @@ module _ {A : Type 0} where
   pushed-at (x ∷ xs) y (suc n) z e = later x xs y n z (pushed-at xs y n z e)
 
   -- what holds of each item and of one more
-  pub each-pushed : (P : ℕ → A → Type 0) (xs ys : List A) (y : A) → ys ≡ xs ++ y ∷ [] → ((n : ℕ) (z : A) → slice_get xs n ≡ Some z → P n z) → P (length xs) y
+  pub each-pushed : (P : ℕ → A → Type 0) (xs ys : List A) (y : A) → ys ≡ xs ++ y ∷ []
+      → ((n : ℕ) (z : A) → slice_get xs n ≡ Some z → P n z) → P (length xs) y
       → (n : ℕ) (z : A) → slice_get ys n ≡ Some z → P n z
   each-pushed P xs ys y e all one n z at = by (pushed-at xs y n z (sym (ap (λ (l : List A). slice_get l n) e) ∙ at))
     where
@@ -30,7 +32,8 @@ module _ {A : Type 0} where
       by (last f g) = subst (λ (k : ℕ). P k z) (sym f) (subst (λ (w : A). P (length xs) w) (sym g) one)
 
 -- an item of a mapped list, by number
-pub index-mapped : {A B : Type 0} (f : A → B) (d : B) (g : Option A → B) (xs : List A) (v : ℕ) → d ≡ g None → ((x : A) → slice_get xs v ≡ Some x → f x ≡ g (Some x))
+pub index-mapped : {A B : Type 0} (f : A → B) (d : B) (g : Option A → B) (xs : List A) (v : ℕ) → d ≡ g None
+    → ((x : A) → slice_get xs v ≡ Some x → f x ≡ g (Some x))
     → slice_index_or (map f xs) v d ≡ g (slice_get xs v)
 index-mapped f d g [] v none some = none
 index-mapped f d g (x ∷ xs) zero none some = some x refl

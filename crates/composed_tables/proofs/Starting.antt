@@ -1,5 +1,6 @@
 -- The steps in which virtual switches are handed over one after the other.
-use Rattle.std.proofs.Common.{◌≡◌, ◌≢◌, ℕ, zero, suc, ◌+◌, ◌<◌, ◌≤◌, ◌==◌, ◌-◌, ◌⊎◌, inl, inr, Bool, true, false, List, [], ◌∷◌, Option, Some, None, length, take, refl, sym, ap, subst, ◌∙◌, arith, eqb-true}
+use Rattle.std.proofs.Common.{◌≡◌, ◌≢◌, ℕ, zero, suc, ◌+◌, ◌<◌, ◌≤◌, ◌==◌, ◌-◌, ◌⊎◌, inl, inr, Bool, true, false, List}
+use Rattle.std.proofs.Common.{[], ◌∷◌, Option, Some, None, length, take, refl, sym, ap, subst, ◌∙◌, arith, eqb-true}
 use Rattle.std.specs.Prelude.{slice_get, Contains, IsPermutation}
 use Rattle.std.proofs.lemmas.Bool.{cases_lt}
 use Rattle.std.proofs.lemmas.List.{append-nil}
@@ -62,22 +63,26 @@ module _ (plan : TopologyPlan) (s : Setting) where
   first-next n = ap (first_steps plan s) (let e : n + 1 ≡ suc n = omega arith in e)
 
   first-plus : (n k : ℕ) → first_steps plan s n ≤ first_steps plan s (n + k)
-  first-plus n zero = subst (λ (m : ℕ). first_steps plan s n ≤ first_steps plan s m) (let e : n ≡ n + 0 = omega arith in e) (omega arith)
+  first-plus n zero = subst (λ (m : ℕ). first_steps plan s n ≤ first_steps plan s m)
+      (let e : n ≡ n + 0 = omega arith in e) (omega arith)
   first-plus n (suc k) =
       let le = first-plus n k in
       let next = first-next (n + k) in
       let far : first_steps plan s n ≤ first_steps plan s (n + k + 1) = omega (arith, le, next) in
-      subst (λ (m : ℕ). first_steps plan s n ≤ first_steps plan s m) (let e : n + k + 1 ≡ n + suc k = omega arith in e) far
+      subst (λ (m : ℕ). first_steps plan s n ≤ first_steps plan s m) (let e : n + k + 1 ≡ n + suc k = omega arith in e)
+      far
 
   first-up : (n m : ℕ) → n ≤ m → first_steps plan s n ≤ first_steps plan s m
   first-up n m le =
-      subst (λ (k : ℕ). first_steps plan s n ≤ first_steps plan s k) (let e : n + (m - n) ≡ m = omega arith in e) (first-plus n (m - n))
+      subst (λ (k : ℕ). first_steps plan s n ≤ first_steps plan s k) (let e : n + (m - n) ≡ m = omega arith in e)
+      (first-plus n (m - n))
 
   module _ (n s0 s1 s2 : ℕ) where
     pub first-more : s1 ≤ s0 + first_steps plan s n → s2 ≤ s1 + one n → s2 ≤ s0 + first_steps plan s (n + 1)
     first-more far now = let e = first-next n in omega (arith, e, far, now)
 
-    pub first-within : (m : ℕ) → n < m → s1 ≤ s0 + first_steps plan s n → s2 ≤ s1 + one n → s2 ≤ s0 + first_steps plan s m
+    pub first-within : (m : ℕ) → n < m → s1 ≤ s0 + first_steps plan s n → s2 ≤ s1 + one n
+        → s2 ≤ s0 + first_steps plan s m
     first-within m lt far now =
         let e = first-more far now in
         let le = first-up (n + 1) m (omega arith) in
@@ -88,7 +93,8 @@ module _ (plan : TopologyPlan) (s : Setting) where
   first-all n m s0 s1 le far = spent-up s0 s1 (first_steps plan s n) (first_steps plan s m) far (first-up n m le)
 
 -- ---- a table of a setting stays one with other rules
-pub laid-rules : (s : Setting) (t : TableOf) (rules : List (List Rule)) → IsLaidOut s t → IsLaidOut s (record t { rules = rules })
+pub laid-rules : (s : Setting) (t : TableOf) (rules : List (List Rule)) → IsLaidOut s t
+    → IsLaidOut s (record t { rules = rules })
 laid-rules s t rules l = record {
   hops = l.hops;
   count = l.count;
@@ -104,8 +110,10 @@ laid-rest s t t' rest l = subst (IsLaidOut s) (sym rest) (laid-rules s t t'.rule
 
 module _ (s : Setting) (trees : List Tree) (sound : AreSound trees) where
   -- one virtual switch is handed over
-  module _ (r : RulesOf) (trees-are : r.trees ≡ trees) (of : AreRulesOf s r) (long : length r.whole ≡ length r.trees) (wholes : r.hops.whole ≡ r.whole) (v : ℕ) (has : HasFirst s v r.hops)
-      (none : rules_kept r.hops v ≡ []) (tree : Tree) (is : slice_get r.trees v ≡ Some tree) (come : List Rule) (same : IsPermutation (rules_at (tree_of tree)) come) where
+  module _ (r : RulesOf) (trees-are : r.trees ≡ trees) (of : AreRulesOf s r) (long : length r.whole ≡ length r.trees)
+      (wholes : r.hops.whole ≡ r.whole) (v : ℕ) (has : HasFirst s v r.hops)
+      (none : rules_kept r.hops v ≡ []) (tree : Tree) (is : slice_get r.trees v ≡ Some tree) (come : List Rule)
+      (same : IsPermutation (rules_at (tree_of tree)) come) where
     sound-all : AreSound r.trees
     sound-all = subst AreSound (sym trees-are) sound
 
@@ -117,38 +125,47 @@ module _ (s : Setting) (trees : List Tree) (sound : AreSound trees) where
       where
         by : (b : Bool) → (u == v) ≡ b → IsPermutation (rules_kept after u) ((first_fabric s.network (v + 1)).rules u)
         by false e =
-            subst (λ (z : List Rule). IsPermutation z ((first_fabric s.network (v + 1)).rules u)) (sym (rules-there r.hops v come u e))
+            subst (λ (z : List Rule). IsPermutation z ((first_fabric s.network (v + 1)).rules u))
+            (sym (rules-there r.hops v come u e))
             (subst (λ (o : Option SwitchOf). IsPermutation (rules_kept r.hops u) (switch_rules s.network.tables o))
             (take-next s.network.switches v u (differ u v e)) (has u x at w))
         by true e =
             let q = eqb-true u v e in
             let there : slice_get r.trees u ≡ Some tree = ap (slice_get r.trees) q ∙ is in
             let kept : rules_kept after u ≡ come = ap (rules_kept after) q ∙ rules-here r.hops v come in
-            let first : slice_get (take (v + 1) s.network.switches) u ≡ Some x = take-within s.network.switches (v + 1) u (next-of u v q) ∙ at in
+            let first : slice_get (take (v + 1) s.network.switches) u ≡ Some x =
+            take-within s.network.switches (v + 1) u (next-of u v q) ∙ at in
             subst (λ (z : List Rule). IsPermutation z ((first_fabric s.network (v + 1)).rules u)) (sym kept)
             (subst (λ (o : Option SwitchOf). IsPermutation come (switch_rules s.network.tables o)) (sym first)
-            (IsPermutation-trans come (rules_at (tree_of tree)) (switch_rules s.network.tables (Some x)) (IsPermutation-sym (rules_at (tree_of tree)) come same)
+            (IsPermutation-trans come (rules_at (tree_of tree)) (switch_rules s.network.tables (Some x))
+            (IsPermutation-sym (rules_at (tree_of tree)) come same)
             (rules-of-tree s.network r.trees sound-all of.trees_are u x tree at there)))
 
     next-spent : change_steps (fabric r.hops) (fabric after) (ends r.hops.plan) (own_ports r.hops) r.hops.hops
         ≡ hop_steps r.hops.plan s (first_fabric s.network v) (first_fabric s.network (v + 1))
     next-spent =
-        hops-alike s r.hops after of.laid_out (ap length wholes ∙ (long ∙ of.count)) (first_fabric s.network v) (first_fabric s.network (v + 1))
+        hops-alike s r.hops after of.laid_out (ap length wholes ∙ (long ∙ of.count)) (first_fabric s.network v)
+        (first_fabric s.network (v + 1))
         (alike s r.hops of.laid_out (first_fabric s.network v).rules (λ u p. has u p.0 p.1 p.2))
-        (alike s after (laid-rules s r.hops after.rules of.laid_out) (first_fabric s.network (v + 1)).rules (λ u p. has-next u p.0 p.1 p.2))
+        (alike s after (laid-rules s r.hops after.rules of.laid_out) (first_fabric s.network (v + 1)).rules
+        (λ u p. has-next u p.0 p.1 p.2))
 
     pub handing-spent : (gone : List Rule) → gone ≡ [] → (s0 s1 : ℕ)
-        → ((t : TableOf) → IsHanded r.hops t v gone come → Apart gone come → s1 ≤ s0 + change_steps (fabric r.hops) (fabric t) (ends r.hops.plan) (own_ports r.hops) r.hops.hops)
+        → ((t : TableOf) → IsHanded r.hops t v gone come → Apart gone come
+        → s1 ≤ s0 + change_steps (fabric r.hops) (fabric t) (ends r.hops.plan) (own_ports r.hops) r.hops.hops)
         → s1 ≤ s0 + hop_steps r.hops.plan s (first_fabric s.network v) (first_fabric s.network (v + 1))
     handing-spent gone nothing s0 s1 h =
-        let handed : IsHanded r.hops after v [] come = handed-with r.hops v [] come [] come (by-equation (rules_kept r.hops v) [] none) (sym (append-nil come)) in
+        let handed : IsHanded r.hops after v [] come =
+        handed-with r.hops v [] come [] come (by-equation (rules_kept r.hops v) [] none) (sym (append-nil come)) in
         let apart : Apart [] come = λ x i j. nowhere x i in
         subst (λ (n : ℕ). s1 ≤ s0 + n) next-spent
-        (h after (subst (λ (z : List Rule). IsHanded r.hops after v z come) (sym nothing) handed) (subst (λ (z : List Rule). Apart z come) (sym nothing) apart))
+        (h after (subst (λ (z : List Rule). IsHanded r.hops after v z come) (sym nothing) handed)
+        (subst (λ (z : List Rule). Apart z come) (sym nothing) apart))
 
   -- the first have been handed over
   pub first-handed : (r : RulesOf) → r.trees ≡ trees → AreRulesOf s r → (v : ℕ) (t : TableOf)
-      → ((u : ℕ) (tree : Tree) → u < v → slice_get trees u ≡ Some tree → is_whole r.hops u ≡ false → IsPermutation (rules_at (tree_of tree)) (rules_kept t u))
+      → ((u : ℕ) (tree : Tree) → u < v → slice_get trees u ≡ Some tree → is_whole r.hops u ≡ false
+      → IsPermutation (rules_at (tree_of tree)) (rules_kept t u))
       → ((u : ℕ) → v ≤ u → rules_kept t u ≡ []) → HasFirst s v t
   first-handed r trees-are of v t done none u x at w = by (cases_lt u v)
     where
@@ -159,8 +176,11 @@ module _ (s : Setting) (trees : List Tree) (sound : AreSound trees) where
           let first : slice_get (take v s.network.switches) u ≡ Some x = take-within s.network.switches v u lt ∙ at in
           subst (λ (o : Option SwitchOf). IsPermutation (rules_kept t u) (switch_rules s.network.tables o)) (sym first)
           (IsPermutation-trans (rules_kept t u) (rules_at (tree_of k.item)) (switch_rules s.network.tables (Some x))
-          (IsPermutation-sym (rules_at (tree_of k.item)) (rules_kept t u) (done u k.item lt there (of.laid_out.whole u x at ∙ w)))
+          (IsPermutation-sym (rules_at (tree_of k.item)) (rules_kept t u)
+          (done u k.item lt there (of.laid_out.whole u x at ∙ w)))
           (rules-of-tree s.network r.trees (subst AreSound (sym trees-are) sound) of.trees_are u x k.item at k.is))
       by (inr le) =
           by-equation (rules_kept t u) ((first_fabric s.network v).rules u)
-          (none u le ∙ sym (ap (λ (o : Option SwitchOf). switch_rules s.network.tables o) (take-past s.network.switches v u le)))
+          (none u le
+          ∙ sym (ap (λ (o : Option SwitchOf). switch_rules s.network.tables o)
+          (take-past s.network.switches v u le)))

@@ -14,11 +14,14 @@ use Rattle.composed_tables.specs.declared.part.Part.TheVariants.{Come, Gone}
 -- the entries of a switch are those of the rules that enter its virtual switches, and those that don't hang on tables
 abbrev pub EntriesByEntrance : Type 0
 EntriesByEntrance =
-    (s : Setting) (n : ℕ) → entries_of s n ≡ entries_by s.wiring s.network.switches (rules_in s) n ++ (fixed_entries s.wiring n ++ dropping s n)
+    (s : Setting) (n : ℕ)
+    → entries_of s n ≡ entries_by s.wiring s.network.switches (rules_in s) n
+    ++ (fixed_entries s.wiring n ++ dropping s n)
 
 -- where rules change at entrances, exactly the entries of the rules that went and came go and come
 abbrev pub EntriesChange : Type 0
 EntriesChange =
-    (w : Wiring) (switches : List SwitchOf) (before after : RulesBy) (deltas : List PortDelta) → AreExact switches before after deltas
+    (w : Wiring) (switches : List SwitchOf) (before after : RulesBy) (deltas : List PortDelta)
+    → AreExact switches before after deltas
     → (n : ℕ) → Changed (entries_by w switches before n) (entries_by w switches after n)
     (entries_by w switches (changed_by Gone deltas) n) (entries_by w switches (changed_by Come deltas) n)

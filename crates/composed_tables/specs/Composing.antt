@@ -35,7 +35,9 @@ rules_in s i None = switch_rules s.network.tables (Some i.1)
 abbrev pub AreExact : List SwitchOf → RulesBy → RulesBy → List PortDelta → Type 0
 AreExact switches before after deltas =
     AllByRecursion
-    (λ (i : ℕ × SwitchOf). AllByRecursion (λ (e : Option ℕ). Changed (before i e) (after i e) (changed_by Gone deltas i e) (changed_by Come deltas i e)) (entrances i.1))
+    (λ (i : ℕ × SwitchOf). AllByRecursion
+    (λ (e : Option ℕ). Changed (before i e) (after i e) (changed_by Gone deltas i e) (changed_by Come deltas i e))
+    (entrances i.1))
     (enumerate_from 0 switches)
 
 -- what is kept of a setting: where ports lie, the virtual switches and their rules, and what is to stand on each switch
@@ -70,9 +72,11 @@ pub record Changes (v : ℕ) (delta : LeafDelta) (before after : Setting) : Type
   pub rest : after ≡ record before { network = record before.network { tables = after.network.tables } }
   pub sizes : (i : ℕ) → table_size (slice_get after.network.tables i) ≡ table_size (slice_get before.network.tables i)
   pub changed : (x : SwitchOf) → slice_get before.network.switches v ≡ Some x
-      → MemberChanges delta (λ i. table_rules (ports_of x) (slice_get before.network.tables i)) (λ i. table_rules (ports_of x) (slice_get after.network.tables i))
+      → MemberChanges delta (λ i. table_rules (ports_of x) (slice_get before.network.tables i))
+      (λ i. table_rules (ports_of x) (slice_get after.network.tables i))
   pub others : (u : ℕ) (x : SwitchOf) → u ≢ v → slice_get before.network.switches u ≡ Some x
-      → EachMember (λ i. table_rules (ports_of x) (slice_get after.network.tables i) ≡ table_rules (ports_of x) (slice_get before.network.tables i)) x.expr
+      → EachMember (λ i. table_rules (ports_of x) (slice_get after.network.tables i)
+      ≡ table_rules (ports_of x) (slice_get before.network.tables i)) x.expr
 
 -- what stands on each switch is a table of what is put there
 abbrev pub AreTables : List SwitchTableOf → Type 0
@@ -102,10 +106,12 @@ pub record AreMoved (v : ℕ) (delta : LeafDelta) (w : Wiring) (switches : List 
   pub exact : (before after : Setting) → AreRulesOf before r → Changes v delta before after
       → AreExact before.network.switches (rules_in before) (rules_in after) deltas
   pub count : length batches ≡ length old
-  pub turned : AreTurned (length old) (map (entry_delta w switches deltas) (range_with_len 0 (length old))) next old new batches
+  pub turned : AreTurned (length old) (map (entry_delta w switches deltas) (range_with_len 0 (length old))) next old new
+      batches
 
 -- so they did from rules that were there to rules that are
-pub record IsMovedFrom (v : ℕ) (delta : LeafDelta) (w : Wiring) (switches : List SwitchOf) (next : ℕ) (before after : Option RulesOf)
+pub record IsMovedFrom (v : ℕ) (delta : LeafDelta) (w : Wiring) (switches : List SwitchOf) (next : ℕ)
+    (before after : Option RulesOf)
     (old new : List SwitchTableOf) (batches : List SwitchBatch) : Type 0 where
   pub from : RulesOf
   pub to : RulesOf

@@ -25,7 +25,8 @@ RulesBy = ℕ × SwitchOf → Option ℕ → List Rule
 -- the entries on a switch of the rules that enter a virtual switch
 abbrev pub entries_of_one : Wiring → RulesBy → ℕ → ℕ × SwitchOf → List PhysEntry
 entries_of_one w rules n i =
-    flat_map (λ (e : Option ℕ). placed w (site_at n i.0 i.1) i.1.outside (record { port = e; rules = rules i e })) (entrances i.1)
+    flat_map (λ (e : Option ℕ). placed w (site_at n i.0 i.1) i.1.outside (record { port = e; rules = rules i e }))
+    (entrances i.1)
 
 -- the entries on a switch of the rules that enter virtual switches
 abbrev pub entries_by : Wiring → List SwitchOf → RulesBy → ℕ → List PhysEntry
@@ -51,4 +52,8 @@ changed_by part deltas i e = rules_at part deltas (entrance i.0 e)
 
 -- the entries on a switch of what went, and of what came
 abbrev pub entry_delta : Wiring → List SwitchOf → List PortDelta → ℕ → GateDelta
-entry_delta w switches deltas n = record { gone = entries_by w switches (changed_by Gone deltas) n; come = entries_by w switches (changed_by Come deltas) n }
+entry_delta w switches deltas n =
+    record {
+      gone = entries_by w switches (changed_by Gone deltas) n;
+      come = entries_by w switches (changed_by Come deltas) n;
+    }

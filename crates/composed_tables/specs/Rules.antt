@@ -1,5 +1,6 @@
 -- The composed rules of a setting: those of the expression of each virtual switch, and those of its ports through hops.
-use Rattle.std.specs.Prelude.{◌≡◌, ◌≢◌, ◌==◌, ℕ, ◌<◌, ◌^◌, All, Bool, true, false, Contains, Some, List, [], ◌∷◌, ◌++◌, length, map, slice_get, IsPermutation}
+use Rattle.std.specs.Prelude.{◌≡◌, ◌≢◌, ◌==◌, ℕ, ◌<◌, ◌^◌, All, Bool, true, false, Contains, Some, List, [], ◌∷◌, ◌++◌}
+use Rattle.std.specs.Prelude.{length, map, slice_get, IsPermutation}
 use Rattle.std.specs.List.{AllByRecursion}
 use Rattle.agreement.specs.declared.state.Setting.{Setting}
 use Rattle.hop_rules.specs.Links.{links, place}
@@ -89,7 +90,8 @@ CanTake r v delta = CanChangeAt r.trees v delta
 pub record IsTreeChanged (delta : LeafDelta) (told : RuleDelta) (before after : TreeOf) : Type 0 where
   pub sound : IsTree after
   pub policy : policy_in after ≡ policy_in before
-  pub members : (sizes : ℕ → ℕ) (rules rules' : ℕ → List Rule) → MemberChanges delta rules rules' → IsOf sizes rules before → IsOf sizes rules' after
+  pub members : (sizes : ℕ → ℕ) (rules rules' : ℕ → List Rule) → MemberChanges delta rules rules'
+      → IsOf sizes rules before → IsOf sizes rules' after
   pub rules : Changed (rules_at before) (rules_at after) told.gone told.come
   pub apart : Apart told.gone told.come
 
@@ -97,7 +99,8 @@ pub record IsTreeChanged (delta : LeafDelta) (told : RuleDelta) (before after : 
 pub record IsChangedAt (v : ℕ) (delta : LeafDelta) (before after : List Tree) (told : RuleDelta) : Type 0 where
   pub long : length after ≡ length before
   pub others : (u : ℕ) → (u == v) ≡ false → slice_get after u ≡ slice_get before u
-  pub changed : (t u : Tree) → slice_get before v ≡ Some t → slice_get after v ≡ Some u → IsTreeChanged delta told (tree_of t) (tree_of u)
+  pub changed : (t u : Tree) → slice_get before v ≡ Some t → slice_get after v ≡ Some u
+      → IsTreeChanged delta told (tree_of t) (tree_of u)
 
 -- a rule has a level below so many, and a normal match
 pub record IsFitting (size : ℕ) (r : Rule) : Type 0 where
@@ -107,7 +110,8 @@ pub record IsFitting (size : ℕ) (r : Rule) : Type 0 where
 -- the trees of the first so many virtual switches are those over these tables
 abbrev pub AreTreesOf : Network → List Tree → Type 0
 AreTreesOf net trees =
-    (v : ℕ) (x : SwitchOf) (t : Tree) → slice_get net.switches v ≡ Some x → slice_get trees v ≡ Some t → IsTreeOf net.tables x t
+    (v : ℕ) (x : SwitchOf) (t : Tree) → slice_get net.switches v ≡ Some x → slice_get trees v ≡ Some t
+    → IsTreeOf net.tables x t
 
 -- one compiled expression more, that of a virtual switch
 pub record IsAdded (tables : List LeafTable) (x : SwitchOf) (before after : List Tree) : Type 0 where
@@ -133,13 +137,15 @@ pub record AreRulesOf (s : Setting) (r : RulesOf) : Type 0 where
 abbrev pub IsOutside : TopologyPlan → ℕ → ℕ → Type 0
 IsOutside plan v p = Contains (map (λ (j : Joint). place j.0) (outside_joints plan)) (record { v = v; port = p })
 
--- a topology and a setting of it whose expressions can be compiled, where links lead to virtual switches that aren't whole
+-- a topology and a setting of it whose expressions can be compiled, where links lead to virtual switches that aren't
+-- whole
 pub record IsReadyFor (plan : TopologyPlan) (s : Setting) : Type 0 where
   pub can : CanCompile s.network
   pub count : length s.network.switches ≡ length plan.virtuals
   pub links_are : (v : ℕ) → links plan v ≡ switch_links (slice_get s.network.switches v)
   pub leads : (v : ℕ) → AllByRecursion (LeadsToParted s.network) (links plan v)
-  pub ports : (v : ℕ) (x : SwitchOf) → slice_get s.network.switches v ≡ Some x → AllByRecursion (IsOutside plan v) x.outside
+  pub ports : (v : ℕ) (x : SwitchOf) → slice_get s.network.switches v ≡ Some x
+      → AllByRecursion (IsOutside plan v) x.outside
 
 -- the table of hops keeps all but the rules
 abbrev pub KeepsRest : TableOf → TableOf → Type 0
@@ -149,12 +155,14 @@ KeepsRest before after = after ≡ record before { rules = after.rules }
 pub record IsHandedOver (v : ℕ) (trees : List Tree) (before after : TableOf) : Type 0 where
   pub rest : KeepsRest before after
   pub others : (u : ℕ) → (u == v) ≡ false → rules_kept after u ≡ rules_kept before u
-  pub own : (t : Tree) → slice_get trees v ≡ Some t → is_whole before v ≡ false → IsPermutation (rules_at (tree_of t)) (rules_kept after v)
+  pub own : (t : Tree) → slice_get trees v ≡ Some t → is_whole before v ≡ false
+      → IsPermutation (rules_at (tree_of t)) (rules_kept after v)
 
 -- so were those of all
 pub record AreHandedOver (trees : List Tree) (before after : TableOf) : Type 0 where
   pub rest : KeepsRest before after
-  pub each : (v : ℕ) (t : Tree) → slice_get trees v ≡ Some t → is_whole before v ≡ false → IsPermutation (rules_at (tree_of t)) (rules_kept after v)
+  pub each : (v : ℕ) (t : Tree) → slice_get trees v ≡ Some t → is_whole before v ≡ false
+      → IsPermutation (rules_at (tree_of t)) (rules_kept after v)
 
 -- a table of hops of these sizes that no rules were handed over to
 pub record IsEmptyTable (sizes : List ℕ) (whole : List Bool) (t : TableOf) : Type 0 where

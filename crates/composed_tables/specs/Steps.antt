@@ -1,5 +1,6 @@
 -- The steps in which the composed rules of a setting change with members, and in which they are made from scratch.
-use Rattle.std.specs.Prelude.{◌≡◌, ℕ, Bool, zero, suc, false, not, ◌+◌, Some, List, filter, length, map, slice_get, sum_by, take, IsPermutation}
+use Rattle.std.specs.Prelude.{◌≡◌, ℕ, Bool, zero, suc, false, not, ◌+◌, Some, List, filter, length, map, slice_get}
+use Rattle.std.specs.Prelude.{sum_by, take, IsPermutation}
 use Rattle.std.specs.Option.{option_map_or}
 use Rattle.agreement.specs.declared.state.Setting.{Setting}
 use Rattle.hop_rules.specs.Counts.{change_steps}
@@ -19,7 +20,8 @@ use Rattle.virtual_topology.specs.Wires.{Joint, outside_joints}
 -- where the tables of members change
 abbrev pub expression_steps : List LeafTable → List LeafTable → SwitchOf → ℕ
 expression_steps before after x =
-    steps_of (λ i. table_size (slice_get before i)) (λ i. table_rules (ports_of x) (slice_get before i)) (λ i. table_rules (ports_of x) (slice_get after i)) x.expr
+    steps_of (λ i. table_size (slice_get before i)) (λ i. table_rules (ports_of x) (slice_get before i))
+    (λ i. table_rules (ports_of x) (slice_get after i)) x.expr
 
 -- from no rules
 abbrev pub compile_steps : List LeafTable → SwitchOf → ℕ
@@ -49,7 +51,8 @@ first_fabric net n = record {
 -- the first n are handed over, one after the other
 abbrev pub first_steps : TopologyPlan → Setting → ℕ → ℕ
 first_steps plan s zero = 0
-first_steps plan s (suc n) = first_steps plan s n + hop_steps plan s (first_fabric s.network n) (first_fabric s.network (n + 1))
+first_steps plan s (suc n) = first_steps plan s n + hop_steps plan s (first_fabric s.network n)
+    (first_fabric s.network (n + 1))
 
 -- a table of hops has the rules of the first n, where they aren't for all ports at once
 abbrev pub HasFirst : Setting → ℕ → TableOf → Type 0
@@ -65,4 +68,5 @@ setting_steps plan before after =
 
 -- from scratch: at each expression, and through hops as one virtual switch after the other has its rules
 abbrev pub building_steps : TopologyPlan → Setting → ℕ
-building_steps plan s = sum_by (compile_steps s.network.tables) s.network.switches + first_steps plan s (length s.network.switches)
+building_steps plan s = sum_by (compile_steps s.network.tables) s.network.switches + first_steps plan s
+    (length s.network.switches)

@@ -1,5 +1,6 @@
 //! The composed rules: those of the expression of each virtual switch, and those of its ports through hops.
-ghost use Rattle.std.specs.Prelude.{◌≡◌, ◌+◌, ◌<◌, ◌≤◌, ◌^◌, ◌++◌, ◌∷◌, [], ℕ, All, false, IfOk, IsPermutation, IsTrue, List};
+ghost use Rattle.std.specs.Prelude.{◌≡◌, ◌+◌, ◌<◌, ◌≤◌, ◌^◌, ◌++◌, ◌∷◌, [], ℕ, All, false, IfOk, IsPermutation, IsTrue};
+ghost use Rattle.std.specs.Prelude.{List};
 ghost use Rattle.std.specs.Prelude.{OnOk, Some, length, map, slice_get, slice_index_or, sum_by};
 ghost use Rattle.std.specs.List.{AllByRecursion};
 ghost use Rattle.agreement.specs.Fitting.{IsFittingSetting};
@@ -249,7 +250,8 @@ fn hand_over<G: Ledger>(
     ensures handed { OnOk result (IsHandedOver v trees.now hops.old hops.new) }
     ensures steps { (s : SettingOf) → AreSound trees.now → HasFirst s v hops.old → AreRulesOf s
         (record { trees = trees.now; sizes = sizes.now; whole = whole.now; hops = hops.old })
-        → steps.new ≤ steps.old + hop_steps hops.old.plan s (first_fabric s.network v) (first_fabric s.network (v + 1)) }
+        → steps.new ≤ steps.old + hop_steps hops.old.plan s (first_fabric s.network v)
+        (first_fabric s.network (v + 1)) }
 {
     if whole_at(whole, v) {
         return Ok(());
@@ -386,7 +388,8 @@ fn change_tree<G: Ledger>(
     ensures changed { IfOk result (IsChangedAt v delta trees.old trees.new) }
     ensures steps { (t : Tree) → slice_get trees.old v ≡ Some t
         → (sizes : ℕ → ℕ) → (before after : ℕ → List RuleOf) → MemberChanges delta before after
-        → IsTreeWith sizes before (tree_of t) → steps.new ≤ steps.old + steps_of sizes before after (policy_in (tree_of t)) }
+        → IsTreeWith sizes before (tree_of t)
+        → steps.new ≤ steps.old + steps_of sizes before after (policy_in (tree_of t)) }
 {
     let mut tree = trees.remove(v as usize);
     match tree.apply(delta, steps) {

@@ -20,12 +20,14 @@ pub appends-more : (a b c : Option (List ℕ)) (xs : List ℕ) (k n : ℕ) → A
     → AppendsFirst b c n (take (length xs - k) (drop k xs)) → Appends a c (take (k + n) xs)
 appends-more None b c xs k n e f = subst (λ z. AppendsFirst z c n (take (length xs - k) (drop k xs))) e f
 appends-more (Some held) b c xs k n e f =
-    let g : c ≡ Some ((held ++ take k xs) ++ take n (take (length xs - k) (drop k xs))) = subst (λ z. AppendsFirst z c n (take (length xs - k) (drop k xs))) e f in
+    let g : c ≡ Some ((held ++ take k xs) ++ take n (take (length xs - k) (drop k xs))) =
+    subst (λ z. AppendsFirst z c n (take (length xs - k) (drop k xs))) e f in
     g ∙ ap Some (append_assoc held (take k xs) (take n (take (length xs - k) (drop k xs)))
     ∙ ap (λ z. held ++ z) (ap (λ z. take k xs ++ take n z) (rest_is xs k) ∙ sym (take-add k n xs)))
 
 -- all is written
-pub appends-all : (a b : Option (List ℕ)) (xs : List ℕ) (k : ℕ) → length xs ≤ k → Appends a b (take k xs) → Appends a b xs
+pub appends-all : (a b : Option (List ℕ)) (xs : List ℕ) (k : ℕ) → length xs ≤ k → Appends a b (take k xs)
+    → Appends a b xs
 appends-all a b xs k most e = subst (Appends a b) (take_all k xs most) e
 
 -- bytes, and then others
@@ -36,7 +38,8 @@ appends_both (Some held) b c xs ys e f =
     g ∙ ap Some (append_assoc held xs ys)
 
 -- bytes, and then the first of others
-pub some_after : (a b c : Option (List ℕ)) (xs ys : List ℕ) → Appends a b xs → AppendsSome b c ys → AppendsSome a c (xs ++ ys)
+pub some_after : (a b c : Option (List ℕ)) (xs ys : List ℕ) → Appends a b xs → AppendsSome b c ys
+    → AppendsSome a c (xs ++ ys)
 some_after a b c xs ys e f =
     (length xs + f.0, subst (Appends a c) (sym (take-append-add xs ys f.0)) (appends_both a b c xs (take f.0 ys) e f.1))
 
@@ -50,5 +53,8 @@ some_all a b xs e = (length xs, subst (Appends a b) (sym (take-length xs)) e)
 -- the first bytes are those of more bytes
 pub some_more : (a b : Option (List ℕ)) (xs ys : List ℕ) → AppendsSome a b xs → AppendsSome a b (xs ++ ys)
 some_more a b xs ys e =
-    let short : min e.0 (length xs) ≤ length xs = omega arith in
-    (min e.0 (length xs), subst (Appends a b) (sym (take-append-le (min e.0 (length xs)) xs ys short ∙ take_min e.0 xs)) e.1)
+    let short : min e.0 (length xs) ≤ length xs = omega arith in (
+      min e.0 (length xs),
+      subst (Appends a b) (sym (take-append-le (min e.0 (length xs)) xs ys short ∙ take_min e.0 xs))
+          e.1,
+    )

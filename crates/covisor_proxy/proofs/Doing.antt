@@ -25,7 +25,8 @@ does-waits (Ok played) used at at' held w w' t = record {
 does-waits (Err kind) used at at' held w w' t = absurd t
 
 -- or is written
-pub does-written : (what : Result Played Kind) (used : ℕ) (at at' : Progress) (held held' : Option (List ℕ)) (w mid : List ℕ)
+pub does-written : (what : Result Played Kind) (used : ℕ) (at at' : Progress) (held held' : Option (List ℕ))
+    (w mid : List ℕ)
     → Takes None what used at at' w mid → Appends held held' mid → Does what used at at' held held' w []
 does-written (Ok played) used at at' held held' w mid t a = record {
   played = played;
@@ -48,7 +49,8 @@ chokes (Ok played) used at at' held held' w mid t a = record {
 chokes (Err kind) used at at' held held' w mid t a = absurd t
 
 -- it isn't done
-pub halts-left : (stop : Stop) (what : Result Played Kind) (used : ℕ) (at at' : Progress) (held : Option (List ℕ)) (faults : ℕ) (w w' : List ℕ)
+pub halts-left : (stop : Stop) (what : Result Played Kind) (used : ℕ) (at at' : Progress) (held : Option (List ℕ))
+    (faults : ℕ) (w w' : List ℕ)
     → Leaves stop what used at at' w w' → Halts stop what at at' held held faults faults w w'
 halts-left (Refused kind) (Ok played) used at at' held faults w w' h = absurd h
 halts-left (Refused kind) (Err other) used at at' held faults w w' h = (ap Err (sym h.0), h.1, refl, refl, h.2)

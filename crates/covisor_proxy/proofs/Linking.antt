@@ -9,4 +9,5 @@ pub all_reliable : (links : LinksOf) → NeverFail links → (places : List Plac
     → All (λ (place : Place). links.reliable place.end ≡ true) places
 all_reliable links never [] = All-nil (λ (place : Place). links.reliable place.end ≡ true)
 all_reliable links never (place ∷ places) =
-    All-cons (λ (other : Place). links.reliable other.end ≡ true) place places (never place.end) (all_reliable links never places)
+    All-cons (λ (other : Place). links.reliable other.end ≡ true) place places (never place.end)
+    (all_reliable links never places)

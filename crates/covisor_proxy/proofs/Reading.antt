@@ -1,5 +1,6 @@
 -- What several reads gave, one after the other.
-use Rattle.std.proofs.Common.{◌≡◌, ◌<◌, ◌≤◌, ◌+◌, ◌-◌, ℕ, Bool, true, false, nat_lt, List, [], ◌++◌, Option, Some, None, MatchOption, drop, take, length}
+use Rattle.std.proofs.Common.{◌≡◌, ◌<◌, ◌≤◌, ◌+◌, ◌-◌, ℕ, Bool, true, false, nat_lt, List, [], ◌++◌, Option, Some, None}
+use Rattle.std.proofs.Common.{MatchOption, drop, take, length}
 use Rattle.std.proofs.Common.{sym, ap, ◌∙◌, subst, refl, append_assoc, arith}
 use Rattle.std.specs.Prelude.{if◌then◌else◌}
 use Rattle.std.proofs.lemmas.Bool.{ltb-false, ltb-true}
@@ -37,10 +38,12 @@ none-left (Some rest) e = e
 -- a read of n bytes gave them
 pub gave-taken : (a b : Option (List ℕ)) (n : ℕ) (into : List ℕ) → TakesNext a b n into → Gave a b (take n into)
 gave-taken None b n into e = e
-gave-taken (Some left) b n into e = subst (λ z. Gave (Some left) z (take n into)) (sym e.1) (sym (take-append-drop n left) ∙ ap (λ z. z ++ drop n left) (sym e.0))
+gave-taken (Some left) b n into e = subst (λ z. Gave (Some left) z (take n into)) (sym e.1)
+    (sym (take-append-drop n left) ∙ ap (λ z. z ++ drop n left) (sym e.0))
 
 -- a read that takes nothing shows the end of the source
-pub at_end : (before after : Option (List ℕ)) (n : ℕ) (into : List ℕ) → TakesNext before after n into → n ≡ 0 → IsAtEnd after
+pub at_end : (before after : Option (List ℕ)) (n : ℕ) (into : List ℕ) → TakesNext before after n into → n ≡ 0
+    → IsAtEnd after
 at_end None after n into e _ = subst IsAtEnd (sym e) tt
 at_end (Some left) after n into taken e =
     let none_left : drop n left ≡ [] = subst (λ k. drop k left ≡ []) (sym e) (taken.2 e) in
@@ -48,19 +51,24 @@ at_end (Some left) after n into taken e =
 
 -- ---- line feeds
 
-feed_by : (b : Bool) (k n : ℕ) → nat_lt k n ≡ b → MatchOption (if b then Some k else None) (n ≤ k) (λ place. (place ≡ k) × (place < n))
+feed_by : (b : Bool) (k n : ℕ) → nat_lt k n ≡ b
+    → MatchOption (if b then Some k else None) (n ≤ k) (λ place. (place ≡ k) × (place < n))
 feed_by true k n e = (refl, ltb-true k n e)
 feed_by false k n e = ltb-false k n e
 
 -- the place of the first line feed, if there is one
-pub feed_found : (bytes : List ℕ) (found : Option ℕ) → found ≡ (if nat_lt (before_feed bytes) (length bytes) then Some (before_feed bytes) else None)
-    → MatchOption found (length bytes ≤ before_feed bytes) (λ place. (place ≡ before_feed bytes) × (place < length bytes))
+pub feed_found : (bytes : List ℕ) (found : Option ℕ)
+    → found ≡ (if nat_lt (before_feed bytes) (length bytes) then Some (before_feed bytes) else None)
+    → MatchOption found (length bytes ≤ before_feed bytes) (λ place. (place ≡ before_feed bytes)
+    × (place < length bytes))
 feed_found bytes found e =
-    subst (λ (x : Option ℕ). MatchOption x (length bytes ≤ before_feed bytes) (λ place. (place ≡ before_feed bytes) × (place < length bytes))) (sym e)
+    subst (λ (x : Option ℕ). MatchOption x (length bytes ≤ before_feed bytes)
+    (λ place. (place ≡ before_feed bytes) × (place < length bytes))) (sym e)
     (feed_by (nat_lt (before_feed bytes) (length bytes)) (before_feed bytes) (length bytes) refl)
 
 -- what stands behind a place of a part
-pub slice_behind : (xs : List ℕ) (s e k : ℕ) → s + (k + 1) ≤ e → slice_range xs (s + (k + 1)) e ≡ drop (k + 1) (slice_range xs s e)
+pub slice_behind : (xs : List ℕ) (s e k : ℕ) → s + (k + 1) ≤ e
+    → slice_range xs (s + (k + 1)) e ≡ drop (k + 1) (slice_range xs s e)
 slice_behind xs s e k h =
     let split : e - s ≡ (k + 1) + (e - (s + (k + 1))) = omega arith in
     sym (ap (λ (n : ℕ). drop (k + 1) (take n (drop s xs))) split
@@ -69,9 +77,11 @@ slice_behind xs s e k h =
 
 -- ---- lines
 
-whole_here : (items line longer : List ℕ) (s e place : ℕ) → place ≡ before_feed (slice_range items s e) → place < length (slice_range items s e)
+whole_here : (items line longer : List ℕ) (s e place : ℕ) → place ≡ before_feed (slice_range items s e)
+    → place < length (slice_range items s e)
     → longer ≡ line ++ take place (slice_range items s e)
-    → GoesOn Whole (record { line = line; unread = slice_range items s e }) (record { line = longer; unread = slice_range items (s + (place + 1)) e })
+    → GoesOn Whole (record { line = line; unread = slice_range items s e })
+    (record { line = longer; unread = slice_range items (s + (place + 1)) e })
 whole_here items line longer s e place p q r =
     let short : s + (place + 1) ≤ e = omega (arith, length-take (e - s) (drop s items), q) in (
       subst (λ (k : ℕ). k < length (slice_range items s e)) p q,
@@ -80,7 +90,8 @@ whole_here items line longer s e place p q r =
     )
 
 -- a line goes on up to its line feed
-pub goes-whole : (items lent line longer : List ℕ) (s e place : ℕ) (now : LinesOf) → ◌≡◌ {A = LinesOf} (record { line = line; unread = slice_range items s e }) now
+pub goes-whole : (items lent line longer : List ℕ) (s e place : ℕ) (now : LinesOf)
+    → ◌≡◌ {A = LinesOf} (record { line = line; unread = slice_range items s e }) now
     → lent ≡ items → place ≡ before_feed (slice_range lent s e) → place < length (slice_range lent s e)
     → longer ≡ line ++ take place (slice_range lent s e)
     → GoesOn Whole now (record { line = longer; unread = slice_range items (s + (place + 1)) e })

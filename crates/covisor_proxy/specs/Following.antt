@@ -29,7 +29,8 @@ IsBegun at p = at ≡ start p
 -- so much was read, written and counted, so much of the report waits: whatever follows in the script, and however it
 -- ends, what was written, what waits, and the report from here on are the whole report, and the steps that were counted
 -- and those from here on are at most those of the whole
-pub record Follows (form : Form) (p : PolicyOf) (old new : Moment) (at : Progress) (lines : LinesOf) (waiting : List ℕ) : Type 0 where
+pub record Follows (form : Form) (p : PolicyOf) (old new : Moment) (at : Progress) (lines : LinesOf)
+    (waiting : List ℕ) : Type 0 where
   pub read : List ℕ
   pub written : List ℕ
   pub gave : Gave old.left new.left read
@@ -64,7 +65,8 @@ pub record Breaks (cut : List ℕ → Given) (old new : Moment) : Type 0 where
 -- a replay ended so: at the end of its script, at a line, at a read, at a write, or for want of memory
 abbrev pub Reaches : Result (Unit {0}) Stop → Form → PolicyOf → Progress → List ℕ → Moment → Moment → Type 0
 Reaches (Ok _) form p at waiting old new =
-    Comes (given_of form p) (ended at) old new waiting × IsAtEnd new.left × (new.reads ≡ old.reads) × (new.writes ≡ old.writes)
+    Comes (given_of form p) (ended at) old new waiting × IsAtEnd new.left × (new.reads ≡ old.reads)
+    × (new.writes ≡ old.writes)
 Reaches (Err (Refused kind)) form p at waiting old new =
     Comes (given_of form p) (refused kind at) old new waiting × (new.writes ≡ old.writes)
 Reaches (Err Read) form p at waiting old new =
@@ -82,7 +84,8 @@ Leaves Read what used before after old new = ⊥
 Leaves Write what used before after old new = ⊥
 
 -- a line was done: what it does was reported, of which a part was written
-pub record Does (what : Result Played Kind) (used : ℕ) (before after : Progress) (held held' : Option (List ℕ)) (waiting waiting' : List ℕ) : Type 0 where
+pub record Does (what : Result Played Kind) (used : ℕ) (before after : Progress) (held held' : Option (List ℕ))
+    (waiting waiting' : List ℕ) : Type 0 where
   pub played : Played
   pub written : List ℕ
   pub is : what ≡ Ok played
@@ -96,15 +99,18 @@ pub record Chokes (what : Result Played Kind) (held held' : Option (List ℕ)) (
   pub is : what ≡ Ok played
   pub some : AppendsSome held held' (waiting ++ played.text)
 
-abbrev pub Halts : Stop → Result Played Kind → Progress → Progress → (held held' : Option (List ℕ)) → (faults faults' : ℕ) → List ℕ → List ℕ → Type 0
+abbrev pub Halts : Stop → Result Played Kind → Progress → Progress → (held held' : Option (List ℕ))
+    → (faults faults' : ℕ) → List ℕ → List ℕ → Type 0
 Halts (Refused kind) what before after held held' faults faults' waiting waiting' =
     (what ≡ Err kind) × (after ≡ before) × (held' ≡ held) × (faults' ≡ faults) × (waiting' ≡ waiting)
-Halts Write what before after held held' faults faults' waiting waiting' = Rose faults faults' × Chokes what held held' waiting
+Halts Write what before after held held' faults faults' waiting waiting' = Rose faults faults'
+    × Chokes what held held' waiting
 Halts Memory what before after held held' faults faults' waiting waiting' = held' ≡ held
 Halts Read what before after held held' faults faults' waiting waiting' = ⊥
 
 -- what stands behind the last line feed was done
-pub record Closes (form : Form) (p : PolicyOf) (line : List ℕ) (before after : Progress) (waiting waiting' : List ℕ) : Type 0 where
+pub record Closes (form : Form) (p : PolicyOf) (line : List ℕ) (before after : Progress)
+    (waiting waiting' : List ℕ) : Type 0 where
   pub text : List ℕ
   pub report : plays_from form p (plays_last form p) before line [] ≡ after_text text (ended after)
   pub waits : waiting' ≡ waiting ++ text

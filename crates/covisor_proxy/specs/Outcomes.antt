@@ -6,7 +6,8 @@ use Rattle.covisor_proxy.specs.Asked.{Given}
 use Rattle.covisor_proxy.specs.Chunks.{Gave}
 use Rattle.covisor_proxy.specs.Written.{Appends, AppendsSome}
 use Rattle.covisor_proxy.specs.declared.status.Status.{Status}
-use Rattle.covisor_proxy.specs.declared.status.Status.TheVariants.{Done, Usage, Policy, Line, Read, Write, Absent, Link, Spawn, Memory}
+use Rattle.covisor_proxy.specs.declared.status.Status.TheVariants.{Done, Usage, Policy, Line, Read, Write, Absent, Link}
+use Rattle.covisor_proxy.specs.declared.status.Status.TheVariants.{Spawn, Memory}
 
 -- the outside at a moment: what is left of the script and what was written, where these are told, how many reads and
 -- writes failed, and how many steps of composition were counted

@@ -6,7 +6,7 @@ use Rattle.cv_io.specs.declared.files.FileFault.TheVariants.{Memory}
 use Rattle.cv_io.specs.declared.files.MemFile.{MemFile}
 use Rattle.events.specs.declared.event.Event.{Event}
 use Rattle.events.specs.declared.event.Reply.{Reply}
-use Rattle.hyper_core.specs.Meanings.{StateData}
+use Rattle.event_composes.specs.Meanings.{StateData}
 use Rattle.policy_lock.specs.declared.machine.Machine.{Ghosts}
 use Rattle.policy_file.specs.declared.fault.PolicyFault.{PolicyFault}
 use Rattle.script_text.specs.declared.form.Form.{Form}
@@ -40,7 +40,8 @@ has_script (Some (Make seed count)) = false
 abbrev pub Ended : {M : Type 0} → Ghosts M Event Reply StateData → LinksOf → Status → Option Command
     → Option (List MemFile) → (fails fails' : ℕ) → Moment → Moment → Type 0
 Ended g links status command files fails fails' old new =
-    (file : Result (List ℕ) FileFault) × AnswersTo command files fails fails' file × EndsFor g links status command file old new
+    (file : Result (List ℕ) FileFault) × AnswersTo command files fails fails' file
+    × EndsFor g links status command file old new
 
 -- so ended a replay over the policy of a file
 abbrev pub EndsOver : Status → Form → List ℕ → Option (List MemFile) → (fails fails' : ℕ) → Moment → Moment → Type 0
@@ -49,7 +50,8 @@ EndsOver status form name files fails fails' old new =
     × Ends status (over_file given_of form name file) (over_file cut_given_of form name file) old new
 
 -- the exit status is that of an end, and so the run ended: what was read, what was written, and what was counted
-pub record Runs {M : Type 0} (g : Ghosts M Event Reply StateData) (links : LinksOf) (answer : ℕ) (command : Option Command)
+pub record Runs {M : Type 0} (g : Ghosts M Event Reply StateData) (links : LinksOf) (answer : ℕ)
+    (command : Option Command)
     (files : Option (List MemFile)) (fails fails' : ℕ) (old new : Moment) : Type 0 where
   pub status : Status
   pub file : Result (List ℕ) FileFault
@@ -102,7 +104,8 @@ pub record IsQuiet (network : LinksOf) (before after : Calls) (old new : Moment)
 
 -- where nothing fails, and the report of the script has status 0 over whatever the files answer but want of memory, all
 -- is done, or memory was wanted
-abbrev pub IsComplete : LinksOf → ℕ → Option Command → Option (List MemFile) → (before after : Calls) → Moment → Moment → Type 0
+abbrev pub IsComplete : LinksOf → ℕ → Option Command → Option (List MemFile) → (before after : Calls) → Moment → Moment
+    → Type 0
 IsComplete links code command files before after old new =
     IsQuiet links before after old new
     → ((file : Result (List ℕ) FileFault) (script : List ℕ) → file ≢ Err Memory

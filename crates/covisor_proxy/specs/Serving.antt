@@ -7,7 +7,7 @@ use Rattle.cv_io.specs.declared.files.MemFile.{MemFile}
 use Rattle.cv_io.specs.declared.links.Endpoint.{Endpoint}
 use Rattle.events.specs.declared.event.Event.{Event}
 use Rattle.events.specs.declared.event.Reply.{Reply}
-use Rattle.hyper_core.specs.Meanings.{StateData}
+use Rattle.event_composes.specs.Meanings.{StateData}
 use Rattle.policy_file.specs.Policies.{PolicyOf}
 use Rattle.policy_file.specs.declared.fault.PolicyFault.{PolicyFault}
 use Rattle.policy_lock.specs.declared.machine.Machine.{Ghosts}
@@ -21,7 +21,8 @@ use Rattle.covisor_proxy.specs.Following.{Writes}
 use Rattle.covisor_proxy.specs.Opening.{Answers}
 use Rattle.covisor_proxy.specs.Outcomes.{Counts, Ends, Moment}
 use Rattle.covisor_proxy.specs.declared.status.Status.{Status}
-use Rattle.covisor_proxy.specs.declared.status.Status.TheVariants.{Done, Usage, Policy, Line, Read, Write, Absent, Link, Spawn, Memory}
+use Rattle.covisor_proxy.specs.declared.status.Status.TheVariants.{Done, Usage, Policy, Line, Read, Write, Absent, Link}
+use Rattle.covisor_proxy.specs.declared.status.Status.TheVariants.{Spawn, Memory}
 use Rattle.command_line.specs.declared.command.Command.{Command}
 use Rattle.command_line.specs.declared.command.Command.TheVariants as commands
 
@@ -65,12 +66,15 @@ module _ {M : Type 0} (g : Ghosts M Event Reply StateData) (links : LinksOf) whe
 
   -- how serving a policy ends
   abbrev pub EndsServing : Status → PolicyOf → Moment → Moment → Type 0
-  EndsServing Done p old new = ServesPolicy g links.told links.reliable p old.held new.held links.faults links.risen serveds.Done
+  EndsServing Done p old new = ServesPolicy g links.told links.reliable p old.held new.held links.faults links.risen
+      serveds.Done
   EndsServing Write p old new =
-      Rose old.writes new.writes × ServesPolicy g links.told links.reliable p old.held new.held links.faults links.risen serveds.Write
+      Rose old.writes new.writes × ServesPolicy g links.told links.reliable p old.held new.held links.faults links.risen
+      serveds.Write
   EndsServing Link p old new = ServesAndTells p serveds.Link (as_line (codes "fault link")) old new
   EndsServing Spawn p old new = ServesAndTells p serveds.Spawn (as_line (codes "fault spawn")) old new
-  EndsServing Memory p old new = ServesPolicy g links.told links.reliable p old.held new.held links.faults links.risen serveds.Memory
+  EndsServing Memory p old new = ServesPolicy g links.told links.reliable p old.held new.held links.faults links.risen
+      serveds.Memory
   EndsServing Usage p old new = ⊥
   EndsServing Policy p old new = ⊥
   EndsServing Line p old new = ⊥
@@ -91,5 +95,6 @@ module _ {M : Type 0} (g : Ghosts M Event Reply StateData) (links : LinksOf) whe
 abbrev pub EndsUnopened : Status → (all cut : Scripts) → Form → List ℕ → Option (List MemFile) → (fails fails' : ℕ)
     → Moment → Moment → Type 0
 EndsUnopened status all cut form name files fails fails' old new =
-    (file : Result (List ℕ) FileFault) × Answers files fails fails' name file × (served_by (Some (commands.Serve name)) file ≡ None)
+    (file : Result (List ℕ) FileFault) × Answers files fails fails' name file
+    × (served_by (Some (commands.Serve name)) file ≡ None)
     × Ends status (over_file all form name file) (over_file cut form name file) old new

@@ -89,7 +89,8 @@ impl Lines {
     /// Reads the next chunk in place of the present one; false at the end of the script.
     pub(crate) fn fill<S: Source>(&mut self, input: &mut S) -> Result<bool, Failed>
         ensures gave { OnOk result (Gave (S.remaining input.old) (S.remaining input.new) self.new.unread) }
-        ensures ended { IfOk result (λ going. going ≡ false → IsAtEnd (S.remaining input.new) × (self.new.unread ≡ [])) }
+        ensures ended { IfOk result (λ going. going ≡ false
+            → IsAtEnd (S.remaining input.new) × (self.new.unread ≡ [])) }
         ensures line { self.new.line ≡ self.old.line }
         ensures kept { OnErr result (S.remaining input.new ≡ S.remaining input.old) }
         ensures quiet { OnOk result (S.faults input.new ≡ S.faults input.old) }

@@ -32,9 +32,9 @@ pub const MEMORY: u8 = 10;
 /// them.
 ///
 /// The exit status is 0 where all is done; 2 where the words are of no form; 3 where the policy file is refused; 4 at a
-/// line that isn't done; 5 where a file or the script can't be read; 6 where the report or the audit can't be written; 7
-/// where there is no such file; 8 where an endpoint can't be dialled, and the others were served; 9 where the works that
-/// serve can't be run; 10 for want of memory. With 2, 3, 4, 5, 7, 8 and 9 the last line tells the fault.
+/// line that isn't done; 5 where a file or the script can't be read; 6 where the report or the audit can't be written;
+/// 7 where there is no such file; 8 where an endpoint can't be dialled, and the others were served; 9 where the works
+/// that serve can't be run; 10 for want of memory. With 2, 3, 4, 5, 7, 8 and 9 the last line tells the fault.
 ///
 /// The steps of composition that the lines of a script take are counted in `steps`; those of a policy that is served
 /// are not.
@@ -73,7 +73,8 @@ where
     ensures usage { (result ≡ 2) ↔ (command_of words.now ≡ None) }
     ensures refused { result ≡ 3 → IsRefused (command_of words.now) (F.files files.old) }
     ensures absent { result ≡ 7 → IsAbsent (command_of words.now) (F.files files.old) }
-    ensures read { result ≡ 5 → Rose (F.faults files.old) (F.faults files.new) ⊎ Rose (S.faults input.old) (S.faults input.new) }
+    ensures read { result ≡ 5 → Rose (F.faults files.old) (F.faults files.new)
+        ⊎ Rose (S.faults input.old) (S.faults input.new) }
     ensures write { result ≡ 6 → Rose (K.faults out.old) (K.faults out.new) }
     ensures link { result ≡ 8
         → NeverFail (links_of (L.told links.old) (L.is_reliable links.old) (L.faults links.old) (L.faults links.new))

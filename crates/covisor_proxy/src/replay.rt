@@ -2,7 +2,8 @@
 ghost use Rattle.std.specs.Prelude.{◌≡◌, ◌≤◌, ◌+◌, [], IfErr, IfOk, None, OnOk, length, ℕ};
 ghost use Rattle.replay_report.specs.Players.{Takes, form_of, is_ready, plan_of, progress_of, reported};
 ghost use Rattle.replay_report.specs.Reports.{steps_in, steps_of_last, taken};
-ghost use Rattle.covisor_proxy.specs.Following.{Closes, ClosesNot, Does, Halts, IsBegun, Leaves, Reaches, Reads, ReadsNot};
+ghost use Rattle.covisor_proxy.specs.Following.{Closes, ClosesNot, Does, Halts, IsBegun, Leaves, Reaches, Reads};
+ghost use Rattle.covisor_proxy.specs.Following.{ReadsNot};
 ghost use Rattle.covisor_proxy.specs.Outcomes.{moment};
 
 use crate::lines::{Lines, Taken};
@@ -29,7 +30,8 @@ pub(crate) fn replay_over<R: Threads + Sync, S: Source, K: Sink, G: Ledger>(
     requires silent { reported player.old ≡ [] }
     requires ready { is_ready player.old }
     requires unread { lines.old ≡ record { line = []; unread = [] } }
-    ensures reaches { Reaches result (form_of player.old) (plan_of player.old) (progress_of player.new) (reported player.new)
+    ensures reaches { Reaches result (form_of player.old) (plan_of player.old) (progress_of player.new)
+        (reported player.new)
         (moment (S.remaining input.old) (S.faults input.old) (K.held out.old) (K.faults out.old) steps.old)
         (moment (S.remaining input.new) (S.faults input.new) (K.held out.new) (K.faults out.new) steps.new) }
 {
@@ -86,11 +88,13 @@ fn whole_line<R: Threads + Sync, K: Sink, G: Ledger>(
 ) -> Result<(), Stop>
     requires ready { is_ready player.old }
     ensures does { OnOk result (Does
-        (taken (form_of player.old) (plan_of player.old) (progress_of player.old) lines.old.line (length lines.old.line + 1))
+        (taken (form_of player.old) (plan_of player.old) (progress_of player.old) lines.old.line
+        (length lines.old.line + 1))
         (length lines.old.line + 1) (progress_of player.old) (progress_of player.new)
         (K.held out.old) (K.held out.new) (reported player.old) (reported player.new)) }
     ensures halts { IfErr result (λ stop. Halts stop
-        (taken (form_of player.old) (plan_of player.old) (progress_of player.old) lines.old.line (length lines.old.line + 1))
+        (taken (form_of player.old) (plan_of player.old) (progress_of player.old) lines.old.line
+        (length lines.old.line + 1))
         (progress_of player.old) (progress_of player.new)
         (K.held out.old) (K.held out.new) (K.faults out.old) (K.faults out.new)
         (reported player.old) (reported player.new)) }

@@ -24,14 +24,16 @@ abbrev pub fails_of : Option MemEnd → List ℕ
 fails_of None = []
 fails_of (Some item) = item.fails
 
--- what is known of a dial in memory: the inputs that are left, the calls that are to fail, how many were made and failed
+-- what is known of a dial in memory: the inputs that are left, the calls that are to fail, how many were made and
+-- failed
 pub record DialOf : Type 0 where
   pub inputs : List (List ℕ)
   pub fails : List ℕ
   pub made : ℕ
   pub faults : ℕ
 
--- what is known of links in memory: the endpoints, the calls that are to fail, how many were made, failed, and found no memory
+-- what is known of links in memory: the endpoints, the calls that are to fail, how many were made, failed, and found no
+-- memory
 pub record LinksOf : Type 0 where
   pub ends : List MemEnd
   pub fails : List ℕ

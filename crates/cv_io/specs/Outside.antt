@@ -1,5 +1,6 @@
 -- What is told of the outside: bytes, where they are known, and counts of faults.
-use Rattle.std.specs.Prelude.{ℕ, Bool, ◌==◌, ◌+◌, ◌<◌, ◌≡◌, ◌⊎◌, List, [], ◌∷◌, ◌++◌, Option, Some, None, take, drop, min, true, false}
+use Rattle.std.specs.Prelude.{ℕ, Bool, ◌==◌, ◌+◌, ◌<◌, ◌≡◌, ◌⊎◌, List, [], ◌∷◌, ◌++◌, Option, Some, None, take, drop}
+use Rattle.std.specs.Prelude.{min, true, false}
 use Rattle.std.specs.List.{list_any}
 
 -- the greatest count
@@ -38,14 +39,16 @@ abbrev pub if_told : Option (List ℕ) → Option (List ℕ) → Option (List �
 if_told None now = None
 if_told (Some bytes) now = now
 
--- what is known of a source in memory: the bytes that are left, the calls that are to fail, how many were made and failed
+-- what is known of a source in memory: the bytes that are left, the calls that are to fail, how many were made and
+-- failed
 pub record SourceOf : Type 0 where
   pub left : List ℕ
   pub fails : List ℕ
   pub made : ℕ
   pub faults : ℕ
 
--- what is known of a sink in memory: the bytes that it holds, the calls that are to fail, how many were made, failed, and found no memory
+-- what is known of a sink in memory: the bytes that it holds, the calls that are to fail, how many were made, failed,
+-- and found no memory
 pub record SinkOf : Type 0 where
   pub held : List ℕ
   pub fails : List ℕ

@@ -1,5 +1,6 @@
 //! Files that are read whole, by name.
-ghost use Rattle.std.specs.Prelude.{◌≡◌, ◌≤◌, ◌↔◌, ℕ, List, Option, Some, None, Ok, Err, false, option_copied, IfOk, IfErr, OnOk, IfSome, IsTrue};
+ghost use Rattle.std.specs.Prelude.{◌≡◌, ◌≤◌, ◌↔◌, ℕ, List, Option, Some, None, Ok, Err, false, option_copied, IfOk};
+ghost use Rattle.std.specs.Prelude.{IfErr, OnOk, IfSome, IsTrue};
 ghost use Rattle.cv_io.specs.Outside.{Rose, is_listed, next_count};
 ghost use Rattle.cv_io.specs.Files.{FilesOf, found};
 
@@ -44,7 +45,8 @@ pub trait Files {
     /// The bytes of the first file of that name.
     fn read(&mut self, name: &Text) -> Result<Bytes, FileFault>
         ensures bytes { IfOk result (λ bytes. IfSome (files self.old) (λ files. found files name.now ≡ Some bytes)) }
-        ensures absent { IfSome (files self.old) (λ files. (result ≡ Err FileFault.Absent) ↔ (found files name.now ≡ None)) }
+        ensures absent { IfSome (files self.old)
+            (λ files. (result ≡ Err FileFault.Absent) ↔ (found files name.now ≡ None)) }
         ensures kept { files self.new ≡ files self.old }
         ensures fault { result ≡ Err FileFault.Failed → Rose (faults self.old) (faults self.new) }
         ensures quiet { OnOk result (faults self.new ≡ faults self.old) }
@@ -63,7 +65,12 @@ impl Model for MemFiles {
 
     ghost Value = { FilesOf };
 
-    ghost view = { λ f. record { files = f.files; fails = f.calls.fails; made = f.calls.made; faults = f.calls.faults } };
+    ghost view = { λ f. record {
+      files = f.files;
+      fails = f.calls.fails;
+      made = f.calls.made;
+      faults = f.calls.faults;
+    } };
 }
 
 impl MemFiles {
@@ -103,7 +110,8 @@ impl Files for MemFiles {
         ensures fault { result ≡ Err FileFault.Failed → Rose self.old.faults self.new.faults }
         ensures quiet { OnOk result (self.new.faults ≡ self.old.faults) }
         ensures never_falls { self.old.faults ≤ self.new.faults }
-        ensures unlisted { result ≡ Err FileFault.Failed → IsTrue (is_listed self.old.fails (next_count self.old.made)) }
+        ensures unlisted { result ≡ Err FileFault.Failed
+            → IsTrue (is_listed self.old.fails (next_count self.old.made)) }
         ensures listed { IfOk result (λ _. is_listed self.old.fails (next_count self.old.made) ≡ false) }
         ensures made { (self.new.made ≡ next_count self.old.made) × (self.new.fails ≡ self.old.fails) }
     {

@@ -1,5 +1,6 @@
 //! Connections: endpoints, what dials them, and the forms in memory.
-ghost use Rattle.std.specs.Prelude.{◌≡◌, ◌≤◌, ◌↔◌, ℕ, Bool, true, List, [], Option, Some, None, IfOk, IsOk, OnOk, OnErr, IfSome, IsNone};
+ghost use Rattle.std.specs.Prelude.{◌≡◌, ◌≤◌, ◌↔◌, ℕ, Bool, true, List, [], Option, Some, None, IfOk, IsOk, OnOk};
+ghost use Rattle.std.specs.Prelude.{OnErr, IfSome, IsNone};
 ghost use Rattle.cv_io.specs.Outside.{Rose};
 ghost use Rattle.cv_io.specs.Connections.{Connection, Gives, is_same};
 
@@ -128,7 +129,10 @@ pub trait Dial {
 
     /// The next connection, or `None` where there are no more.
     fn next(&mut self) -> Result<Option<(Self::In, Self::Out)>, Failed>
-        ensures given { IfOk result (λ next. IfSome next (λ link. Gives (left self.old) (left self.new) (Self.In.remaining link.0) (Self.In.is_reliable link.0) (Self.Out.held link.1) (Self.Out.is_reliable link.1))) }
+        ensures given { IfOk result
+            (λ next. IfSome next
+            (λ link. Gives (left self.old) (left self.new) (Self.In.remaining link.0) (Self.In.is_reliable link.0)
+            (Self.Out.held link.1) (Self.Out.is_reliable link.1))) }
         ensures none { IfOk result (λ next. IfSome (left self.old) (λ links. IsNone next ↔ (links ≡ []))) }
         ensures over { IfOk result (λ next. IsNone next → left self.new ≡ left self.old) }
         ensures kept { OnErr result (left self.new ≡ left self.old) }

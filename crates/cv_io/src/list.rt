@@ -1,5 +1,6 @@
 //! Lists over a vector, which contracts see as lists.
-ghost use Rattle.std.specs.Prelude.{◌≡◌, ◌==◌, ◌<◌, ◌≤◌, ◌+◌, ◌^◌, ◌↔◌, [], ◌∷◌, ◌++◌, IfOk, OnErr, OnOk, IsSome, IsTrue, Some, length, take, option_to_list, slice_set};
+ghost use Rattle.std.specs.Prelude.{◌≡◌, ◌==◌, ◌<◌, ◌≤◌, ◌+◌, ◌^◌, ◌↔◌, [], ◌∷◌, ◌++◌, IfOk, OnErr, OnOk, IsSome};
+ghost use Rattle.std.specs.Prelude.{IsTrue, Some, length, take, option_to_list, slice_set};
 ghost use Rattle.std.specs.List.{slice_get, insert as list_insert, remove as list_remove};
 ghost use Rattle.std.specs.Borrow.{sem};
 ghost use Rattle.cv_io.specs.Lends.{lends_slice};

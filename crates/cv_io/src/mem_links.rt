@@ -1,5 +1,6 @@
 //! Connections in memory.
-ghost use Rattle.std.specs.Prelude.{◌≡◌, ◌≤◌, ◌↔◌, ◌⊎◌, ℕ, true, Option, Some, [], IfOk, IsOk, IsErr, OnOk, OnErr, IfSome, IsNone, IsTrue, option_copied};
+ghost use Rattle.std.specs.Prelude.{◌≡◌, ◌≤◌, ◌↔◌, ◌⊎◌, ℕ, true, Option, Some, [], IfOk, IsOk, IsErr, OnOk, OnErr};
+ghost use Rattle.std.specs.Prelude.{IfSome, IsNone, IsTrue, option_copied};
 ghost use Rattle.cv_io.specs.Outside.{Rose, is_listed, lists_none, next_count};
 ghost use Rattle.cv_io.specs.InMemory.{LinksOf, DialOf, connections, end_of, fails_of, inputs_of};
 ghost use Rattle.cv_io.specs.declared.links.Endpoint.{Endpoint};
@@ -35,7 +36,12 @@ impl Model for MemDial {
 
     ghost Value = { DialOf };
 
-    ghost view = { λ d. record { inputs = d.inputs; fails = d.calls.fails; made = d.calls.made; faults = d.calls.faults } };
+    ghost view = { λ d. record {
+      inputs = d.inputs;
+      fails = d.calls.fails;
+      made = d.calls.made;
+      faults = d.calls.faults;
+    } };
 }
 
 impl Dial for MemDial {
@@ -77,7 +83,13 @@ impl Model for MemLinks {
 
     ghost Value = { LinksOf };
 
-    ghost view = { λ l. record { ends = l.ends; fails = l.calls.fails; made = l.calls.made; faults = l.calls.faults; wants = l.wants } };
+    ghost view = { λ l. record {
+      ends = l.ends;
+      fails = l.calls.fails;
+      made = l.calls.made;
+      faults = l.calls.faults;
+      wants = l.wants;
+    } };
 }
 
 impl MemLinks {
@@ -109,7 +121,13 @@ fn find<'a>(ends: &'a [MemEnd], end: &Endpoint) -> Option<&'a MemEnd>
 
 /// The dial of an endpoint.
 fn made(alloc: Global, ends: &[MemEnd], end: &Endpoint) -> Result<MemDial, Memory>
-    ensures { IfOk result (λ dial. dial ≡ record { inputs = inputs_of (end_of ends.now end.now); fails = fails_of (end_of ends.now end.now); made = 0; faults = 0 }) }
+    ensures { IfOk result
+        (λ dial. dial ≡ record {
+          inputs = inputs_of (end_of ends.now end.now);
+          fails = fails_of (end_of ends.now end.now);
+          made = 0;
+          faults = 0;
+        }) }
 {
     let (inputs, fails) = match find(ends, end) {
         Some(item) => (item.inputs.copy()?, item.fails.copy()?),
@@ -132,13 +150,20 @@ impl Links for MemLinks {
     ghost faults = { λ l. l.faults };
 
     fn dial(&mut self, end: &Endpoint) -> Result<MemDial, Failed>
-        ensures dial { IfOk result (λ dial. dial ≡ record { inputs = inputs_of (end_of self.old.ends end.now); fails = fails_of (end_of self.old.ends end.now); made = 0; faults = 0 }) }
+        ensures dial { IfOk result
+            (λ dial. dial ≡ record {
+              inputs = inputs_of (end_of self.old.ends end.now);
+              fails = fails_of (end_of self.old.ends end.now);
+              made = 0;
+              faults = 0;
+            }) }
         ensures same { (self.new.ends ≡ self.old.ends) × (self.new.fails ≡ self.old.fails) }
         ensures quiet { OnOk result (self.new.faults ≡ self.old.faults) }
         ensures fault { OnErr result (Rose self.old.faults self.new.faults) }
         ensures never_falls { self.old.faults ≤ self.new.faults }
         ensures listed { IsTrue (is_listed self.old.fails (next_count self.old.made)) → IsErr result }
-        ensures unlisted { OnErr result (IsTrue (is_listed self.old.fails (next_count self.old.made)) ⊎ Rose self.old.wants self.new.wants) }
+        ensures unlisted { OnErr result (IsTrue (is_listed self.old.fails (next_count self.old.made))
+            ⊎ Rose self.old.wants self.new.wants) }
         ensures sated { OnOk result (self.new.wants ≡ self.old.wants) }
         ensures made { self.new.made ≡ next_count self.old.made }
     {

@@ -1,5 +1,6 @@
 //! Where bytes go.
-ghost use Rattle.std.specs.Prelude.{◌≡◌, ◌<◌, ◌≤◌, ◌++◌, ◌⊎◌, IsErr, IsTrue, ℕ, Bool, true, List, IfOk, IsOk, OnOk, OnErr, Option, Some, length};
+ghost use Rattle.std.specs.Prelude.{◌≡◌, ◌<◌, ◌≤◌, ◌++◌, ◌⊎◌, IsErr, IsTrue, ℕ, Bool, true, List, IfOk, IsOk, OnOk};
+ghost use Rattle.std.specs.Prelude.{OnErr, Option, Some, length};
 ghost use Rattle.cv_io.specs.Outside.{AppendsFirst, Rose, is_listed, lists_none, next_count};
 
 use crate::calls::{Calls, Failed};
@@ -50,7 +51,13 @@ impl Model for MemSink {
 
     ghost Value = { SinkOf };
 
-    ghost view = { λ s. record { held = s.held; fails = s.calls.fails; made = s.calls.made; faults = s.calls.faults; wants = s.wants } };
+    ghost view = { λ s. record {
+      held = s.held;
+      fails = s.calls.fails;
+      made = s.calls.made;
+      faults = s.calls.faults;
+      wants = s.wants;
+    } };
 }
 
 impl MemSink {
@@ -88,7 +95,8 @@ impl Sink for MemSink {
         ensures reliable { self.new.fails ≡ self.old.fails }
         ensures writes { lists_none self.old.fails ≡ true → OnErr result (Rose self.old.wants self.new.wants) }
         ensures listed { IsTrue (is_listed self.old.fails (next_count self.old.made)) → IsErr result }
-        ensures unlisted { OnErr result (IsTrue (is_listed self.old.fails (next_count self.old.made)) ⊎ Rose self.old.wants self.new.wants) }
+        ensures unlisted { OnErr result (IsTrue (is_listed self.old.fails (next_count self.old.made))
+            ⊎ Rose self.old.wants self.new.wants) }
         ensures made { self.new.made ≡ next_count self.old.made }
     {
         if self.calls.count() {

@@ -1,5 +1,6 @@
 //! Where bytes come from.
-ghost use Rattle.std.specs.Prelude.{◌≡◌, ◌<◌, ◌≤◌, ℕ, Bool, true, false, List, [], IfOk, IsOk, OnOk, OnErr, IsErr, IsTrue, ◌↔◌, Option, Some, None, length, take, drop};
+ghost use Rattle.std.specs.Prelude.{◌≡◌, ◌<◌, ◌≤◌, ℕ, Bool, true, false, List, [], IfOk, IsOk, OnOk, OnErr, IsErr};
+ghost use Rattle.std.specs.Prelude.{IsTrue, ◌↔◌, Option, Some, None, length, take, drop};
 ghost use Rattle.cv_io.specs.Outside.{Rose, TakesNext, is_listed, lists_none, next_count};
 
 use crate::calls::{Calls, Failed};
@@ -44,7 +45,12 @@ impl Model for MemSource {
 
     ghost Value = { SourceOf };
 
-    ghost view = { λ s. record { left = drop s.at s.bytes; fails = s.calls.fails; made = s.calls.made; faults = s.calls.faults } };
+    ghost view = { λ s. record {
+      left = drop s.at s.bytes;
+      fails = s.calls.fails;
+      made = s.calls.made;
+      faults = s.calls.faults;
+    } };
 
     ghost invariant = { λ s. s.at ≤ length s.bytes };
 }

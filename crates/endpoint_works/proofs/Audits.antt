@@ -1,5 +1,6 @@
 -- Lines of the audit that are taken and written one by one.
-use Rattle.std.proofs.Common.{◌≡◌, ◌+◌, ℕ, min, List, [], ◌∷◌, ◌++◌, Option, length, take, refl, sym, ap, subst, ◌∙◌, append_assoc, arith}
+use Rattle.std.proofs.Common.{◌≡◌, ◌+◌, ℕ, min, List, [], ◌∷◌, ◌++◌, Option, length, take, refl, sym, ap, subst, ◌∙◌}
+use Rattle.std.proofs.Common.{append_assoc, arith}
 use Rattle.std.proofs.Math.Seq.{take-append-add}
 use Rattle.std.proofs.lemmas.List.{append-nil, take-append-le, take_min}
 use Rattle.std.proofs.lemmas.List.Concat.{flat_map-append}
@@ -20,7 +21,8 @@ some-front a b xs ys p =
     (n, subst (Appends a b) (sym same) p.1)
 
 -- one more line
-lines-more : (posts : List Post) (line : List ℕ) → lines (taken_in (posts ++ taking audit line ∷ [])) ≡ lines (taken_in posts) ++ (line ++ 10 ∷ [])
+lines-more : (posts : List Post) (line : List ℕ)
+    → lines (taken_in (posts ++ taking audit line ∷ [])) ≡ lines (taken_in posts) ++ (line ++ 10 ∷ [])
 lines-more posts line =
     ap lines (flat_map-append (λ (post : Post). message_of post.event post.reply) posts (taking audit line ∷ []))
     ∙ (flat_map-append (λ (x : List ℕ). x ++ 10 ∷ []) (taken_in posts) (line ∷ [])
@@ -34,14 +36,16 @@ audited-none p a = record {
   wrote = appends-none a;
 }
 
-module _ (p q r : List Post) (a b c : Option (List ℕ)) (h : HasAudited p a b q) (line : List ℕ) (e : r ≡ q ++ taking audit line ∷ []) where
+module _ (p q r : List Post) (a b c : Option (List ℕ)) (h : HasAudited p a b q) (line : List ℕ)
+    (e : r ≡ q ++ taking audit line ∷ []) where
   -- a line is taken and written
   pub audited-more : Appends b c (line ++ 10 ∷ []) → HasAudited p a c r
   audited-more w = record {
     more = h.more ++ taking audit line ∷ [];
     each = All-push IsAudits h.more (taking audit line) h.each (line, refl);
     posted = e ∙ (ap (λ z. z ++ taking audit line ∷ []) h.posted ∙ append_assoc p h.more (taking audit line ∷ []));
-    wrote = subst (Appends a c) (sym (lines-more h.more line)) (appends-more a b c (lines (taken_in h.more)) (line ++ 10 ∷ []) h.wrote w);
+    wrote = subst (Appends a c) (sym (lines-more h.more line))
+        (appends-more a b c (lines (taken_in h.more)) (line ++ 10 ∷ []) h.wrote w);
   }
 
   -- a line is taken, of which some is written

@@ -1,5 +1,6 @@
 -- Who comes up at a connection, and what is posted of it.
-use Rattle.std.proofs.Common.{◌≡◌, ◌<◌, ◌==◌, ℕ, Bool, true, false, List, [], ◌∷◌, ◌++◌, Option, Some, None, length, nat_lt, if◌then◌else◌, refl, sym, ap, subst, ◌∙◌, inr, arith}
+use Rattle.std.proofs.Common.{◌≡◌, ◌<◌, ◌==◌, ℕ, Bool, true, false, List, [], ◌∷◌, ◌++◌, Option, Some, None, length}
+use Rattle.std.proofs.Common.{nat_lt, if◌then◌else◌, refl, sym, ap, subst, ◌∙◌, inr, arith}
 use Rattle.std.specs.List.{position_or_len}
 use Rattle.cv_io.specs.declared.leaf.Who.{Who}
 use Rattle.cv_io.specs.declared.leaf.Session.{Session}
@@ -36,7 +37,8 @@ module _ (before after : Option (List ℕ)) (kept : List ℕ) (sink : SinkSeen) 
   no-audit (sides.Member index) o = ap is_audit o.0
   no-audit (sides.Switch dpids) o = ap is_audit o.1
 
-module _ (side : Side) (before middle after held : Option (List ℕ)) (writes : Bool) (posts up now : List Post) (kept : List ℕ)
+module _ (side : Side) (before middle after held : Option (List ℕ)) (writes : Bool) (posts up now : List Post)
+    (kept : List ℕ)
     (sink : SinkSeen) (who : Who) (arp : Bool) (session : Session) (began : IsSink held writes sink)
     (opened : IsOpenedFor before middle kept sink side who arp) (same : session.who ≡ who)
     (posted : up ≡ posts ++ coming_up who arp session.round ∷ []) where
@@ -56,8 +58,10 @@ module _ (side : Side) (before middle after held : Option (List ℕ)) (writes : 
   came_posted = posted ∙ ap (λ w. posts ++ coming_up w arp session.round ∷ []) (sym same)
 
   -- a session that came up was read to an end
-  pub was-read : (ended : Session → ℕ → Type 0) (faults risen : ℕ) (reads still : Bool) (left : List ℕ) (end : ReadEnd) → still ≡ reads
-      → ReaderPosts middle after kept session up (ended session) now left end → IsReadEnd after left faults risen still end
+  pub was-read : (ended : Session → ℕ → Type 0) (faults risen : ℕ) (reads still : Bool) (left : List ℕ) (end : ReadEnd)
+      → still ≡ reads
+      → ReaderPosts middle after kept session up (ended session) now left end
+      → IsReadEnd after left faults risen still end
       → WasRead side before after held writes posts now ended risen reads end
   was-read ended faults risen reads still left end rel p w = record {
     up = came;

@@ -1,5 +1,6 @@
 -- Writings one after the other.
-use Rattle.std.proofs.Common.{◌≡◌, ◌⊎◌, ℕ, Bool, true, false, List, [], ◌∷◌, ◌++◌, All, Option, refl, sym, ap, subst, ◌∙◌, append_assoc, inl, inr}
+use Rattle.std.proofs.Common.{◌≡◌, ◌⊎◌, ℕ, Bool, true, false, List, [], ◌∷◌, ◌++◌, All, Option, refl, sym, ap, subst}
+use Rattle.std.proofs.Common.{◌∙◌, append_assoc, inl, inr}
 use Rattle.std.proofs.lemmas.List.{append-nil}
 use Rattle.std.proofs.lemmas.List.Elements.{All-append, All-nil, All-push, All-weaker}
 use Rattle.cv_io.specs.declared.leaf.Session.{Session}
@@ -32,10 +33,12 @@ module _ (session : Session) (known : is_audit session.who ≡ false) (most : �
   writers post (inr t) = inr (inl (t.0, t.2))
 
   -- what a writer posted
-  pub sent-more : (p q r more : List Post) → HasSent cut p q → All (IsWriters session most) more → r ≡ q ++ more → HasSent cut p r
+  pub sent-more : (p q r more : List Post) → HasSent cut p q → All (IsWriters session most) more → r ≡ q ++ more
+      → HasSent cut p r
   sent-more p q r more h each e = record {
     more = h.more ++ more;
-    each = All-append (IsSenders cut) h.more more h.each (All-weaker (IsWriters session most) (IsSenders cut) writers more each);
+    each = All-append (IsSenders cut) h.more more h.each
+        (All-weaker (IsWriters session most) (IsSenders cut) writers more each);
     posted = e ∙ (ap (λ z. z ++ more) h.posted ∙ append_assoc p h.more more);
   }
 
@@ -48,7 +51,8 @@ sent-gone session known p q r h e = record {
   posted = e ∙ (ap (λ z. z ++ going session ∷ []) h.posted ∙ append_assoc p h.more (going session ∷ []));
 }
 
-module _ (session : Session) (known : is_audit session.who ≡ false) (most : ℕ) (p q r : List Post) (a b : Option (List ℕ)) where
+module _ (session : Session) (known : is_audit session.who ≡ false) (most : ℕ) (p q r : List Post)
+    (a b : Option (List ℕ)) where
   -- a writer whose session ended
   pub sent-closed : (cut : Bool) → HasSent cut p q → HasWritten session most q a b r → HasSent cut p r
   sent-closed cut h w = sent-more session known most cut p q r w.more h w.each w.posted
@@ -57,7 +61,8 @@ module _ (session : Session) (known : is_audit session.who ≡ false) (most : �
   pub sent-fault : (cut : Bool) (ended : ℕ → Type 0) → HasSent cut p q
       → WriterPosts session most q a b ended r ends.WriteFault → HasSent true p r
   sent-fault cut ended h w =
-      let g : HasSent true p w.0 = sent-more session known most true p q w.0 w.1.more (sent-cut cut p q h) w.1.each w.1.posted in
+      let g : HasSent true p w.0 = sent-more session known most true p q w.0 w.1.more (sent-cut cut p q h) w.1.each
+      w.1.posted in
       by g w.2
     where
       by : HasSent true p w.0 → Leaves ended w.0 r session → HasSent true p r
@@ -67,11 +72,13 @@ module _ (session : Session) (known : is_audit session.who ≡ false) (most : �
   -- one that found no memory
   pub sent-wanted : (cut : Bool) (failed : Type 0) → HasSent cut p q
       → HasNoMemory session most q a b failed r → HasSent true p r
-  sent-wanted cut failed h (inr w) = sent-more session known most true p q r w.1.more (sent-cut cut p q h) w.1.each w.1.posted
+  sent-wanted cut failed h (inr w) = sent-more session known most true p q r w.1.more (sent-cut cut p q h) w.1.each
+      w.1.posted
   sent-wanted cut failed h (inl w) = by w.posted
     where
       g : HasSent true p w.sent
-      g = sent-more session known most true p q w.sent w.written.more (sent-cut cut p q h) w.written.each w.written.posted
+      g = sent-more session known most true p q w.sent w.written.more (sent-cut cut p q h) w.written.each
+          w.written.posted
 
       by : (r ≡ w.sent) ⊎ (r ≡ w.sent ++ going session ∷ []) → HasSent true p r
       by (inl e) = subst (HasSent true p) (sym e) g

@@ -11,16 +11,19 @@ use Rattle.endpoint_works.specs.declared.side.Side.{Side}
 module _ {P : Type 0} (posts : P → List Post) (ended : P → Session → ℕ → Type 0) (later : P → P → Type 0)
     (side : Side) (wanted : Bool) where
   -- the pass v, which is w later, posted what is to be posted of one connection, whose source had these bytes to give
-  pub record IsRound (bytes : Option (List ℕ)) (reads : Bool) (held : Option (List ℕ)) (writes : Bool) (v w : P) : Type 0 where
+  pub record IsRound (bytes : Option (List ℕ)) (reads : Bool) (held : Option (List ℕ)) (writes : Bool) (v w : P) : Type
+      0 where
     pub since : later v w
     pub after : Option (List ℕ)
     pub faults : ℕ
     pub risen : ℕ
     pub posted :
-        ((end : RoundEnd) × RoundPosts side bytes after held writes (posts v) (posts w) (ended w) faults risen reads end)
+        ((end : RoundEnd) × RoundPosts side bytes after held writes (posts v) (posts w) (ended w) faults risen reads
+        end)
         ⊎ ((wanted ≡ true) × RoundWants side bytes after held writes (posts v) (posts w))
 
-  -- the dial, which had the connections `links` to give, gave one and has `left` then; the pass v posted of it, and is w
+  -- the dial, which had the connections `links` to give, gave one and has `left` then; the pass v posted of it, and is
+  -- w
   pub record IsGiven (links left : Option (List Connection)) (v w : P) : Type 0 where
     pub bytes : Option (List ℕ)
     pub reads : Bool
@@ -32,4 +35,5 @@ module _ {P : Type 0} (posts : P → List Post) (ended : P → Session → ℕ �
   -- the pass as it was after each connection in turn
   abbrev pub AreRounds : (links left : Option (List Connection)) (v w : P) → List P → Type 0
   AreRounds links left v w [] = (left ≡ links) × (w ≡ v)
-  AreRounds links left v w (u ∷ us) = (middle : Option (List Connection)) × IsGiven links middle v u × AreRounds middle left u w us
+  AreRounds links left v w (u ∷ us) = (middle : Option (List Connection)) × IsGiven links middle v u
+      × AreRounds middle left u w us

@@ -7,7 +7,8 @@ use Rattle.endpoint_works.specs.Sides.{is_audit}
 
 -- a taking of an endpoint's session
 abbrev pub IsTaking : Post → Type 0
-IsTaking post = (session : Session) × (is_audit session.who ≡ false) × ((message : List ℕ) × (post ≡ taking session message))
+IsTaking post = (session : Session) × (is_audit session.who ≡ false)
+    × ((message : List ℕ) × (post ≡ taking session message))
 
 -- a second
 abbrev pub IsSecond : Post → Type 0

@@ -60,5 +60,6 @@ module _ (before after : Option (List ℕ)) (kept : List ℕ) (sink : SinkSeen) 
   IsUnopened (sides.Member index) faults risen is_reliable end =
       IsNotOpened before after [] kept faults risen is_reliable end
   IsUnopened (sides.Switch dpids) faults risen is_reliable end =
-      IsNoSwitch before after [] kept sink.held sink.now dpids faults risen is_reliable sink.faults sink.risen sink.wants
+      IsNoSwitch before after [] kept sink.held sink.now dpids faults risen is_reliable sink.faults sink.risen
+      sink.wants
       sink.wanted sink.is_reliable end

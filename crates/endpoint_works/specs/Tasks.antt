@@ -11,9 +11,11 @@ use Rattle.endpoint_works.specs.declared.receiving.Received.{Received}
 use Rattle.endpoint_works.specs.declared.side.Side.{Side}
 
 module _ {P : Type 0} (posts : P → List Post) (ended : P → Session → ℕ → Type 0) (later : P → P → Type 0) where
-  -- a work that takes connections has come to an end: what it posted, of each that its dial gave, and that these were all,
+  -- a work that takes connections has come to an end: what it posted, of each that its dial gave, and that these were
+  -- all,
   -- unless the dial failed
-  pub record HasReceived (side : Side) (is_reliable : Bool) (links left : Option (List Connection)) (v w : P) (end : Received) : Type 0 where
+  pub record HasReceived (side : Side) (is_reliable : Bool) (links left : Option (List Connection)) (v w : P)
+      (end : Received) : Type 0 where
     pub passes : List P
     pub rounds : AreRounds posts ended later side end.wanted links left v w passes
     pub all : end.failed ≡ false → IfSome left (λ links. links ≡ [])

@@ -19,8 +19,8 @@ pub struct Received {
     pub wanted: bool,
 }
 
-/// Serves each connection that comes, and then no other: until there are no more, or none can be had. A round that finds
-/// no memory ends, and the next one comes.
+/// Serves each connection that comes, and then no other: until there are no more, or none can be had. A round that
+/// finds no memory ends, and the next one comes.
 pub fn receive<R: Wait, D: LaterDesk, A: Arrivals>(
     rt: &R,
     alloc: Global,

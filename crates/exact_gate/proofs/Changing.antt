@@ -13,7 +13,8 @@ use Rattle.exact_gate.specs.InsideChanges.{IsNoted, IsTouched, come_of, left_of,
 use Rattle.exact_gate.specs.Standing.{HaveSame, key_of, one_key, standing, stands_in, without}
 use Rattle.exact_gate.specs.declared.delta.Touched.{Touched}
 use Rattle.exact_gate.specs.declared.key.Key.{Key}
-use Rattle.exact_gate.proofs.Standing.{bool-same, in-stands, key-flip, stands-append, stands-in, stands-passing, stands-standing, stands-without}
+use Rattle.exact_gate.proofs.Standing.{bool-same, in-stands, key-flip, stands-append, stands-in, stands-passing}
+use Rattle.exact_gate.proofs.Standing.{stands-standing, stands-without}
 
 -- nothing of these, so as it was
 unchanged : (s g c : Bool) → g ≡ false → c ≡ false → ((s && not g) || c) ≡ s
@@ -31,7 +32,8 @@ was_there : (s g c : Bool) → ((s && not g) || c) ≡ true → c ≡ false → 
 was_there true g c e f = refl
 was_there false g c e f = sym f ∙ e
 
-module _ (old new gone come : List PhysEntry) (keys : List Key) (changed : IsChanged old gone come new) (g : All (IsNoted old keys) gone) (c : All (IsNoted old keys) come) where
+module _ (old new gone come : List PhysEntry) (keys : List Key) (changed : IsChanged old gone come new)
+    (g : All (IsNoted old keys) gone) (c : All (IsNoted old keys) come) where
   is-noted : (ds : List PhysEntry) (d : PhysEntry) → All (IsNoted old keys) ds → stands_in ds d ≡ true
       → IsNoted old keys d
   is-noted ds d a t = in-all (IsNoted old keys) (stands-in ds d t) (recursion_from_All (IsNoted old keys) ds a)
@@ -41,7 +43,8 @@ module _ (old new gone come : List PhysEntry) (keys : List Key) (changed : IsCha
     not-among ds a = fails (stands_in ds e) (λ t. let o = (is-noted ds e a t).own in cc)
 
     kept : stands_in new e ≡ stands_in old e
-    kept = changed e ∙ unchanged (stands_in old e) (stands_in gone e) (stands_in come e) (not-among gone g) (not-among come c)
+    kept = changed e ∙ unchanged (stands_in old e) (stands_in gone e) (stands_in come e) (not-among gone g)
+        (not-among come c)
 
     -- what passes it over is none of these
     none-over : (ds : List PhysEntry) (d : PhysEntry) → All (IsNoted old keys) ds → stands_in old e ≡ true
@@ -55,9 +58,11 @@ module _ (old new gone come : List PhysEntry) (keys : List Key) (changed : IsCha
         bool-same (list_any over old) (list_any over new)
         (λ t. let p = any-passes over old t in
         passes-any over (stands-in new p.item (changed p.item
-        ∙ stays (stands_in old p.item) (stands_in gone p.item) (stands_in come p.item) (in-stands old p.item p.stands) (none-over gone p.item g s p.passes))) p.passes)
+        ∙ stays (stands_in old p.item) (stands_in gone p.item) (stands_in come p.item) (in-stands old p.item p.stands)
+        (none-over gone p.item g s p.passes))) p.passes)
         (λ t. let p = any-passes over new t in
-        passes-any over (stands-in old p.item (was_there (stands_in old p.item) (stands_in gone p.item) (stands_in come p.item)
+        passes-any over
+        (stands-in old p.item (was_there (stands_in old p.item) (stands_in gone p.item) (stands_in come p.item)
         (sym (changed p.item) ∙ in-stands new p.item p.stands) (none-over come p.item c s p.passes))) p.passes)
 
     -- what has no key that is noted passes as before
@@ -86,15 +91,18 @@ one_more false q false false = refl
 
 -- what passes among the first and not among the second, of the keys
 pub all-between : (p q : List PhysEntry) (keys : List Key) (e : PhysEntry)
-    → stands_in (flat_map (between p q) keys) e ≡ (noted keys (key_of e) && (stands_in (passing p) e && not (stands_in (passing q) e)))
+    → stands_in (flat_map (between p q) keys) e
+    ≡ (noted keys (key_of e) && (stands_in (passing p) e && not (stands_in (passing q) e)))
 all-between p q [] e = refl
 all-between p q (k ∷ ks) e =
     stands-append (between p q k) (flat_map (between p q) ks) e
     ∙ (ap₂ (λ a b. a || b)
-    (stands-without (standing p k) (standing q k) e ∙ ap₂ (λ a b. a && not b) (stands-standing p k e) (stands-standing q k e))
+    (stands-without (standing p k) (standing q k) e
+    ∙ ap₂ (λ a b. a && not b) (stands-standing p k e) (stands-standing q k e))
     (all-between p q ks e)
     ∙ (one_more (stands_in (passing p) e) (stands_in (passing q) e) (one_key k (key_of e)) (noted ks (key_of e))
-    ∙ ap (λ b. (b || noted ks (key_of e)) && (stands_in (passing p) e && not (stands_in (passing q) e))) (key-flip k (key_of e))))
+    ∙ ap (λ b. (b || noted ks (key_of e)) && (stands_in (passing p) e && not (stands_in (passing q) e)))
+    (key-flip k (key_of e))))
 
 -- of equal tests the one doesn't pass without the other
 none_apart : (p q : Bool) → p ≡ q → (p && not q) ≡ false
@@ -116,14 +124,16 @@ pub come-is : (old new : List PhysEntry) (keys : List Key)
 come-is old new [] = refl
 come-is old new (k ∷ ks) = ap (λ xs. between new old k ++ xs) (come-is old new ks)
 
-module _ (old new gone come : List PhysEntry) (touched : List Touched) (changed : IsChanged old gone come new) (t : IsTouched old gone come touched) where
+module _ (old new gone come : List PhysEntry) (touched : List Touched) (changed : IsChanged old gone come new)
+    (t : IsTouched old gone come touched) where
   -- what left
   pub left-exact : IsDifference (passing old) (passing new) (flat_map (left_of new) touched)
   left-exact e =
       ap (λ ts. stands_in (flat_map (left_of new) ts) e) t.is
       ∙ (ap (λ xs. stands_in xs e) (left-is old new t.keys)
       ∙ (all-between old new t.keys e
-      ∙ only_noted (noted t.keys (key_of e)) (stands_in (passing old) e) (stands_in (passing new) e) (unnoted old new gone come t.keys changed t.going t.coming e)))
+      ∙ only_noted (noted t.keys (key_of e)) (stands_in (passing old) e) (stands_in (passing new) e)
+      (unnoted old new gone come t.keys changed t.going t.coming e)))
 
   -- what came
   pub come-exact : IsDifference (passing new) (passing old) (flat_map (come_of new) touched)
@@ -131,7 +141,8 @@ module _ (old new gone come : List PhysEntry) (touched : List Touched) (changed 
       ap (λ ts. stands_in (flat_map (come_of new) ts) e) t.is
       ∙ (ap (λ xs. stands_in xs e) (come-is old new t.keys)
       ∙ (all-between new old t.keys e
-      ∙ only_noted (noted t.keys (key_of e)) (stands_in (passing new) e) (stands_in (passing old) e) (λ n. sym (unnoted old new gone come t.keys changed t.going t.coming e n))))
+      ∙ only_noted (noted t.keys (key_of e)) (stands_in (passing new) e) (stands_in (passing old) e)
+      (λ n. sym (unnoted old new gone come t.keys changed t.going t.coming e n))))
 
 -- a difference of lists is one of others that have the same entries
 pub difference-same : (xs ys us vs ds : List PhysEntry) → HaveSame xs us → HaveSame ys vs → IsDifference xs ys ds

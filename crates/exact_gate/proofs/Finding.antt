@@ -1,5 +1,7 @@
 -- Keys in indexes.
-use Rattle.std.proofs.Common.{◌≡◌, ℕ, ◌<◌, ◌≤◌, Bool, true, false, cond, ◌&&◌, ◌||◌, List, [], ◌∷◌, ◌++◌, map, filter, find, Some, None, refl, sym, ap, subst, ◌∙◌, arith, count_by, eq-eqb, eqb-true, ltb-false, lt-ltb}
+use Rattle.std.proofs.Common.{◌≡◌, ℕ, ◌<◌, ◌≤◌, Bool, true, false, cond, ◌&&◌, ◌||◌, List, [], ◌∷◌, ◌++◌, map, filter}
+use Rattle.std.proofs.Common.{find, Some, None, refl, sym, ap, subst, ◌∙◌, arith, count_by, eq-eqb, eqb-true, ltb-false}
+use Rattle.std.proofs.Common.{lt-ltb}
 use Rattle.std.specs.Prelude.{◌==◌, IsPermutation, flat_map, nat_lt, option_to_list}
 use Rattle.std.specs.List.{IsDistinct, list_any}
 use Rattle.std.specs.Option.{option_and_then}
@@ -10,7 +12,8 @@ use Rattle.match_index.specs.Questions.{is_covered, is_holding}
 use Rattle.match_index.specs.declared.item.Item.{Item}
 use Rattle.match_index.proofs.Counts.{count-append, count-cons, count-permuted, item_decides, one, same_any}
 use Rattle.switch_meaning.proofs.Items.{fails, join_and, split_and}
-use Rattle.switch_meaning.proofs.Members.{IsIn, any-passes, filter-in, in-all, in-filter, in-left, in-permuted, in-right, passes-any, there, here}
+use Rattle.switch_meaning.proofs.Members.{IsIn, any-passes, filter-in, in-all, in-filter, in-left, in-permuted}
+use Rattle.switch_meaning.proofs.Members.{in-right, passes-any, there, here}
 use Rattle.exact_gate.specs.Finding.{Reaches, is_over, key_found, key_of_item, keys_found, lower_key}
 use Rattle.exact_gate.specs.InsideBuckets.{AreExact, is_exact}
 use Rattle.exact_gate.specs.InsideKeys.{header_of}
@@ -20,7 +23,8 @@ use Rattle.exact_gate.proofs.Headers.{covers-is}
 use Rattle.exact_gate.proofs.Standing.{bool-same, key-self}
 
 pub item-in : (xs : List Item) (i : Item) → list_any (same_item i) xs ≡ true → IsIn i xs
-item-in xs i t = let p = any-passes (same_item i) xs t in subst (λ (z : Item). IsIn z xs) (sym ((item_decides i p.item).0 p.passes)) p.stands
+item-in xs i t = let p = any-passes (same_item i) xs t in
+    subst (λ (z : Item). IsIn z xs) (sym ((item_decides i p.item).0 p.passes)) p.stands
 
 pub in-items : (xs : List Item) (i : Item) → IsIn i xs → list_any (same_item i) xs ≡ true
 in-items xs i s = passes-any (same_item i) s ((item_decides i i).1 refl)
@@ -146,7 +150,8 @@ open-removed all all' exact i a m x p =
 
 -- what is exact stands in both
 pub in-exact : (all exact : List Item) (i : Item) → AreExact all exact → IsIn i all → is_exact i ≡ true → IsIn i exact
-in-exact all exact i a s x = item-in exact i (same_any exact (filter is_exact all) a (same_item i) ∙ in-items (filter is_exact all) i (in-filter is_exact s x))
+in-exact all exact i a s x = item-in exact i (same_any exact (filter is_exact all) a (same_item i)
+    ∙ in-items (filter is_exact all) i (in-filter is_exact s x))
 
 pub exact-in : (all exact : List Item) (test : Item → Bool) → AreExact all exact → list_any test all ≡ false
     → list_any test exact ≡ false
@@ -171,7 +176,8 @@ find-its [] i d s = elim s [ ]
 find-its (x ∷ xs) i d here = ap (λ b. cond b (Some i) (find (has_id i.id) xs)) (eq-eqb i.id i.id refl)
 find-its (x ∷ xs) i d (there s) =
     ap (λ b. cond b (Some x) (find (has_id i.id) xs)) (fails (i.id == x.id) (λ t.
-    let apart : (x.id == i.id) ≡ false = in-all (λ (n : ℕ). (x.id == n) ≡ false) (in-mapped (λ (e : Item). e.id) s) d.0 in
+    let apart : (x.id == i.id) ≡ false = in-all (λ (n : ℕ). (x.id == n) ≡ false) (in-mapped (λ (e : Item). e.id) s)
+    d.0 in
     let same = eqb-true i.id x.id t in
     let self = eq-eqb x.id i.id (sym same) in cc)) ∙ find-its xs i d.1 s
 
@@ -189,10 +195,13 @@ reaches k all exact ids a d m i s u =
     let x = split_and (is_one_header i.normal) (nat_lt i.rank k.priority && covers k.m i.normal) u in
     let y = split_and (nat_lt i.rank k.priority) (covers k.m i.normal) x.1 in
     let at = in-exact all exact i a (item-in all i s) x.0 in
-    let listed = in-permuted (ids_of (is_covered k.m) exact) ids i.id m (in-mapped (λ (e : Item). e.id) (in-filter (is_covered k.m) at y.1)) in
+    let listed = in-permuted (ids_of (is_covered k.m) exact) ids i.id m
+    (in-mapped (λ (e : Item). e.id) (in-filter (is_covered k.m) at y.1)) in
     let found : key_found exact k.priority i.id ≡ Some (key_of_item i) =
-    ap (λ o. option_and_then (lower_key k.priority) o) (find-its exact i d at) ∙ ap (λ b. cond b (Some (key_of_item i)) None) y.0 in
-    passes-any (one_key (key_of_item i)) (in-gathered (keys_found exact k.priority) (key_of_item i) listed (own i found)) (key-self (key_of_item i))
+    ap (λ o. option_and_then (lower_key k.priority) o) (find-its exact i d at)
+    ∙ ap (λ b. cond b (Some (key_of_item i)) None) y.0 in
+    passes-any (one_key (key_of_item i))
+    (in-gathered (keys_found exact k.priority) (key_of_item i) listed (own i found)) (key-self (key_of_item i))
   where
     own : (j : Item) → key_found exact k.priority j.id ≡ Some (key_of_item j)
         → IsIn (key_of_item j) (keys_found exact k.priority j.id)

@@ -1,5 +1,6 @@
 -- Candidates that go and come, and what a log says of them.
-use Rattle.std.proofs.Common.{◌≡◌, ℕ, ◌+◌, ◌<◌, Bool, true, false, ◌&&◌, ◌||◌, List, [], ◌∷◌, ◌++◌, arith, get_or, length, refl, sym, take, take_all, ap, ap₂, ◌∙◌}
+use Rattle.std.proofs.Common.{◌≡◌, ℕ, ◌+◌, ◌<◌, Bool, true, false, ◌&&◌, ◌||◌, List, [], ◌∷◌, ◌++◌, arith, get_or}
+use Rattle.std.proofs.Common.{length, refl, sym, take, take_all, ap, ap₂, ◌∙◌}
 use Rattle.match_index.proofs.Lists.{take_pushed}
 use Rattle.std.specs.Prelude.{not}
 use Rattle.std.proofs.Math.Bool.{and-true}
@@ -18,7 +19,8 @@ stood entries log e = (stands_in entries e && not (stands_in log.come e)) || sta
 
 pub stands-turned : (entries : List PhysEntry) (log : Log) (e : PhysEntry)
     → stands_in (turned_back entries log) e ≡ stood entries log e
-stands-turned entries log e = stands-append (without entries log.come) log.gone e ∙ ap (λ b. b || stands_in log.gone e) (stands-without entries log.come e)
+stands-turned entries log e = stands-append (without entries log.come) log.gone e
+    ∙ ap (λ b. b || stands_in log.gone e) (stands-without entries log.come e)
 
 -- lists and logs that say the same
 pub turned-same : (xs ys : List PhysEntry) (l m : Log) → ((e : PhysEntry) → stood xs l e ≡ stood ys m e)
@@ -85,7 +87,9 @@ module _ (pool pool' gone come : List PhysEntry) (x : PhysEntry) where
       let d : stands_in come e ≡ false = ap (λ ys. stands_in ys e) none in
       ap (λ b. (stands_in pool e && not b) || stands_in gone e) d
       ∙ (goes (stands_in pool e) (stands_in gone e) (same_entry e x) (stands_as pool x e true there)
-      ∙ sym (ap₂ (λ a b. (a && not b) || stands_in gone' e) (is e) d ∙ ap (λ b. ((stands_in pool e && not (same_entry e x)) && true) || b) (ap (λ ys. stands_in ys e) now ∙ stands-push gone x e))))
+      ∙ sym (ap₂ (λ a b. (a && not b) || stands_in gone' e) (is e) d
+      ∙ ap (λ b. ((stands_in pool e && not (same_entry e x)) && true) || b)
+      (ap (λ ys. stands_in ys e) now ∙ stands-push gone x e))))
 
   pub has-come : (come' : List PhysEntry) → come' ≡ come ++ x ∷ [] → stands_in pool x ≡ false
       → ((e : PhysEntry) → stands_in pool' e ≡ (stands_in pool e || same_entry e x))
@@ -93,31 +97,38 @@ module _ (pool pool' gone come : List PhysEntry) (x : PhysEntry) where
   has-come come' now absent is =
       turned-same pool pool' (record { gone = gone; come = come }) (record { gone = gone; come = come' }) (λ e.
       comes (stands_in pool e) (stands_in come e) (stands_in gone e) (same_entry e x) (stands_as pool x e false absent)
-      ∙ sym (ap₂ (λ a b. (a && not b) || stands_in gone e) (is e) (ap (λ ys. stands_in ys e) now ∙ stands-push come x e)))
+      ∙ sym (ap₂ (λ a b. (a && not b) || stands_in gone e) (is e)
+      (ap (λ ys. stands_in ys e) now ∙ stands-push come x e)))
 
   pub is-coming : (come' : List PhysEntry) → come' ≡ come ++ x ∷ [] → stands_in pool x ≡ false → pool' ≡ pool
       → HaveSame before (turned_back pool' (record { gone = gone; come = come' }))
   is-coming come' now absent is =
       turned-same pool pool' (record { gone = gone; come = come }) (record { gone = gone; come = come' }) (λ e.
-      to_come (stands_in pool e) (stands_in come e) (stands_in gone e) (same_entry e x) (stands_as pool x e false absent)
-      ∙ sym (ap₂ (λ a b. (a && not b) || stands_in gone e) (ap (λ ys. stands_in ys e) is) (ap (λ ys. stands_in ys e) now ∙ stands-push come x e)))
+      to_come (stands_in pool e) (stands_in come e) (stands_in gone e) (same_entry e x)
+      (stands_as pool x e false absent)
+      ∙ sym (ap₂ (λ a b. (a && not b) || stands_in gone e) (ap (λ ys. stands_in ys e) is)
+      (ap (λ ys. stands_in ys e) now ∙ stands-push come x e)))
 
   pub gone-again : (all : List PhysEntry) → all ≡ come ++ x ∷ []
       → ((e : PhysEntry) → stands_in pool' e ≡ (stands_in pool e && not (same_entry e x)))
-      → HaveSame (turned_back pool (record { gone = gone; come = all })) (turned_back pool' (record { gone = gone; come = come }))
+      → HaveSame (turned_back pool (record { gone = gone; come = all }))
+      (turned_back pool' (record { gone = gone; come = come }))
   gone-again all was is =
       turned-same pool pool' (record { gone = gone; come = all }) (record { gone = gone; come = come }) (λ e.
       ap (λ b. (stands_in pool e && not b) || stands_in gone e) (ap (λ ys. stands_in ys e) was ∙ stands-push come x e)
-      ∙ (goes_again (stands_in pool e) (stands_in come e) (stands_in gone e) (same_entry e x) ∙ sym (ap (λ a. (a && not (stands_in come e)) || stands_in gone e) (is e))))
+      ∙ (goes_again (stands_in pool e) (stands_in come e) (stands_in gone e) (same_entry e x)
+      ∙ sym (ap (λ a. (a && not (stands_in come e)) || stands_in gone e) (is e))))
 
   pub come-again : (all : List PhysEntry) → all ≡ gone ++ x ∷ [] → come ≡ []
       → ((e : PhysEntry) → stands_in pool' e ≡ (stands_in pool e || same_entry e x))
-      → HaveSame (turned_back pool (record { gone = all; come = come })) (turned_back pool' (record { gone = gone; come = come }))
+      → HaveSame (turned_back pool (record { gone = all; come = come }))
+      (turned_back pool' (record { gone = gone; come = come }))
   come-again all was none is =
       turned-same pool pool' (record { gone = all; come = come }) (record { gone = gone; come = come }) (λ e.
       let d : stands_in come e ≡ false = ap (λ ys. stands_in ys e) none in
       ap₂ (λ b a. (stands_in pool e && not b) || a) d (ap (λ ys. stands_in ys e) was ∙ stands-push gone x e)
-      ∙ (comes_again (stands_in pool e) (stands_in gone e) (same_entry e x) ∙ sym (ap₂ (λ a b. (a && not b) || stands_in gone e) (is e) d)))
+      ∙ (comes_again (stands_in pool e) (stands_in gone e) (same_entry e x)
+      ∙ sym (ap₂ (λ a b. (a && not b) || stands_in gone e) (is e) d)))
 
 -- a list is what stands before its last entry, and that
 pub last-taken : (all : List PhysEntry) (i : ℕ) (x : PhysEntry) → i + 1 ≡ length all → x ≡ get_or all i x
@@ -129,12 +140,14 @@ pub nothing-logged : (entries : List PhysEntry) (log : Log) → log.gone ≡ [] 
     → HaveSame entries (turned_back entries log)
 nothing-logged entries log g c e =
     sym (stands-turned entries log e
-    ∙ (ap₂ (λ a b. (stands_in entries e && not (stands_in a e)) || stands_in b e) c g ∙ (or-false (stands_in entries e && true) ∙ and-true (stands_in entries e))))
+    ∙ (ap₂ (λ a b. (stands_in entries e && not (stands_in a e)) || stands_in b e) c g
+    ∙ (or-false (stands_in entries e && true) ∙ and-true (stands_in entries e))))
 
 -- a log of lists that have the same entries
 pub logged-same : (xs ys : List PhysEntry) (log : Log) → HaveSame xs ys
     → HaveSame (turned_back xs log) (turned_back ys log)
-logged-same xs ys log h = turned-same xs ys log log (λ e. ap (λ b. (b && not (stands_in log.come e)) || stands_in log.gone e) (h e))
+logged-same xs ys log h = turned-same xs ys log log
+    (λ e. ap (λ b. (b && not (stands_in log.come e)) || stands_in log.gone e) (h e))
 
 -- some go, and then others come
 pub exchanged : (old mid new gone come : List PhysEntry)
@@ -144,27 +157,32 @@ pub exchanged : (old mid new gone come : List PhysEntry)
 exchanged old mid new gone come f g e = g e ∙ ap (λ b. b || stands_in come e) (f e)
 
 -- one more of those that go, and of those that come
-module _ (old now new more : List PhysEntry) (i : ℕ) (x : PhysEntry) (lt : i < length more) (at : x ≡ get_or more i x) where
-  taken : (e : PhysEntry) → stands_in (take (i + 1) more) e ≡ (stands_in (take i more) e || same_entry e x)
-  taken e = ap (λ ys. stands_in ys e) (take_pushed more i x lt at) ∙ stands-push (take i more) x e
+module _ (old now new more : List PhysEntry) (i : ℕ) (x : PhysEntry) (lt : i < length more) (at : x ≡ get_or more i x)
+  where
+    taken : (e : PhysEntry) → stands_in (take (i + 1) more) e ≡ (stands_in (take i more) e || same_entry e x)
+    taken e = ap (λ ys. stands_in ys e) (take_pushed more i x lt at) ∙ stands-push (take i more) x e
 
-  pub gone-more : ((e : PhysEntry) → stands_in now e ≡ (stands_in old e && not (stands_in (take i more) e)))
-      → ((e : PhysEntry) → stands_in new e ≡ (stands_in now e && not (same_entry e x)))
-      → (e : PhysEntry) → stands_in new e ≡ (stands_in old e && not (stands_in (take (i + 1) more) e))
-  gone-more f g e =
-      g e ∙ (ap (λ b. b && not (same_entry e x)) (f e) ∙ (fewer (stands_in old e) (stands_in (take i more) e) (same_entry e x) ∙ ap (λ b. stands_in old e && not b) (sym (taken e))))
-    where
-      fewer : (s g x : Bool) → ((s && not g) && not x) ≡ (s && not (g || x))
-      fewer true true x = refl
-      fewer true false x = refl
-      fewer false g x = refl
+    pub gone-more : ((e : PhysEntry) → stands_in now e ≡ (stands_in old e && not (stands_in (take i more) e)))
+        → ((e : PhysEntry) → stands_in new e ≡ (stands_in now e && not (same_entry e x)))
+        → (e : PhysEntry) → stands_in new e ≡ (stands_in old e && not (stands_in (take (i + 1) more) e))
+    gone-more f g e =
+        g e ∙ (ap (λ b. b && not (same_entry e x)) (f e)
+        ∙ (fewer (stands_in old e) (stands_in (take i more) e) (same_entry e x)
+        ∙ ap (λ b. stands_in old e && not b) (sym (taken e))))
+      where
+        fewer : (s g x : Bool) → ((s && not g) && not x) ≡ (s && not (g || x))
+        fewer true true x = refl
+        fewer true false x = refl
+        fewer false g x = refl
 
-  pub come-more : ((e : PhysEntry) → stands_in now e ≡ (stands_in old e || stands_in (take i more) e))
-      → ((e : PhysEntry) → stands_in new e ≡ (stands_in now e || same_entry e x))
-      → (e : PhysEntry) → stands_in new e ≡ (stands_in old e || stands_in (take (i + 1) more) e)
-  come-more f g e =
-      g e ∙ (ap (λ b. b || same_entry e x) (f e) ∙ (further (stands_in old e) (stands_in (take i more) e) (same_entry e x) ∙ ap (λ b. stands_in old e || b) (sym (taken e))))
-    where
-      further : (s c x : Bool) → ((s || c) || x) ≡ (s || (c || x))
-      further true c x = refl
-      further false c x = refl
+    pub come-more : ((e : PhysEntry) → stands_in now e ≡ (stands_in old e || stands_in (take i more) e))
+        → ((e : PhysEntry) → stands_in new e ≡ (stands_in now e || same_entry e x))
+        → (e : PhysEntry) → stands_in new e ≡ (stands_in old e || stands_in (take (i + 1) more) e)
+    come-more f g e =
+        g e ∙ (ap (λ b. b || same_entry e x) (f e)
+        ∙ (further (stands_in old e) (stands_in (take i more) e) (same_entry e x)
+        ∙ ap (λ b. stands_in old e || b) (sym (taken e))))
+      where
+        further : (s c x : Bool) → ((s || c) || x) ≡ (s || (c || x))
+        further true c x = refl
+        further false c x = refl

@@ -1,5 +1,6 @@
 -- Keys that are noted.
-use Rattle.std.proofs.Common.{◌≡◌, ◌∙◌, ℕ, ◌+◌, ◌<◌, Bool, true, false, ◌||◌, List, [], ◌∷◌, ◌++◌, get_or, length, refl, sym, ap, subst, take}
+use Rattle.std.proofs.Common.{◌≡◌, ◌∙◌, ℕ, ◌+◌, ◌<◌, Bool, true, false, ◌||◌, List, [], ◌∷◌, ◌++◌, get_or, length, refl}
+use Rattle.std.proofs.Common.{sym, ap, subst, take}
 use Rattle.std.specs.Prelude.{if◌then◌else◌}
 use Rattle.std.specs.List.{All, list_any}
 use Rattle.std.proofs.lemmas.List.Elements.{All-push, All-weaker}
@@ -18,7 +19,8 @@ noted-push keys x k = list_any-append (one_key k) keys (x ∷ []) ∙ ap (λ b. 
 
 -- what is noted already adds nothing
 noted_already : (keys : List Key) (x k : Key) → noted keys x ≡ true → noted keys k ≡ (noted keys k || one_key k x)
-noted_already keys x k n = bool-same (noted keys k) (noted keys k || one_key k x) (λ t. ap (λ b. b || one_key k x) t) (λ t. by (noted keys k) refl t)
+noted_already keys x k n = bool-same (noted keys k) (noted keys k || one_key k x) (λ t. ap (λ b. b || one_key k x) t)
+    (λ t. by (noted keys k) refl t)
   where
     by : (b : Bool) → noted keys k ≡ b → (b || one_key k x) ≡ true → noted keys k ≡ true
     by true s t = s
@@ -41,7 +43,8 @@ pub noted-more : (old now new more : List Key) (i : ℕ) (x : Key) → i < lengt
     → (k : Key) → noted new k ≡ (noted old k || noted (take (i + 1) more) k)
 noted-more old now new more i x lt is f g k =
     g k ∙ (ap (λ b. b || one_key k x) (f k) ∙ (or_assoc (noted old k) (noted (take i more) k) (one_key k x)
-    ∙ ap (λ b. noted old k || b) (sym (ap (λ ks. noted ks k) (take_pushed more i x lt is) ∙ noted-push (take i more) x k))))
+    ∙ ap (λ b. noted old k || b)
+    (sym (ap (λ ks. noted ks k) (take_pushed more i x lt is) ∙ noted-push (take i more) x k))))
   where
     or_assoc : (a b c : Bool) → ((a || b) || c) ≡ (a || (b || c))
     or_assoc true b c = refl
@@ -59,10 +62,14 @@ or-right false b e = e
 pub entry-noted : (pool : List PhysEntry) (old mid new more : List Key) (d : PhysEntry) (key : Key) → key ≡ key_of d
     → ((k : Key) → noted mid k ≡ (noted old k || one_key k key))
     → ((k : Key) → noted new k ≡ (noted mid k || noted more k))
-    → ((e : PhysEntry) → stands_in pool e ≡ true → tops key.m key.priority e.m e.priority ≡ true → list_any (one_key (key_of e)) more ≡ true) → IsNoted pool new d
+    → ((e : PhysEntry) → stands_in pool e ≡ true → tops key.m key.priority e.m e.priority ≡ true
+    → list_any (one_key (key_of e)) more ≡ true) → IsNoted pool new d
 entry-noted pool old mid new more d key is f g r = record {
-  own = g (key_of d) ∙ or-left (noted mid (key_of d)) (noted more (key_of d)) (f (key_of d) ∙ or-right (noted old (key_of d)) (one_key (key_of d) key) (ap (one_key (key_of d)) is ∙ key-self (key_of d)));
-  under = λ e s t. g (key_of e) ∙ or-right (noted mid (key_of e)) (noted more (key_of e)) (r e s (ap (λ (k : Key). tops k.m k.priority e.m e.priority) is ∙ t));
+  own = g (key_of d) ∙ or-left (noted mid (key_of d)) (noted more (key_of d))
+      (f (key_of d) ∙ or-right (noted old (key_of d)) (one_key (key_of d) key)
+      (ap (one_key (key_of d)) is ∙ key-self (key_of d)));
+  under = λ e s t. g (key_of e) ∙ or-right (noted mid (key_of e)) (noted more (key_of e))
+      (r e s (ap (λ (k : Key). tops k.m k.priority e.m e.priority) is ∙ t));
 }
 
 -- more keys note no less
@@ -82,4 +89,5 @@ pub all-noted : (pool : List PhysEntry) (keys more : List Key) (ds : List PhysEn
     → All (IsNoted pool keys) (take i ds) → IsNoted pool more d → All (IsNoted pool more) (take (i + 1) ds)
 all-noted pool keys more ds i d lt is f a n =
     let P : List PhysEntry → Type 0 = All (IsNoted pool more) in
-    subst P (sym (take_pushed ds i d lt is)) (All-push (IsNoted pool more) (take i ds) d (all-noted-on pool keys more (take i ds) f a) n)
+    subst P (sym (take_pushed ds i d lt is))
+    (All-push (IsNoted pool more) (take i ds) d (all-noted-on pool keys more (take i ds) f a) n)

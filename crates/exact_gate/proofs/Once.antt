@@ -20,7 +20,8 @@ use Rattle.exact_gate.proofs.Standing.{key_decides}
 -- the entries of two keys are others
 apart_keys : (k l : Key) (d e : PhysEntry) → one_key k l ≡ false → key_of d ≡ k → key_of e ≡ l
     → same_entry d e ≡ false
-apart_keys k l d e n f g = fails (same_entry d e) (λ t. let s = (key_decides k l).1 (sym f ∙ (ap key_of ((entry_decides d e).0 t) ∙ g)) in cc)
+apart_keys k l d e n f g =
+    fails (same_entry d e) (λ t. let s = (key_decides k l).1 (sym f ∙ (ap key_of ((entry_decides d e).0 t) ∙ g)) in cc)
 
 -- one list after another
 distinct-append : (xs ys : List PhysEntry) → IsDistinct same_entry xs → IsDistinct same_entry ys
@@ -60,7 +61,8 @@ module _ {A : Type 0} (f : A → List PhysEntry) (key : A → Key) where
       → IsDistinct same_entry (flat_map f rows)
   unfolding IsDistinct
   keyed-distinct [] a d = tt
-  keyed-distinct (x ∷ rows) a d = distinct-append (f x) (flat_map f rows) (a.0).once (keyed-distinct rows a.1 d.1) (each (f x) (a.0).of_key)
+  keyed-distinct (x ∷ rows) a d = distinct-append (f x) (flat_map f rows) (a.0).once (keyed-distinct rows a.1 d.1)
+      (each (f x) (a.0).of_key)
     where
       each : (es : List PhysEntry) → AllByRecursion (λ e. key_of e ≡ key x) es
           → AllByRecursion (λ e. AllByRecursion (λ y. same_entry e y ≡ false) (flat_map f rows)) es
@@ -69,23 +71,33 @@ module _ {A : Type 0} (f : A → List PhysEntry) (key : A → Key) where
 
 -- the candidates of buckets
 pub buckets-once : (bs : List (Key × BucketOf)) → AreBuckets bs → IsDistinct same_entry (in_buckets bs)
-buckets-once bs a = keyed-distinct (λ (b : Key × BucketOf). b.1.entries) (λ (b : Key × BucketOf). b.0) bs (all bs (recursion_from_All IsBucket bs a.each)) a.once
+buckets-once bs a = keyed-distinct (λ (b : Key × BucketOf). b.1.entries) (λ (b : Key × BucketOf). b.0) bs
+    (all bs (recursion_from_All IsBucket bs a.each)) a.once
   where
     all : (cs : List (Key × BucketOf)) → AllByRecursion IsBucket cs
         → AllByRecursion (IsKeyed (λ (b : Key × BucketOf). b.1.entries) (λ (b : Key × BucketOf). b.0)) cs
     all [] i = tt
-    all (c ∷ cs) i = (record { once = (i.0).once; of_key = recursion_from_All (λ (e : PhysEntry). key_of e ≡ c.0) c.1.entries (i.0).of_key }, all cs i.1)
+    all (c ∷ cs) i = (
+      record {
+        once = (i.0).once;
+        of_key = recursion_from_All (λ (e : PhysEntry). key_of e ≡ c.0) c.1.entries (i.0).of_key;
+      },
+      all cs i.1,
+    )
 
 -- what passes among the first and not among the second
 between-keyed : (p q : List PhysEntry) (k : Key) → IsDistinct same_entry p → IsKeyed (between p q) (λ (l : Key). l) k
 between-keyed p q k d = record {
   once = distinct-filter _ (standing p k) (distinct-filter _ (passing p) (distinct-filter _ p d));
-  of_key = recursion_from_All (λ e. key_of e ≡ k) (between p q k) (All-filter _ (λ e. key_of e ≡ k) (standing p k) (keys (filter_passes (λ (e : PhysEntry). one_key k (key_of e)) (passing p))));
+  of_key = recursion_from_All (λ e. key_of e ≡ k) (between p q k)
+      (All-filter _ (λ e. key_of e ≡ k) (standing p k)
+      (keys (filter_passes (λ (e : PhysEntry). one_key k (key_of e)) (passing p))));
 }
   where
     keys : All (λ (e : PhysEntry). one_key k (key_of e) ≡ true) (standing p k)
         → All (λ (e : PhysEntry). key_of e ≡ k) (standing p k)
-    keys a = All-weaker (λ (e : PhysEntry). one_key k (key_of e) ≡ true) (λ (e : PhysEntry). key_of e ≡ k) (λ e t. sym ((key_decides k (key_of e)).0 t)) (standing p k) a
+    keys a = All-weaker (λ (e : PhysEntry). one_key k (key_of e) ≡ true) (λ (e : PhysEntry). key_of e ≡ k)
+        (λ e t. sym ((key_decides k (key_of e)).0 t)) (standing p k) a
 
 map-same : (ks : List Key) → map (λ (l : Key). l) ks ≡ ks
 map-same [] = refl
@@ -99,9 +111,12 @@ between-once : (p q : List PhysEntry) (keys : List Key) → IsDistinct same_entr
     → IsDistinct same_entry (flat_map (between p q) keys)
 between-once p q keys d o =
     let D : List Key → Type 0 = IsDistinct one_key in
-    keyed-distinct (between p q) (λ (l : Key). l) keys (all-keys (IsKeyed (between p q) (λ (l : Key). l)) keys (λ k. between-keyed p q k d)) (subst D (sym (map-same keys)) o)
+    keyed-distinct (between p q) (λ (l : Key). l) keys
+    (all-keys (IsKeyed (between p q) (λ (l : Key). l)) keys (λ k. between-keyed p q k d))
+    (subst D (sym (map-same keys)) o)
 
-module _ (old new : List PhysEntry) (keys : List Key) (touched : List Touched) (is : touched ≡ map (touched_of old) keys) (once : IsDistinct one_key keys) where
+module _ (old new : List PhysEntry) (keys : List Key) (touched : List Touched)
+    (is : touched ≡ map (touched_of old) keys) (once : IsDistinct one_key keys) where
   pub left-once : IsDistinct same_entry old → IsDistinct same_entry (flat_map (left_of new) touched)
   left-once d =
       let D : List PhysEntry → Type 0 = IsDistinct same_entry in

@@ -1,5 +1,6 @@
 -- What stands in lists of entries.
-use Rattle.std.proofs.Common.{◌≡◌, Bool, true, false, ◌&&◌, ◌||◌, List, [], ◌∷◌, ◌++◌, refl, sym, ap, ap₂, subst, ◌∙◌, Decides}
+use Rattle.std.proofs.Common.{◌≡◌, Bool, true, false, ◌&&◌, ◌||◌, List, [], ◌∷◌, ◌++◌, refl, sym, ap, ap₂, subst, ◌∙◌}
+use Rattle.std.proofs.Common.{Decides}
 use Rattle.std.specs.Prelude.{filter, not, if◌then◌else◌}
 use Rattle.std.specs.Cmp.{IsEquivalence}
 use Rattle.std.specs.List.{list_any}
@@ -26,20 +27,24 @@ bool-same false false f g = refl
 -- the test of equality of keys decides it
 pub key_decides : (k l : Key) → Decides (one_key k l) (k ≡ l)
 key_decides k l =
-    Decides-like (one_key k l) (λ (t : (k.m ≡ l.m) × (k.priority ≡ l.priority)). λ i. record { m = t.0 i; priority = t.1 i }) (λ e. (ap (λ (z : Key). z.m) e, ap (λ (z : Key). z.priority) e))
+    Decides-like (one_key k l)
+    (λ (t : (k.m ≡ l.m) × (k.priority ≡ l.priority)). λ i. record { m = t.0 i; priority = t.1 i })
+    (λ e. (ap (λ (z : Key). z.m) e, ap (λ (z : Key). z.priority) e))
     (Decides-and (same_match k.m l.m) _ (match_decides k.m l.m) (Decides-eqb k.priority l.priority))
 
 pub key-self : (k : Key) → one_key k k ≡ true
 key-self k = (key_decides k k).1 refl
 
 pub key-flip : (k l : Key) → one_key k l ≡ one_key l k
-key-flip k l = bool-same (one_key k l) (one_key l k) (λ t. (key_decides l k).1 (sym ((key_decides k l).0 t))) (λ t. (key_decides k l).1 (sym ((key_decides l k).0 t)))
+key-flip k l = bool-same (one_key k l) (one_key l k) (λ t. (key_decides l k).1 (sym ((key_decides k l).0 t)))
+    (λ t. (key_decides k l).1 (sym ((key_decides l k).0 t)))
 
 pub same-self : (e : PhysEntry) → same_entry e e ≡ true
 same-self e = (entry_decides e e).1 refl
 
 pub same-flip : (d e : PhysEntry) → same_entry d e ≡ same_entry e d
-same-flip d e = bool-same (same_entry d e) (same_entry e d) (λ t. (entry_decides e d).1 (sym ((entry_decides d e).0 t))) (λ t. (entry_decides d e).1 (sym ((entry_decides e d).0 t)))
+same-flip d e = bool-same (same_entry d e) (same_entry e d) (λ t. (entry_decides e d).1 (sym ((entry_decides d e).0 t)))
+    (λ t. (entry_decides d e).1 (sym ((entry_decides e d).0 t)))
 
 same-congr : (d e f : PhysEntry) → same_entry d e ≡ true → same_entry d f ≡ same_entry e f
 same-congr d e f t = ap (λ (z : PhysEntry). same_entry z f) ((entry_decides d e).0 t)
@@ -49,7 +54,8 @@ same_laws = record { refl = same-self; symm = same-flip; congr = same-congr }
 
 -- what stands in a list is in it
 pub stands-in : (xs : List PhysEntry) (e : PhysEntry) → stands_in xs e ≡ true → IsIn e xs
-stands-in xs e s = let p = any-passes (same_entry e) xs s in subst (λ (z : PhysEntry). IsIn z xs) (sym ((entry_decides e p.item).0 p.passes)) p.stands
+stands-in xs e s = let p = any-passes (same_entry e) xs s in
+    subst (λ (z : PhysEntry). IsIn z xs) (sym ((entry_decides e p.item).0 p.passes)) p.stands
 
 pub in-stands : (xs : List PhysEntry) (e : PhysEntry) → IsIn e xs → stands_in xs e ≡ true
 in-stands xs e i = passes-any (same_entry e) i (same-self e)
@@ -59,8 +65,10 @@ pub stands-filter : (p : PhysEntry → Bool) (xs : List PhysEntry) (e : PhysEntr
     → stands_in (filter p xs) e ≡ (stands_in xs e && p e)
 stands-filter p xs e =
     bool-same (stands_in (filter p xs) e) (stands_in xs e && p e)
-    (λ t. let r = filter-in p e xs (stands-in (filter p xs) e t) in join_and (stands_in xs e) (p e) (in-stands xs e r.0) r.1)
-    (λ t. let s = split_and (stands_in xs e) (p e) t in in-stands (filter p xs) e (in-filter p (stands-in xs e s.0) s.1))
+    (λ t. let r = filter-in p e xs (stands-in (filter p xs) e t) in
+    join_and (stands_in xs e) (p e) (in-stands xs e r.0) r.1)
+    (λ t. let s = split_and (stands_in xs e) (p e) t in
+    in-stands (filter p xs) e (in-filter p (stands-in xs e s.0) s.1))
 
 pub stands-without : (xs ys : List PhysEntry) (e : PhysEntry)
     → stands_in (without xs ys) e ≡ (stands_in xs e && not (stands_in ys e))
@@ -68,7 +76,8 @@ stands-without xs ys e = stands-filter (λ (d : PhysEntry). not (stands_in ys d)
 
 pub stands-removed : (xs : List PhysEntry) (x e : PhysEntry)
     → stands_in (removed xs x) e ≡ (stands_in xs e && not (same_entry e x))
-stands-removed xs x e = stands-filter (λ (d : PhysEntry). not (same_entry x d)) xs e ∙ ap (λ b. stands_in xs e && not b) (same-flip x e)
+stands-removed xs x e = stands-filter (λ (d : PhysEntry). not (same_entry x d)) xs e
+    ∙ ap (λ b. stands_in xs e && not b) (same-flip x e)
 
 pub stands-append : (xs ys : List PhysEntry) (e : PhysEntry)
     → stands_in (xs ++ ys) e ≡ (stands_in xs e || stands_in ys e)
@@ -86,7 +95,8 @@ stands-push xs x e = stands-append xs (x ∷ []) e ∙ ap (λ b. stands_in xs e 
 pub there-already : (xs : List PhysEntry) (x e : PhysEntry) → stands_in xs x ≡ true
     → stands_in xs e ≡ (stands_in xs e || same_entry e x)
 there-already xs x e there =
-    bool-same (stands_in xs e) (stands_in xs e || same_entry e x) (λ t. ap (λ b. b || same_entry e x) t) (λ t. by (stands_in xs e) refl t)
+    bool-same (stands_in xs e) (stands_in xs e || same_entry e x) (λ t. ap (λ b. b || same_entry e x) t)
+    (λ t. by (stands_in xs e) refl t)
   where
     by : (b : Bool) → stands_in xs e ≡ b → (b || same_entry e x) ≡ true → stands_in xs e ≡ true
     by true s t = s
@@ -116,7 +126,8 @@ stands-inserted xs x e = by (stands_in xs x) refl
 -- of lists that have the same entries the same pass tests
 any-in : (t : PhysEntry → Bool) (xs ys : List PhysEntry) → HaveSame xs ys → list_any t xs ≡ true
     → list_any t ys ≡ true
-any-in t xs ys h a = let p = any-passes t xs a in passes-any t (stands-in ys p.item (sym (h p.item) ∙ in-stands xs p.item p.stands)) p.passes
+any-in t xs ys h a = let p = any-passes t xs a in
+    passes-any t (stands-in ys p.item (sym (h p.item) ∙ in-stands xs p.item p.stands)) p.passes
 
 pub any-same : (t : PhysEntry → Bool) (xs ys : List PhysEntry) → HaveSame xs ys → list_any t xs ≡ list_any t ys
 any-same t xs ys h = bool-same (list_any t xs) (list_any t ys) (any-in t xs ys h) (any-in t ys xs (λ e. sym (h e)))
@@ -128,7 +139,9 @@ is_first ahead xs e = not (list_any (λ (d : PhysEntry). ahead d e) xs)
 first-same : (ahead : PhysEntry → PhysEntry → Bool) (xs ys : List PhysEntry) → HaveSame xs ys
     → HaveSame (filter (is_first ahead xs) xs) (filter (is_first ahead ys) ys)
 first-same ahead xs ys h e =
-    stands-filter (is_first ahead xs) xs e ∙ (ap₂ (λ a b. a && not b) (h e) (any-same (λ (d : PhysEntry). ahead d e) xs ys h) ∙ sym (stands-filter (is_first ahead ys) ys e))
+    stands-filter (is_first ahead xs) xs e
+    ∙ (ap₂ (λ a b. a && not b) (h e) (any-same (λ (d : PhysEntry). ahead d e) xs ys h)
+    ∙ sym (stands-filter (is_first ahead ys) ys e))
 
 pub passing-same : (xs ys : List PhysEntry) → HaveSame xs ys → HaveSame (passing xs) (passing ys)
 passing-same xs ys h = first-same passes_over xs ys h
@@ -143,4 +156,7 @@ stands-standing xs k e = stands-filter (λ (d : PhysEntry). one_key k (key_of d)
 
 -- the law
 pub same-is-installed : SameIsInstalled
-same-is-installed xs ys h = record { passing = passing-same xs ys h; installed = first-same displaces (passing xs) (passing ys) (passing-same xs ys h) }
+same-is-installed xs ys h = record {
+  passing = passing-same xs ys h;
+  installed = first-same displaces (passing xs) (passing ys) (passing-same xs ys h);
+}

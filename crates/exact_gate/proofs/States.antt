@@ -19,12 +19,14 @@ pub same-trans : (xs ys zs : List PhysEntry) → HaveSame xs ys → HaveSame ys 
 same-trans xs ys zs f g e = f e ∙ g e
 
 -- a pool and a log that say the same
-module _ (s : State) (pool : List PhysEntry) (owed : Log) (h : HaveSame (turned_back s.pool s.owed) (turned_back pool owed)) where
+module _ (s : State) (pool : List PhysEntry) (owed : Log)
+    (h : HaveSame (turned_back s.pool s.owed) (turned_back pool owed)) where
   pub earlier-kept : HaveSame (earlier s) (earlier (record s { pool = pool; owed = owed }))
   earlier-kept = logged-same (settled s) (turned_back pool owed) s.last h
 
   either-kept : (b : Bool)
-      → HaveSame (if b then earlier s else settled s) (if b then turned_back (turned_back pool owed) s.last else turned_back pool owed)
+      → HaveSame (if b then earlier s else settled s) (if b then turned_back (turned_back pool owed) s.last
+      else turned_back pool owed)
   either-kept true = earlier-kept
   either-kept false = h
 
@@ -35,16 +37,20 @@ abbrev nothing : Log
 nothing = record { gone = []; come = [] }
 
 -- what is owed is the last change
-module _ (s : State) (owed last : Log) (g : s.owed.gone ≡ []) (c : s.owed.come ≡ []) (o : owed ≡ s.last) (l : last ≡ nothing) where
+module _ (s : State) (owed last : Log) (g : s.owed.gone ≡ []) (c : s.owed.come ≡ []) (o : owed ≡ s.last)
+    (l : last ≡ nothing) where
   settled-owed : HaveSame (earlier s) (turned_back s.pool owed)
   settled-owed e =
-      sym (logged-same s.pool (settled s) s.last (nothing-logged s.pool s.owed g c) e) ∙ ap (λ x. stands_in (turned_back s.pool x) e) (sym o)
+      sym (logged-same s.pool (settled s) s.last (nothing-logged s.pool s.owed g c) e)
+      ∙ ap (λ x. stands_in (turned_back s.pool x) e) (sym o)
 
   pub present-owed : s.undone ≡ true → HaveSame (present s) (turned_back s.pool owed)
   present-owed u e = ap (λ b. stands_in (if b then earlier s else settled s) e) u ∙ settled-owed e
 
   pub earlier-owed : HaveSame (earlier s) (turned_back (turned_back s.pool owed) last)
-  earlier-owed e = settled-owed e ∙ (nothing-logged (turned_back s.pool owed) nothing refl refl e ∙ ap (λ x. stands_in (turned_back (turned_back s.pool owed) x) e) (sym l))
+  earlier-owed e = settled-owed e
+      ∙ (nothing-logged (turned_back s.pool owed) nothing refl refl e
+      ∙ ap (λ x. stands_in (turned_back (turned_back s.pool owed) x) e) (sym l))
 
 -- what was owed is the last change now
 module _ (s : State) (owed last : Log) (o : owed ≡ nothing) (l : last ≡ s.owed) where
@@ -52,16 +58,20 @@ module _ (s : State) (owed last : Log) (o : owed ≡ nothing) (l : last ≡ s.ow
   pool-settled e = nothing-logged s.pool nothing refl refl e ∙ ap (λ x. stands_in (turned_back s.pool x) e) (sym o)
 
   pub present-made : s.undone ≡ false → HaveSame s.pool (present (record s { owed = owed; last = last }))
-  present-made u e = pool-settled e ∙ sym (ap (λ b. stands_in (if b then turned_back (turned_back s.pool owed) last else turned_back s.pool owed) e) u)
+  present-made u e = pool-settled e
+      ∙ sym (ap (λ b. stands_in (if b then turned_back (turned_back s.pool owed) last else turned_back s.pool owed) e)
+      u)
 
   pub earlier-made : HaveSame (settled s) (earlier (record s { owed = owed; last = last }))
-  earlier-made e = logged-same s.pool (turned_back s.pool owed) s.owed pool-settled e ∙ ap (λ x. stands_in (turned_back (turned_back s.pool owed) x) e) (sym l)
+  earlier-made e = logged-same s.pool (turned_back s.pool owed) s.owed pool-settled e
+      ∙ ap (λ x. stands_in (turned_back (turned_back s.pool owed) x) e) (sym l)
 
 -- where nothing is owed
 module _ (s : State) (is : IsSettled s) where
   pub pool-present : HaveSame (present s) s.pool
   pool-present e =
-      ap (λ b. stands_in (if b then earlier s else settled s) e) is.done ∙ sym (nothing-logged s.pool s.owed is.gone is.come e)
+      ap (λ b. stands_in (if b then earlier s else settled s) e) is.done
+      ∙ sym (nothing-logged s.pool s.owed is.gone is.come e)
 
   pub settled-present : HaveSame (settled s) (present s)
   settled-present e = sym (ap (λ b. stands_in (if b then earlier s else settled s) e) is.done)
@@ -69,8 +79,10 @@ module _ (s : State) (is : IsSettled s) where
 -- lists that have the same entries are changed alike
 pub changed-same : (xs ys us vs gone come : List PhysEntry) → HaveSame us xs → HaveSame ys vs
     → IsChanged xs gone come ys → IsChanged us gone come vs
-changed-same xs ys us vs gone come f g d e = sym (g e) ∙ (d e ∙ ap (λ b. (b && not (stands_in gone e)) || stands_in come e) (sym (f e)))
+changed-same xs ys us vs gone come f g d e = sym (g e)
+    ∙ (d e ∙ ap (λ b. (b && not (stands_in gone e)) || stands_in come e) (sym (f e)))
 
 pub passing-difference : (xs ys us vs ds : List PhysEntry) → HaveSame xs us → HaveSame ys vs
     → IsDifference (passing xs) (passing ys) ds → IsDifference (passing us) (passing vs) ds
-passing-difference xs ys us vs ds f g = difference-same (passing xs) (passing ys) (passing us) (passing vs) ds (passing-same xs us f) (passing-same ys vs g)
+passing-difference xs ys us vs ds f g = difference-same (passing xs) (passing ys) (passing us) (passing vs) ds
+    (passing-same xs us f) (passing-same ys vs g)

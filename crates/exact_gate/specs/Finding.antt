@@ -1,5 +1,6 @@
 -- Which keys are passed over, by which.
-use Rattle.std.specs.Prelude.{◌≡◌, ℕ, Bool, true, ◌&&◌, nat_lt, Option, Some, None, List, find, if◌then◌else◌, option_to_list}
+use Rattle.std.specs.Prelude.{◌≡◌, ℕ, Bool, true, ◌&&◌, nat_lt, Option, Some, None, List, find, if◌then◌else◌}
+use Rattle.std.specs.Prelude.{option_to_list}
 use Rattle.std.specs.List.{list_any}
 use Rattle.std.specs.Option.{option_and_then}
 use Rattle.of10_match.specs.Fields.{MatchOf}
@@ -39,4 +40,5 @@ keys_found items priority id = option_to_list (key_found items priority id)
 
 -- the keys have that of each item whose entries are passed over by those of the key
 abbrev pub Reaches : Key → List Item → List Key → Type 0
-Reaches k items keys = (i : Item) → list_any (same_item i) items ≡ true → is_under k i ≡ true → list_any (one_key (key_of_item i)) keys ≡ true
+Reaches k items keys = (i : Item) → list_any (same_item i) items ≡ true → is_under k i ≡ true
+    → list_any (one_key (key_of_item i)) keys ≡ true

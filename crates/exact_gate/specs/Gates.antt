@@ -10,7 +10,8 @@ pub record GateOf : Type 0 where
 
 -- the entries of a list once some went, and then some came
 abbrev pub IsChanged : List PhysEntry → List PhysEntry → List PhysEntry → List PhysEntry → Type 0
-IsChanged old gone come new = (e : PhysEntry) → stands_in new e ≡ ((stands_in old e && not (stands_in gone e)) || stands_in come e)
+IsChanged old gone come new = (e : PhysEntry)
+    → stands_in new e ≡ ((stands_in old e && not (stands_in gone e)) || stands_in come e)
 
 -- the entries that stand in the first list and not in the second
 abbrev pub IsDifference : List PhysEntry → List PhysEntry → List PhysEntry → Type 0

@@ -21,9 +21,12 @@ ExactGivesWay =
     (passing (one 5 ∷ []) ≡ one 5 ∷ []) × (passing (one 5 ∷ placed host 13 [] [] ∷ []) ≡ placed host 13 [] [] ∷ [])
     × (passing (without (one 5 ∷ placed host 13 [] [] ∷ []) (placed host 13 [] [] ∷ [])) ≡ one 5 ∷ [])
 
--- beside one of its own priority, and beside a greater one that does not hold its packet, it passes; and what is not for
+-- beside one of its own priority, and beside a greater one that does not hold its packet, it passes; and what is not
+-- for
 -- one packet alone passes beside anything
 abbrev pub OthersPass : Type 0
 OthersPass =
-    (passing (one 5 ∷ placed host 5 [] [] ∷ []) ≡ one 5 ∷ placed host 5 [] [] ∷ []) × (passing (one 5 ∷ placed (at_port 2) 9 [] [] ∷ []) ≡ one 5 ∷ placed (at_port 2) 9 [] [] ∷ [])
-    × (passing (placed host 5 [] [] ∷ placed (at_port 1) 9 [] [] ∷ []) ≡ placed host 5 [] [] ∷ placed (at_port 1) 9 [] [] ∷ [])
+    (passing (one 5 ∷ placed host 5 [] [] ∷ []) ≡ one 5 ∷ placed host 5 [] [] ∷ [])
+    × (passing (one 5 ∷ placed (at_port 2) 9 [] [] ∷ []) ≡ one 5 ∷ placed (at_port 2) 9 [] [] ∷ [])
+    × (passing (placed host 5 [] [] ∷ placed (at_port 1) 9 [] [] ∷ [])
+    ≡ placed host 5 [] [] ∷ placed (at_port 1) 9 [] [] ∷ [])

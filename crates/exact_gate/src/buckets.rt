@@ -1,5 +1,6 @@
 //! Buckets by their keys.
-ghost use Rattle.std.specs.Prelude.{◌≡◌, ◌<◌, ◌||◌, ◌&&◌, ◌++◌, ◌∷◌, [], false, not, map, take, ◌+◌, IfOk, OnErr, OnOk, None, Some, IfSome, slice_get};
+ghost use Rattle.std.specs.Prelude.{◌≡◌, ◌<◌, ◌||◌, ◌&&◌, ◌++◌, ◌∷◌, [], false, not, map, take, ◌+◌, IfOk, OnErr, OnOk};
+ghost use Rattle.std.specs.Prelude.{None, Some, IfSome, slice_get};
 ghost use Rattle.std.specs.List.{list_all};
 ghost use Rattle.indexmap.specs.IndexMap.{IsUnique, get, index_map_len, index_of, spare, values};
 ghost use Rattle.exact_gate.specs.InsideBuckets.{AreBuckets, BucketOf, in_buckets, item_of};
@@ -22,7 +23,9 @@ pub fn insert_at(
 ) -> Result<(), Memory>
     requires within { place < index_map_len buckets.old }
     requires at { index_of one_key buckets.old (key_of entry.now) ≡ Some place }
-    ensures entries { OnOk result ((e : PhysEntry) → stands_in (in_buckets buckets.new.entries) e ≡ (stands_in (in_buckets buckets.old.entries) e || same_entry e entry.now)) }
+    ensures entries { OnOk result ((e : PhysEntry)
+        → stands_in (in_buckets buckets.new.entries) e
+        ≡ (stands_in (in_buckets buckets.old.entries) e || same_entry e entry.now)) }
     ensures items { map item_of buckets.new.entries ≡ map item_of buckets.old.entries }
     ensures buckets { AreBuckets buckets.old.entries → AreBuckets buckets.new.entries }
     ensures memory { OnErr result (buckets.new.entries ≡ buckets.old.entries) }
@@ -34,8 +37,11 @@ pub fn insert_at(
 pub fn remove_at(buckets: &mut IndexMap<Key, Bucket>, place: usize, entry: &PhysEntry)
     requires within { place < index_map_len buckets.old }
     requires at { index_of one_key buckets.old (key_of entry.now) ≡ Some place }
-    requires more { IfSome (slice_get (values buckets.old) place) (λ (b : BucketOf). list_all (same_entry entry.now) b.entries ≡ false) }
-    ensures entries { AreBuckets buckets.old.entries → (e : PhysEntry) → stands_in (in_buckets buckets.new.entries) e ≡ (stands_in (in_buckets buckets.old.entries) e && not (same_entry e entry.now)) }
+    requires more { IfSome (slice_get (values buckets.old) place)
+        (λ (b : BucketOf). list_all (same_entry entry.now) b.entries ≡ false) }
+    ensures entries { AreBuckets buckets.old.entries → (e : PhysEntry)
+        → stands_in (in_buckets buckets.new.entries) e
+        ≡ (stands_in (in_buckets buckets.old.entries) e && not (same_entry e entry.now)) }
     ensures items { map item_of buckets.new.entries ≡ map item_of buckets.old.entries }
     ensures buckets { AreBuckets buckets.old.entries → AreBuckets buckets.new.entries }
 {

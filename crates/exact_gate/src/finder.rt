@@ -1,7 +1,8 @@
 //! The indexes of keys: of all, and of those whose matches name all twelve fields.
 ghost use Rattle.std.specs.Prelude.{◌≡◌, ◌++◌, ◌∷◌, [], true, false, flat_map, IfOk, OnErr, OnOk};
 ghost use Rattle.std.specs.List.{list_any};
-ghost use Rattle.exact_gate.specs.Finding.{Reaches, is_over, key_found as key_found_of, keys_found, lower_key as lower_key_of};
+ghost use Rattle.exact_gate.specs.Finding.{Reaches, is_over, key_found as key_found_of, keys_found};
+ghost use Rattle.exact_gate.specs.Finding.{lower_key as lower_key_of};
 ghost use Rattle.match_index.specs.Items.{AddsTo, has_id, same_item};
 ghost use Rattle.match_index.specs.declared.item.Item.{Item};
 
@@ -43,7 +44,8 @@ impl Finder {
     /// Puts a key in under a new number.
     pub fn insert(&mut self, id: u64, key: &Key) -> Result<(), Memory>
         requires { list_any (has_id id) self.old ≡ false }
-        ensures added { OnOk result (self.new ≡ self.old ++ record { id = id; rank = key.now.priority; normal = key.now.m } ∷ []) }
+        ensures added { OnOk result
+            (self.new ≡ self.old ++ record { id = id; rank = key.now.priority; normal = key.now.m } ∷ []) }
         ensures memory { OnErr result (self.new ≡ self.old) }
     {
         let rank = u32::from(key.priority);
@@ -57,7 +59,8 @@ impl Finder {
 
     /// Takes a key out from under its number.
     pub fn remove(&mut self, id: u64, key: &Key)
-        requires { list_any (same_item (record { id = id; rank = key.now.priority; normal = key.now.m })) self.old ≡ true }
+        requires { list_any (same_item (record { id = id; rank = key.now.priority; normal = key.now.m })) self.old
+            ≡ true }
         ensures { AddsTo (record { id = id; rank = key.now.priority; normal = key.now.m }) self.new self.old }
     {
         // Each id stands once.

@@ -51,8 +51,10 @@ impl Gate {
     ) -> Result<GateDelta, Memory>
         ensures after { OnOk result (IsChanged self.old.candidates gone.now come.now self.new.candidates) }
         ensures before { OnOk result (HaveSame self.old.candidates self.new.before) }
-        ensures gone { IfOk result (λ delta. IsDifference (passing self.old.candidates) (passing self.new.candidates) delta.gone) }
-        ensures come { IfOk result (λ delta. IsDifference (passing self.new.candidates) (passing self.old.candidates) delta.come) }
+        ensures gone { IfOk result
+            (λ delta. IsDifference (passing self.old.candidates) (passing self.new.candidates) delta.gone) }
+        ensures come { IfOk result
+            (λ delta. IsDifference (passing self.new.candidates) (passing self.old.candidates) delta.come) }
         ensures gone_once { IfOk result (λ delta. IsDistinct same_entry delta.gone) }
         ensures come_once { IfOk result (λ delta. IsDistinct same_entry delta.come) }
         ensures memory { OnErr result (HaveSame self.old.candidates self.new.candidates) }

@@ -40,7 +40,8 @@ impl Duplicate for Log {
 /// A candidate goes, if it is there, and the log says so.
 fn leave(pool: &mut Pool, log: &mut Log, entry: &PhysEntry) -> Result<(), Memory>
     requires { log.old.come ≡ [] }
-    ensures gone { OnOk result ((e : PhysEntry) → stands_in pool.new e ≡ (stands_in pool.old e && not (same_entry e entry.now))) }
+    ensures gone { OnOk result ((e : PhysEntry)
+        → stands_in pool.new e ≡ (stands_in pool.old e && not (same_entry e entry.now))) }
     ensures same { HaveSame (turned_back pool.old log.old) (turned_back pool.new log.new) }
     ensures come { log.new.come ≡ [] }
 {
@@ -54,7 +55,8 @@ fn leave(pool: &mut Pool, log: &mut Log, entry: &PhysEntry) -> Result<(), Memory
 
 /// A candidate comes, unless it is there, and the log says so.
 fn enter(pool: &mut Pool, log: &mut Log, entry: &PhysEntry) -> Result<(), Memory>
-    ensures come { OnOk result ((e : PhysEntry) → stands_in pool.new e ≡ (stands_in pool.old e || same_entry e entry.now)) }
+    ensures come { OnOk result ((e : PhysEntry)
+        → stands_in pool.new e ≡ (stands_in pool.old e || same_entry e entry.now)) }
     ensures same { HaveSame (turned_back pool.old log.old) (turned_back pool.new log.new) }
 {
     if pool.has(entry) {
@@ -67,7 +69,8 @@ fn enter(pool: &mut Pool, log: &mut Log, entry: &PhysEntry) -> Result<(), Memory
 /// Candidates go, those that are there.
 pub fn leave_all(pool: &mut Pool, log: &mut Log, gone: &[PhysEntry]) -> Result<(), Memory>
     requires { log.old.come ≡ [] }
-    ensures gone { OnOk result ((e : PhysEntry) → stands_in pool.new e ≡ (stands_in pool.old e && not (stands_in gone.now e))) }
+    ensures gone { OnOk result ((e : PhysEntry)
+        → stands_in pool.new e ≡ (stands_in pool.old e && not (stands_in gone.now e))) }
     ensures same { HaveSame (turned_back pool.old log.old) (turned_back pool.new log.new) }
 {
     for entry in gone {
@@ -78,7 +81,8 @@ pub fn leave_all(pool: &mut Pool, log: &mut Log, gone: &[PhysEntry]) -> Result<(
 
 /// Candidates come, those that aren't there.
 pub fn enter_all(pool: &mut Pool, log: &mut Log, come: &[PhysEntry]) -> Result<(), Memory>
-    ensures come { OnOk result ((e : PhysEntry) → stands_in pool.new e ≡ (stands_in pool.old e || stands_in come.now e)) }
+    ensures come { OnOk result ((e : PhysEntry)
+        → stands_in pool.new e ≡ (stands_in pool.old e || stands_in come.now e)) }
     ensures same { HaveSame (turned_back pool.old log.old) (turned_back pool.new log.new) }
 {
     for entry in come {

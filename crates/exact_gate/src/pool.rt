@@ -69,7 +69,8 @@ impl Pool {
 
     /// Adds a candidate, unless it is there.
     pub fn insert(&mut self, entry: &PhysEntry) -> Result<(), Memory>
-        ensures entries { OnOk result ((e : PhysEntry) → stands_in self.new e ≡ (stands_in self.old e || same_entry e entry.now)) }
+        ensures entries { OnOk result ((e : PhysEntry)
+            → stands_in self.new e ≡ (stands_in self.old e || same_entry e entry.now)) }
         ensures memory { OnErr result (self.new ≡ self.old) }
     {
         let key = Key::of(entry);
@@ -123,7 +124,8 @@ impl Pool {
 
     /// The keys of candidates that those of this key pass over, and maybe others.
     pub fn reached(&self, key: &Key) -> Result<List<Key>, Memory>
-        ensures { IfOk result (λ keys. (e : PhysEntry) → stands_in self.now e ≡ true → tops key.now.m key.now.priority e.m e.priority ≡ true → list_any (one_key (key_of e)) keys ≡ true) }
+        ensures { IfOk result (λ keys. (e : PhysEntry) → stands_in self.now e ≡ true
+            → tops key.now.m key.now.priority e.m e.priority ≡ true → list_any (one_key (key_of e)) keys ≡ true) }
     {
         self.finder.reached(self.alloc, key)
     }

@@ -30,7 +30,12 @@ pub struct State {
 
 /// Nothing is there, and nothing was changed.
 pub fn fresh(alloc: Global) -> State
-    ensures { result ≡ record { pool = []; owed = record { gone = []; come = [] }; last = record { gone = []; come = [] }; undone = false } }
+    ensures { result ≡ record {
+      pool = [];
+      owed = record { gone = []; come = [] };
+      last = record { gone = []; come = [] };
+      undone = false;
+    } }
 {
     State {
         pool: Pool::new(alloc),
@@ -160,8 +165,10 @@ pub fn change(
 ) -> Result<GateDelta, Memory>
     ensures after { OnOk result (IsChanged (present state.old) gone.now come.now (present state.new)) }
     ensures before { OnOk result (HaveSame (present state.old) (earlier state.new)) }
-    ensures gone { IfOk result (λ delta. IsDifference (passing (present state.old)) (passing (present state.new)) delta.gone) }
-    ensures come { IfOk result (λ delta. IsDifference (passing (present state.new)) (passing (present state.old)) delta.come) }
+    ensures gone { IfOk result
+        (λ delta. IsDifference (passing (present state.old)) (passing (present state.new)) delta.gone) }
+    ensures come { IfOk result
+        (λ delta. IsDifference (passing (present state.new)) (passing (present state.old)) delta.come) }
     ensures gone_once { IfOk result (λ delta. IsDistinct same_entry delta.gone) }
     ensures come_once { IfOk result (λ delta. IsDistinct same_entry delta.come) }
     ensures memory { OnErr result (HaveSame (present state.old) (present state.new)) }

@@ -18,11 +18,14 @@ module _ (net : Network) (hops n v : ℕ) (h : HeaderOf) (ts : List HopTrace) (k
       this = hop_trace net.tables s.expr v h
 
       -- the walk ends here
-      pub ends-here : t1 ≡ ts ++ this ∷ [] → leads (does net.tables s.expr h).tail s.links h.in_port ≡ None → t1 ≡ ts ++ trace net hops v h
-      ends-here e l = let whole : this ∷ [] ≡ trace net hops v h = rw (k, get, taken, l) refl in e ∙ ap (λ z. ts ++ z) whole
+      pub ends-here : t1 ≡ ts ++ this ∷ [] → leads (does net.tables s.expr h).tail s.links h.in_port ≡ None
+          → t1 ≡ ts ++ trace net hops v h
+      ends-here e l = let whole : this ∷ [] ≡ trace net hops v h = rw (k, get, taken, l) refl in e
+          ∙ ap (λ z. ts ++ z) whole
 
       -- the walk goes on
-      pub goes-on : (on : Onward) → t1 ≡ ts ++ this ∷ [] → leads (does net.tables s.expr h).tail s.links h.in_port ≡ Some on →
+      pub goes-on : (on : Onward) → t1 ≡ ts ++ this ∷ []
+          → leads (does net.tables s.expr h).tail s.links h.in_port ≡ Some on →
           t2 ≡ t1 ++ trace net n on.place.v (arriving on.rewrite on.place.port h) → t2 ≡ ts ++ trace net hops v h
       goes-on on e l f =
           let rest = trace net n on.place.v (arriving on.rewrite on.place.port h) in
@@ -30,7 +33,8 @@ module _ (net : Network) (hops n v : ℕ) (h : HeaderOf) (ts : List HopTrace) (k
           f ∙ (ap (λ z. z ++ rest) e ∙ (append_assoc ts (this ∷ []) rest ∙ ap (λ z. ts ++ z) whole))
 
     pub not-taken : takes s.spread h ≡ false → ts ≡ ts ++ trace net hops v h
-    not-taken e = let none : [] ≡ trace net hops v h = rw (k, get, e) refl in sym (append-nil ts) ∙ ap (λ z. ts ++ z) none
+    not-taken e = let none : [] ≡ trace net hops v h = rw (k, get, e) refl in sym (append-nil ts)
+        ∙ ap (λ z. ts ++ z) none
 
   pub not-there : slice_get net.switches v ≡ None → ts ≡ ts ++ trace net hops v h
   not-there get = let none : [] ≡ trace net hops v h = rw (k, get) refl in sym (append-nil ts) ∙ ap (λ z. ts ++ z) none

@@ -14,8 +14,10 @@ module _ (h : HeaderOf) where
 
   pub unique : {rs : List Rule} {r s : Rule} → IsBest h rs r → IsBest h rs s → r ≡ s
   unique (first e b) (first f c) = refl
-  unique (first {r = r} e b) (later {r = s} lt q) = above q (lt e) (best_each h (At h (Below r.level)) q b (best_holds h q))
-  unique (later {r = r} {x = x} lt p) (first f c) = absurd (let l = lt f in let m = best_each h (At h (Below x.level)) p c (best_holds h p) in omega arith)
+  unique (first {r = r} e b) (later {r = s} lt q) =
+      above q (lt e) (best_each h (At h (Below r.level)) q b (best_holds h q))
+  unique (later {r = r} {x = x} lt p) (first f c) =
+      absurd (let l = lt f in let m = best_each h (At h (Below x.level)) p c (best_holds h p) in omega arith)
   unique (later lt p) (later mt q) = unique p q
 
 -- what rules say of a header, and the leaves of the best one
@@ -24,5 +26,6 @@ pub record Uses (h : HeaderOf) (rules : List Rule) (size : ℕ) (meaning : Meani
   pub is : says.rule.ancestry ≡ leaves
 
 -- where these are the leaves of some best rule
-pub uses : (h : HeaderOf) (rules : List Rule) (size : ℕ) (meaning : Meaning) (leaves : List Leaf) (r : Rule) → Says h rules size meaning → IsBest h rules r → r.ancestry ≡ leaves → Uses h rules size meaning leaves
+pub uses : (h : HeaderOf) (rules : List Rule) (size : ℕ) (meaning : Meaning) (leaves : List Leaf) (r : Rule)
+    → Says h rules size meaning → IsBest h rules r → r.ancestry ≡ leaves → Uses h rules size meaning leaves
 uses h rules size meaning leaves r s b e = record { says = s; is = rw (unique h s.best b) e }

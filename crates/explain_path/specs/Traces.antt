@@ -1,5 +1,6 @@
 -- The evaluations of a walk, and the members that each asks.
-use Rattle.std.specs.Prelude.{ℕ, zero, suc, ◌+◌, Bool, true, false, Option, Some, None, if◌then◌else◌, List, [], ◌∷◌, ◌++◌, map, slice_get}
+use Rattle.std.specs.Prelude.{ℕ, zero, suc, ◌+◌, Bool, true, false, Option, Some, None, if◌then◌else◌, List, [], ◌∷◌}
+use Rattle.std.specs.Prelude.{◌++◌, map, slice_get}
 use Rattle.of10_match.specs.Fields.{HeaderOf}
 use Rattle.of10_actions.specs.Fields.{RewriteOf}
 use Rattle.of10_actions.specs.Rewriting.{apply}
@@ -57,7 +58,8 @@ does tables e h = evaluate (λ i. table_meaning (slice_get tables i)) e h
 abbrev pub asked : List LeafTable → Policy → HeaderOf → List LeafTrace
 asked tables (member i) h = asked_member i (slice_get tables i) h ∷ []
 asked tables (parallel a b) h = asked tables a h ++ asked tables b h
-asked tables (sequential a b) h = asked tables a h ++ asked_after (does tables a h).tail (λ r. asked tables b (apply r h))
+asked tables (sequential a b) h = asked tables a h ++ asked_after (does tables a h).tail
+    (λ r. asked tables b (apply r h))
 asked tables (override a b) h = asked_over (does tables a h).touched (asked tables a h) (asked tables b h)
 
 -- one evaluation

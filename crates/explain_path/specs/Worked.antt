@@ -3,7 +3,8 @@ use Rattle.std.specs.Prelude.{◌≡◌, ℕ, Bool, true, false, List, [], ◌�
 use Rattle.of10_actions.specs.declared.effects.Tail.TheVariants.{Nothing}
 use Rattle.policy_expr.specs.Policy.{Policy, member, sequential, override}
 use Rattle.policy_meaning.specs.WorkedHops.{split_switch}
-use Rattle.policy_meaning.specs.WorkedTables.{balancer, does, entry, firewall, from_net, packet_to, server_router, table, to_port}
+use Rattle.policy_meaning.specs.WorkedTables.{balancer, does, entry, firewall, from_net, packet_to, server_router}
+use Rattle.policy_meaning.specs.WorkedTables.{table, to_port}
 use Rattle.policy_meaning.specs.declared.leaf.LeafTable.{LeafTable}
 use Rattle.explain_path.specs.Traces.{asked, trace}
 use Rattle.explain_path.specs.Used.{used_of}
@@ -54,6 +55,8 @@ ThreeHops =
 abbrev pub FourHops : Type 0
 FourHops =
     (trace (split_switch 8 false) 4 0 (packet_to 0x0a000001)
-    ≡ hop 0 1 (leaf 0 3 true ∷ []) ∷ hop 1 9 (leaf 1 3 true ∷ []) ∷ hop 0 8 (leaf 0 4 true ∷ []) ∷ hop 1 9 (leaf 1 3 true ∷ []) ∷ [])
+    ≡ hop 0 1 (leaf 0 3 true ∷ []) ∷ hop 1 9 (leaf 1 3 true ∷ []) ∷ hop 0 8 (leaf 0 4 true ∷ [])
+    ∷ hop 1 9 (leaf 1 3 true ∷ []) ∷ [])
     × (used_of (trace (split_switch 8 false) 4 0 (packet_to 0x0a000001))
-    ≡ record { member = 0; kind = 3 } ∷ record { member = 1; kind = 3 } ∷ record { member = 0; kind = 4 } ∷ record { member = 1; kind = 3 } ∷ [])
+    ≡ record { member = 0; kind = 3 } ∷ record { member = 1; kind = 3 } ∷ record { member = 0; kind = 4 }
+    ∷ record { member = 1; kind = 3 } ∷ [])

@@ -56,8 +56,10 @@ fn ask_member(alloc: Global, member: &Member, header: &Header) -> Result<Met, Me
 /// What of a member's table a header meets; one that isn't there has nothing inside.
 fn met_at(alloc: Global, world: &World, index: u32, header: &Header) -> Result<Met, Memory>
     requires { SeeRising world.now }
-    ensures leaf { IfOk result (λ met. record { member = index; kind = met.kind; used = true } ≡ asked_member index (slice_get (network_of world.now).tables index) header.now) }
-    ensures acted { IfOk result (λ met. met.acted ≡ acted_of (table_meaning (slice_get (network_of world.now).tables index) header.now)) }
+    ensures leaf { IfOk result (λ met. record { member = index; kind = met.kind; used = true }
+        ≡ asked_member index (slice_get (network_of world.now).tables index) header.now) }
+    ensures acted { IfOk result
+        (λ met. met.acted ≡ acted_of (table_meaning (slice_get (network_of world.now).tables index) header.now)) }
 {
     match world.member(index) {
         Some(member) => {
@@ -93,8 +95,10 @@ pub(crate) fn ask(
     leaves: &mut List<LeafTrace>,
 ) -> Result<Acted, Memory>
     requires { SeeRising world.now }
-    ensures acted { IfOk result (λ acted. acted ≡ acted_of (does (network_of world.now).tables (policy_of expr.now) header.now)) }
-    ensures leaves { OnOk result (leaves.new ≡ leaves.old ++ asked_of (network_of world.now).tables (policy_of expr.now) header.now) }
+    ensures acted { IfOk result
+        (λ acted. acted ≡ acted_of (does (network_of world.now).tables (policy_of expr.now) header.now)) }
+    ensures leaves { OnOk result
+        (leaves.new ≡ leaves.old ++ asked_of (network_of world.now).tables (policy_of expr.now) header.now) }
 {
     match expr {
         Expr::Member { index } => {

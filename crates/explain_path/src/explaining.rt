@@ -31,8 +31,10 @@ fn evaluate(
     header: &Header,
 ) -> Result<Evaluated, Memory>
     requires { SeeRising world.now }
-    ensures trace { IfOk result (λ e. e.trace ≡ hop_trace (network_of world.now).tables (policy_of expr.now) v header.now) }
-    ensures tail { IfOk result (λ e. e.tail ≡ (does (network_of world.now).tables (policy_of expr.now) header.now).tail) }
+    ensures trace { IfOk result
+        (λ e. e.trace ≡ hop_trace (network_of world.now).tables (policy_of expr.now) v header.now) }
+    ensures tail { IfOk result
+        (λ e. e.tail ≡ (does (network_of world.now).tables (policy_of expr.now) header.now).tail) }
 {
     let mut leaves = List::new(alloc);
     let acted = ask(alloc, world, expr, header, &mut leaves)?;
@@ -82,8 +84,10 @@ fn follow(
 /// in_port: the evaluations of the walk, and what it gives.
 pub fn explain(alloc: Global, world: &World, v: u32, port: u16, h: &Header) -> Result<Trace, Memory>
     requires { SeeRising world.now }
-    ensures hops { IfOk result (λ t. t.hops ≡ trace_of (network_of world.now) world.now.hops v (record h.now { in_port = port })) }
-    ensures walked { IfOk result (λ t. t.walked ≡ walk (ground_of (network_of world.now)) world.now.hops v (record h.now { in_port = port })) }
+    ensures hops { IfOk result
+        (λ t. t.hops ≡ trace_of (network_of world.now) world.now.hops v (record h.now { in_port = port })) }
+    ensures walked { IfOk result
+        (λ t. t.walked ≡ walk (ground_of (network_of world.now)) world.now.hops v (record h.now { in_port = port })) }
 {
     let mut hops = List::new(alloc);
     follow(alloc, world, world.hops, v, &coming_by(port, h), &mut hops)?;

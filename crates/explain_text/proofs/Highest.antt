@@ -1,5 +1,6 @@
 -- One pass over the entries of a switch finds the first of those that hold a header.
-use Rattle.std.proofs.Common.{◌≡◌, ℕ, ◌<◌, ◌≤◌, ◌⊎◌, inl, inr, Bool, true, false, ◌&&◌, ◌||◌, List, [], ◌∷◌, Option, Some, None, refl, ap, ◌∙◌, sym, eqb-true, eq-eqb, arith, Contains}
+use Rattle.std.proofs.Common.{◌≡◌, ℕ, ◌<◌, ◌≤◌, ◌⊎◌, inl, inr, Bool, true, false, ◌&&◌, ◌||◌, List, [], ◌∷◌, Option}
+use Rattle.std.proofs.Common.{Some, None, refl, ap, ◌∙◌, sym, eqb-true, eq-eqb, arith, Contains}
 use Rattle.std.specs.Prelude.{◌==◌, IfSome, MatchOption, if◌then◌else◌, nat_lt}
 use Rattle.std.specs.List.{AllByRecursion, list_any}
 use Rattle.std.proofs.lemmas.Bool.{cases_lt, ltb-false, ltb-true}
@@ -61,7 +62,8 @@ lower-first r c s d t e high low = isn't-over s d t e (by (is-over r c s d high)
     by (inl more) (inl lt) = inl (omega arith)
     by (inl more) (inr same) = let f = same.0 in inl (omega arith)
     by (inr same) (inl lt) = let f = same.0 in inl (omega arith)
-    by (inr same) (inr less) = let f = same.0 in let g = less.0 in let x = same.1 in let y = less.1 in inr (omega arith, omega arith)
+    by (inr same) (inr less) = let f = same.0 in let g = less.0 in let x = same.1 in let y = less.1 in
+        inr (omega arith, omega arith)
 
 -- what isn't over one that isn't over another isn't over that
 not-over-both : (r c s d t e : ℕ) → over r c s d ≡ false → over s d t e ≡ false → over r c t e ≡ false
@@ -71,7 +73,8 @@ not-over-both r c s d t e one two = isn't-over r c t e (by (not-over r c s d one
     by (inl lt) (inl more) = inl (omega arith)
     by (inl lt) (inr same) = let f = same.0 in inl (omega arith)
     by (inr same) (inl lt) = let f = same.0 in inl (omega arith)
-    by (inr same) (inr less) = let f = same.0 in let g = less.0 in let x = same.1 in let y = less.1 in inr (omega arith, omega arith)
+    by (inr same) (inr less) = let f = same.0 in let g = less.0 in let x = same.1 in let y = less.1 in
+        inr (omega arith, omega arith)
 
 abbrev rank : Written → ℕ
 rank w = rank_of w.entry
@@ -112,26 +115,30 @@ module _ (h : HeaderOf) (w : Written) (ws : List Written) where
     over_all = (λ p. cc, a.over_all);
   }
     where
-      further : (best ≡ Some b) ⊎ (Contains ws b × (is_holding h b ≡ true)) → (best ≡ Some b) ⊎ (Contains (w ∷ ws) b × (is_holding h b ≡ true))
+      further : (best ≡ Some b) ⊎ (Contains ws b × (is_holding h b ≡ true))
+          → (best ≡ Some b) ⊎ (Contains (w ∷ ws) b × (is_holding h b ≡ true))
       further (inl e) = inl e
       further (inr there) = inr (later-in ws w b there.0, there.1)
 
   module _ (holding : is_holding h w ≡ true) where
     -- where the list's first entry is the highest so far
-    taken : (best : Option Written) (b : Written) → IfSome best (λ v. is_above w v ≡ true) → Highest h (Some w) ws b → Highest h best (w ∷ ws) b
+    taken : (best : Option Written) (b : Written) → IfSome best (λ v. is_above w v ≡ true) → Highest h (Some w) ws b
+        → Highest h best (w ∷ ws) b
     taken best b high a = record {
       from = inr (first a.from);
       over_best = lower best high;
       over_all = (λ _. a.over_best, a.over_all);
     }
       where
-        first : (Some w ≡ Some b) ⊎ (Contains ws b × (is_holding h b ≡ true)) → Contains (w ∷ ws) b × (is_holding h b ≡ true)
+        first : (Some w ≡ Some b) ⊎ (Contains ws b × (is_holding h b ≡ true))
+            → Contains (w ∷ ws) b × (is_holding h b ≡ true)
         first (inl e) =
             let same : w ≡ b = some_injective e in
             ((0, omega arith, same), ap (is_holding h) (sym same) ∙ holding)
         first (inr there) = (later-in ws w b there.0, there.1)
 
-        lower : (best : Option Written) → IfSome best (λ v. is_above w v ≡ true) → IfSome best (λ v. is_above v b ≡ false)
+        lower : (best : Option Written) → IfSome best (λ v. is_above w v ≡ true)
+            → IfSome best (λ v. is_above v b ≡ false)
         lower None f = tt
         lower (Some v) f = lower-first (rank w) w.cookie (rank v) v.cookie (rank b) b.cookie f a.over_best
 
@@ -143,11 +150,13 @@ module _ (h : HeaderOf) (w : Written) (ws : List Written) where
       over_all = (λ _. not-over-both (rank w) w.cookie (rank v) v.cookie (rank b) b.cookie low a.over_best, a.over_all);
     }
       where
-        further : (Some v ≡ Some b) ⊎ (Contains ws b × (is_holding h b ≡ true)) → (Some v ≡ Some b) ⊎ (Contains (w ∷ ws) b × (is_holding h b ≡ true))
+        further : (Some v ≡ Some b) ⊎ (Contains ws b × (is_holding h b ≡ true))
+            → (Some v ≡ Some b) ⊎ (Contains (w ∷ ws) b × (is_holding h b ≡ true))
         further (inl e) = inl e
         further (inr there) = inr (later-in ws w b there.0, there.1)
 
-    by-above : (v : Written) (b : Bool) → is_above w v ≡ b → (found : Option Written) → Found h (Some (if b then w else v)) ws found → Found h (Some v) (w ∷ ws) found
+    by-above : (v : Written) (b : Bool) → is_above w v ≡ b → (found : Option Written)
+        → Found h (Some (if b then w else v)) ws found → Found h (Some v) (w ∷ ws) found
     by-above v b e None a = let never = a.0 in cc
     by-above v true e (Some b) a = taken (Some v) b e a
     by-above v false e (Some b) a = kept v b e a
@@ -184,7 +193,8 @@ none-higher h b (w ∷ ws) a = by (is_holding h w) refl (none-higher h b ws a.1)
 pub used_is_best : UsedIsBest
 used_is_best h standing = by (highest_from h None standing) (found-from h None standing)
   where
-    stands : (b : Written) → (None ≡ Some b) ⊎ (Contains standing b × (is_holding h b ≡ true)) → Contains standing b × (is_holding h b ≡ true)
+    stands : (b : Written) → (None ≡ Some b) ⊎ (Contains standing b × (is_holding h b ≡ true))
+        → Contains standing b × (is_holding h b ≡ true)
     stands b (inl e) = cc
     stands b (inr there) = there
 

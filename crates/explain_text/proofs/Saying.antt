@@ -1,5 +1,6 @@
 -- An answer is put together of its parts.
-use Rattle.std.proofs.Common.{◌≡◌, ℕ, Bool, true, false, ◌&&◌, List, [], ◌++◌, Option, Some, None, refl, ap, ◌∙◌, sym, append_assoc, map}
+use Rattle.std.proofs.Common.{◌≡◌, ℕ, Bool, true, false, ◌&&◌, List, [], ◌++◌, Option, Some, None, refl, ap, ◌∙◌, sym}
+use Rattle.std.proofs.Common.{append_assoc, map}
 use Rattle.std.specs.Prelude.{◌+◌, ◌==◌, filter_map, flat_map, if◌then◌else◌, option_to_list}
 use Rattle.explain_path.specs.declared.trace.HopTrace.{HopTrace}
 use Rattle.install_plan.specs.declared.written.Written.{Written}
@@ -25,7 +26,8 @@ payload-port : (p : Payload) (bytes : List ℕ) (h : HeaderOf) → (with_payload
 payload-port p bytes h = by (p.dl_type == IPV4) (p.dl_type == ARP && has (p.place + 28) bytes)
   where
     by : (b c : Bool)
-        → (if b then with_ipv4 (ipv4_at p.place bytes) bytes h else (if c then with_arp p.place bytes h else h)).in_port ≡ h.in_port
+        → (if b then with_ipv4 (ipv4_at p.place bytes) bytes h else (if c then with_arp p.place bytes h else h)).in_port
+        ≡ h.in_port
     by true c = ipv4-port (ipv4_at p.place bytes) bytes h
     by false true = refl
     by false false = refl
@@ -34,7 +36,8 @@ header-port : (port : ℕ) (bytes : List ℕ) → (header_in port bytes).in_port
 header-port port bytes = by (has 14 bytes)
   where
     by : (b : Bool)
-        → (if b then with_payload (link_of bytes).payload bytes (link_header (link_of bytes) port bytes) else no_header port).in_port ≡ port
+        → (if b then with_payload (link_of bytes).payload bytes (link_header (link_of bytes) port bytes)
+        else no_header port).in_port ≡ port
     by true = payload-port (link_of bytes).payload bytes (link_header (link_of bytes) port bytes)
     by false = refl
 
@@ -46,7 +49,8 @@ regroup : {A : Type 0} (a b c d : List A) → ((a ++ b) ++ c) ++ d ≡ a ++ (b +
 regroup a b c d = append_assoc (a ++ b) c d ∙ append_assoc a b (c ++ d)
 
 -- what was said part by part
-pub all-said : (plan : TopologyPlan) (hops : List HopTrace) (walked : Walked) (switch : ℕ) (used : Option (Option Written))
+pub all-said : (plan : TopologyPlan) (hops : List HopTrace) (walked : Walked) (switch : ℕ)
+    (used : Option (Option Written))
     (none a b c d : List Finding) (entry : Option Finding) → none ≡ [] → a ≡ none ++ flat_map of_hop hops
     → b ≡ a ++ filter_map (of_out plan) walked.outs → c ≡ b ++ map of_told walked.told
     → option_to_list entry ≡ of_switch switch used → d ≡ c ++ option_to_list entry

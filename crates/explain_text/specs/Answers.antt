@@ -15,7 +15,8 @@ use Rattle.explain_text.specs.Using.{used_for}
 use Rattle.explain_text.specs.declared.entrance.Entrance.{Entrance}
 use Rattle.explain_text.specs.declared.finding.Finding.{Finding}
 
--- what there is to say of a packet that comes in at a place, where these entries stand on the switch; none where it is down
+-- what there is to say of a packet that comes in at a place, where these entries stand on the switch; none where it is
+-- down
 abbrev pub explained : TopologyPlan → Network → ℕ → Option (List Written) → Entrance → List ℕ → List Finding
 explained plan net hops standing at bytes =
     findings plan (trace net hops at.v (header_in at.by bytes)) (walk (ground_of net) hops at.v (header_in at.by bytes))
@@ -31,7 +32,8 @@ findings_text p bytes found = flat_map (λ f. as_line (finding_text p bytes f)) 
 
 -- what is answered about a packet that comes in at a place, where these entries stand on switches by number
 abbrev pub answer_text : PolicyOf → Network → (ℕ → Option (List Written)) → List ℕ → Entrance → List ℕ
-answer_text p net standing bytes at = findings_text p bytes (explained (plan p) net p.hops (standing at.switch) at bytes)
+answer_text p net standing bytes at =
+    findings_text p bytes (explained (plan p) net p.hops (standing at.switch) at bytes)
 
 -- the same by the name of the switch; none where the place is no outside port
 abbrev pub asked_text : PolicyOf → Network → (ℕ → Option (List Written)) → List ℕ → ℕ → List ℕ → Option (List ℕ)

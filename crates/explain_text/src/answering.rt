@@ -92,7 +92,8 @@ fn of_used(switch: u32, used: Option<&Written>) -> Option<Finding>
 /// What is said of the switch where a packet comes in, on which these entries stand; it is down where there
 /// are none to speak of.
 fn of_standing(switch: u32, standing: Option<&[Written]>, header: &Header) -> Option<Finding>
-    ensures { option_to_list result ≡ of_switch switch (option_map (used_for header.now) (option_map (λ entries. entries.now) standing.entry)) }
+    ensures { option_to_list result ≡ of_switch switch
+        (option_map (used_for header.now) (option_map (λ entries. entries.now) standing.entry)) }
 {
     match standing {
         None => Some(Finding::Down { switch }),
@@ -110,7 +111,8 @@ pub fn answer(
     bytes: &[u8],
 ) -> Result<List<Finding>, Memory>
     requires { SeeRising world.now }
-    ensures { IfOk result (λ said. said ≡ explained world.now.topology.now (network_of world.now) world.now.hops (option_map (λ entries. entries.now) standing.entry) at.now bytes.now) }
+    ensures { IfOk result (λ said. said ≡ explained world.now.topology.now (network_of world.now) world.now.hops
+        (option_map (λ entries. entries.now) standing.entry) at.now bytes.now) }
 {
     let header = header_of(bytes, at.by);
     let Trace { hops, walked } = explain(alloc, world, at.v, at.by, &header)?;

@@ -1,5 +1,7 @@
 -- What is known of a compiled expression of a few members, as it is built and through changes.
-use Rattle.std.proofs.Common.{◌≡◌, ◌≢◌, ℕ, zero, suc, ◌==◌, ◌<◌, ◌+◌, Bool, true, false, ◌||◌, Result, Ok, Err, OnOk, OnErr, if◌then◌else◌, List, [], ◌∷◌, length, get_or, take, refl, sym, ap, subst, ◌∙◌, arith}
+use Rattle.std.proofs.Common.{◌≡◌, ◌≢◌, ℕ, zero, suc, ◌==◌, ◌<◌, ◌+◌, Bool, true, false, ◌||◌, Result, Ok, Err, OnOk}
+use Rattle.std.proofs.Common.{OnErr, if◌then◌else◌, List, [], ◌∷◌, length, get_or, take, refl, sym, ap, subst, ◌∙◌}
+use Rattle.std.proofs.Common.{arith}
 use Rattle.std.specs.Prelude.{slice_get}
 use Rattle.std.specs.List.{AllByRecursion}
 use Rattle.of10_match.specs.Normal.{IsNormal}
@@ -13,7 +15,8 @@ use Rattle.policy_meaning.specs.declared.rule.Rule.{Rule}
 use Rattle.policy_meaning.proofs.Lists.{all-map}
 use Rattle.list_change.proofs.Permute.{by-equation}
 use Rattle.rule_ancestry.proofs.StoreLemmas.{eq-same, eq-other}
-use Rattle.incr_compile.specs.Compiling.{IsOf, IsOfTables, MemberChanges, composed_by, member_size, policy_in, rules_after}
+use Rattle.incr_compile.specs.Compiling.{IsOf, IsOfTables, MemberChanges, composed_by, member_size, policy_in}
+use Rattle.incr_compile.specs.Compiling.{rules_after}
 use Rattle.incr_compile.specs.Trees.{TreeOf, branch, has_member, leaf}
 use Rattle.incr_compile.specs.declared.compiled.LeafDelta.{LeafDelta}
 use Rattle.fitting_changes.specs.declared.shape.Shape.{Shape}
@@ -23,7 +26,8 @@ use Rattle.fitting_changes.specs.Composers.{CanTake, Fits, FitsIn, HasSize, IsCo
 -- ---- one item more of which a fact holds
 
 module _ {A : Type 0} (P : A → Type 0) where
-  pub one-more : (xs : List A) (i : ℕ) (x : A) → i < length xs → x ≡ get_or xs i x → P x → AllByRecursion P (take i xs) → AllByRecursion P (take (i + 1) xs)
+  pub one-more : (xs : List A) (i : ℕ) (x : A) → i < length xs → x ≡ get_or xs i x → P x → AllByRecursion P (take i xs)
+      → AllByRecursion P (take (i + 1) xs)
   one-more [] i x lt e p a = absurd (omega arith)
   one-more (y ∷ ys) zero x lt e p a =
       let one : 0 + 1 ≡ suc 0 = omega arith in
@@ -49,17 +53,22 @@ names-by Hop i a b = refl
 named : (i : ℕ) (t : TreeOf) → has_member i t ≡ names i (policy_in t)
 named i (leaf j s made) = refl
 named i (branch n l r) =
-    ap (λ b. b || has_member i r) (named i l) ∙ ap (λ b. names i (policy_in l) || b) (named i r) ∙ sym (names-by n.op i (policy_in l) (policy_in r))
+    ap (λ b. b || has_member i r) (named i l) ∙ ap (λ b. names i (policy_in l) || b) (named i r)
+    ∙ sym (names-by n.op i (policy_in l) (policy_in r))
 
 -- a member of the tree has its size
 same-number : (i j : ℕ) → (i == j) ≡ true → i ≡ j
 same-number i j e = grind arith
 
-sized : (sizes : ℕ → ℕ) (rules : ℕ → List Rule) (i : ℕ) (t : TreeOf) → IsOf sizes rules t → has_member i t ≡ true → member_size i t ≡ sizes i
+sized : (sizes : ℕ → ℕ) (rules : ℕ → List Rule) (i : ℕ) (t : TreeOf) → IsOf sizes rules t → has_member i t ≡ true
+    → member_size i t ≡ sizes i
 sized sizes rules i (leaf j s made) o h = o.0 ∙ ap sizes (sym (same-number i j h))
-sized sizes rules i (branch n l r) o h = by (has_member i l) refl (sized sizes rules i l o.0) (sized sizes rules i r o.1)
+sized sizes rules i (branch n l r) o h = by (has_member i l) refl (sized sizes rules i l o.0)
+    (sized sizes rules i r o.1)
   where
-    by : (b : Bool) → has_member i l ≡ b → (has_member i l ≡ true → member_size i l ≡ sizes i) → (has_member i r ≡ true → member_size i r ≡ sizes i) → (if b then member_size i l else member_size i r) ≡ sizes i
+    by : (b : Bool) → has_member i l ≡ b → (has_member i l ≡ true → member_size i l ≡ sizes i)
+        → (has_member i r ≡ true → member_size i r ≡ sizes i)
+        → (if b then member_size i l else member_size i r) ≡ sizes i
     by true e left right = left e
     by false e left right = right (sym (ap (λ b. b || has_member i r) e) ∙ h)
 
@@ -98,12 +107,14 @@ named-once shape p e = subst (λ (q : Policy). EachPair (λ i j. i ≢ j) (membe
 
 -- ---- what is built
 
-sized-table : (size i : ℕ) (ts : List LeafTable) → AllByRecursion (HasSize size) ts → i < length ts → table_size (slice_get ts i) ≡ size
+sized-table : (size i : ℕ) (ts : List LeafTable) → AllByRecursion (HasSize size) ts → i < length ts
+    → table_size (slice_get ts i) ≡ size
 sized-table size i [] a l = absurd (omega arith)
 sized-table size zero (t ∷ ts) a l = a.0
 sized-table size (suc i) (t ∷ ts) a l = sized-table size i ts a.1 (omega arith)
 
-pub built : (shape : Shape) (size : ℕ) (tables : List LeafTable) (ports : List ℕ) (p : Policy) (t : TreeOf) → Suits shape size tables
+pub built : (shape : Shape) (size : ℕ) (tables : List LeafTable) (ports : List ℕ) (p : Policy) (t : TreeOf)
+    → Suits shape size tables
     → IsOfTables tables ports t → policy_in t ≡ p → p ≡ policy_by shape → IsComposed shape size t
 built shape size tables ports p t s o e f = record {
   policy = e ∙ f;
@@ -115,11 +126,14 @@ built shape size tables ports p t s o e f = record {
 
 -- ---- what it can take
 
-pub can-take : (shape : Shape) (size : ℕ) (t : TreeOf) (delta : LeafDelta) → IsComposed shape size t → Fits shape size delta
+pub can-take : (shape : Shape) (size : ℕ) (t : TreeOf) (delta : LeafDelta) → IsComposed shape size t
+    → Fits shape size delta
     → CanTake delta t
 can-take shape size t delta c f =
-    let there : has_member delta.member t ≡ true = named delta.member t ∙ ap (names delta.member) c.policy ∙ all-named shape delta.member f.member in
-    let levels : member_size delta.member t ≡ size = sized c.sizes c.rules delta.member t c.of there ∙ c.each delta.member f.member in
+    let there : has_member delta.member t ≡ true = named delta.member t ∙ ap (names delta.member) c.policy
+    ∙ all-named shape delta.member f.member in
+    let levels : member_size delta.member t ≡ size = sized c.sizes c.rules delta.member t c.of there
+    ∙ c.each delta.member f.member in
     record {
       member = there;
       come = record {
@@ -137,12 +151,18 @@ after-it delta before i = if i == delta.member then rules_after delta (before de
 
 changes-it : (delta : LeafDelta) (before : ℕ → List Rule) → MemberChanges delta before (after-it delta before)
 changes-it delta before = record {
-  others = λ i n. ap (λ b. if b then rules_after delta (before delta.member) else before i) (eq-other i delta.member (λ e. n (sym e)));
-  changed = by-equation _ _ (sym (ap (λ b. if b then rules_after delta (before delta.member) else before delta.member) (eq-same delta.member delta.member refl)));
+  others = λ i n. ap (λ b. if b then rules_after delta (before delta.member) else before i)
+      (eq-other i delta.member (λ e. n (sym e)));
+  changed =
+      by-equation _ _
+      (sym (ap (λ b. if b then rules_after delta (before delta.member) else before delta.member)
+      (eq-same delta.member delta.member refl)));
 }
 
-after : (shape : Shape) (size : ℕ) (delta : LeafDelta) (old new : TreeOf) → IsComposed shape size old → policy_in new ≡ policy_in old
-    → ((sizes : ℕ → ℕ) → (rules rules' : ℕ → List Rule) → MemberChanges delta rules rules' → IsOf sizes rules old → IsOf sizes rules' new) → IsComposed shape size new
+after : (shape : Shape) (size : ℕ) (delta : LeafDelta) (old new : TreeOf) → IsComposed shape size old
+    → policy_in new ≡ policy_in old
+    → ((sizes : ℕ → ℕ) → (rules rules' : ℕ → List Rule) → MemberChanges delta rules rules' → IsOf sizes rules old
+    → IsOf sizes rules' new) → IsComposed shape size new
 after shape size delta old new c p f = record {
   policy = p ∙ c.policy;
   sizes = c.sizes;
@@ -152,9 +172,11 @@ after shape size delta old new c p f = record {
 }
 
 -- so too where memory was wanted, which changed nothing
-pub after-any : {A B : Type 0} (r : Result A B) (shape : Shape) (size : ℕ) (delta : LeafDelta) (old new : TreeOf) → IsComposed shape size old
+pub after-any : {A B : Type 0} (r : Result A B) (shape : Shape) (size : ℕ) (delta : LeafDelta) (old new : TreeOf)
+    → IsComposed shape size old
     → OnOk r (policy_in new ≡ policy_in old)
-    → ((sizes : ℕ → ℕ) → (rules rules' : ℕ → List Rule) → MemberChanges delta rules rules' → IsOf sizes rules old → OnOk r (IsOf sizes rules' new))
+    → ((sizes : ℕ → ℕ) → (rules rules' : ℕ → List Rule) → MemberChanges delta rules rules' → IsOf sizes rules old
+    → OnOk r (IsOf sizes rules' new))
     → OnErr r (new ≡ old) → IsComposed shape size new
 after-any (Ok x) shape size delta old new c p f e = after shape size delta old new c p f
 after-any (Err x) shape size delta old new c p f e = subst (IsComposed shape size) (sym e) c

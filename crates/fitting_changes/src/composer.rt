@@ -1,5 +1,6 @@
 //! A compiled expression and what is known of its members.
-ghost use Rattle.std.specs.Prelude.{◌≡◌, ◌<◌, ◌+◌, ◌≤◌, ◌^◌, ℕ, List as ListOf, All, IfOk, IfSome, IsPermutation, IsTrue, OnErr, OnOk};
+ghost use Rattle.std.specs.Prelude.{◌≡◌, ◌<◌, ◌+◌, ◌≤◌, ◌^◌, ℕ, List as ListOf, All, IfOk, IfSome, IsPermutation};
+ghost use Rattle.std.specs.Prelude.{IsTrue, OnErr, OnOk};
 ghost use Rattle.std.specs.List.{AllByRecursion};
 ghost use Rattle.list_change.specs.Changes.{Apart, Changed};
 ghost use Rattle.of10_match.specs.Normal.{IsNormal};
@@ -164,7 +165,8 @@ impl Composer {
         requires { CanTake delta (tree_of self.old) }
         ensures members { (sizes : ℕ → ℕ) → (before after : ℕ → ListOf RuleOf) → MemberChanges delta before after
             → IsOf sizes before (tree_of self.old) → OnOk result (IsOf sizes after (tree_of self.new)) }
-        ensures told { IfOk result (λ told. Changed (rules_at (tree_of self.old)) (rules_at (tree_of self.new)) told.gone told.come) }
+        ensures told { IfOk result
+            (λ told. Changed (rules_at (tree_of self.old)) (rules_at (tree_of self.new)) told.gone told.come) }
         ensures apart { IfOk result (λ told. Apart told.gone told.come) }
         ensures steps { (sizes : ℕ → ℕ) → (before after : ℕ → ListOf RuleOf) → MemberChanges delta before after
             → IsOf sizes before (tree_of self.old)

@@ -1,5 +1,6 @@
 -- What holds of a message that no rule refuses.
-use Rattle.std.specs.Prelude.{◌≡◌, ℕ, Bool, true, false, ◌==◌, ◌||◌, ◌≤◌, ◌-◌, List, length, take, sum_by, IfSome, IsTrue}
+use Rattle.std.specs.Prelude.{◌≡◌, ℕ, Bool, true, false, ◌==◌, ◌||◌, ◌≤◌, ◌-◌, List, length, take, sum_by, IfSome}
+use Rattle.std.specs.Prelude.{IsTrue}
 use Rattle.std.specs.List.{list_any, AllByRecursion}
 use Rattle.of10_match.specs.Fields.{HeaderOf, MatchOf}
 use Rattle.of10_actions.specs.Numbers.{IN_PORT, NORMAL, FLOOD, ALL, CONTROLLER}
@@ -44,4 +45,6 @@ pub record IsGrantedOut (g : Grant) (v : PortView) (m : PacketOut) (h : HeaderOf
 
 -- an output to this number goes to a visible port, to several, to the member, or to the rest of the policy
 abbrev pub goes_somewhere : PortView → ℕ → Bool
-goes_somewhere view port = (port == IN_PORT) || ((port == FLOOD) || ((port == ALL) || ((port == CONTROLLER) || ((port == NORMAL) || sees view port))))
+goes_somewhere view port =
+    (port == IN_PORT) ||
+    ((port == FLOOD) || ((port == ALL) || ((port == CONTROLLER) || ((port == NORMAL) || sees view port))))

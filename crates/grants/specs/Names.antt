@@ -1,9 +1,11 @@
 -- The fields and the kinds of action that a grant names, each by a bit.
 use Rattle.std.specs.Prelude.{ℕ, Bool, ◌==◌, ◌/◌, ◌%◌, ◌^◌, List, [], ◌∷◌, Option, slice_get, codes}
 use Rattle.grants.specs.declared.field.Field.{Field}
-use Rattle.grants.specs.declared.field.Field.TheVariants.{InPort, DlSrc, DlDst, DlVlan, DlVlanPcp, DlType, NwTos, NwProto, NwSrc, NwDst, TpSrc, TpDst}
+use Rattle.grants.specs.declared.field.Field.TheVariants.{InPort, DlSrc, DlDst, DlVlan, DlVlanPcp, DlType, NwTos}
+use Rattle.grants.specs.declared.field.Field.TheVariants.{NwProto, NwSrc, NwDst, TpSrc, TpDst}
 use Rattle.grants.specs.declared.kind.Kind.{Kind}
-use Rattle.grants.specs.declared.kind.Kind.TheVariants.{Output, Controller, Pass, Link, SetDlSrc, SetDlDst, SetNwSrc, SetNwDst, SetNwTos, SetTpSrc, SetTpDst}
+use Rattle.grants.specs.declared.kind.Kind.TheVariants.{Output, Controller, Pass, Link, SetDlSrc, SetDlDst, SetNwSrc}
+use Rattle.grants.specs.declared.kind.Kind.TheVariants.{SetNwDst, SetNwTos, SetTpSrc, SetTpDst}
 
 -- the fields, by their bits from 0
 abbrev pub fields : List Field
@@ -45,7 +47,8 @@ field_name TpDst = codes "tp_dst"
 
 -- the kinds of action, by their bits from 0
 abbrev pub kinds : List Kind
-kinds = Output ∷ Controller ∷ Pass ∷ Link ∷ SetDlSrc ∷ SetDlDst ∷ SetNwSrc ∷ SetNwDst ∷ SetNwTos ∷ SetTpSrc ∷ SetTpDst ∷ []
+kinds = Output ∷ Controller ∷ Pass ∷ Link ∷ SetDlSrc ∷ SetDlDst ∷ SetNwSrc ∷ SetNwDst ∷ SetNwTos ∷ SetTpSrc ∷ SetTpDst
+    ∷ []
 
 -- the kind of a bit
 abbrev pub kind_at : ℕ → Option Kind

@@ -1,5 +1,7 @@
 -- Why a message of a member is denied: the first row that applies.
-use Rattle.std.specs.Prelude.{ℕ, Bool, true, false, ◌==◌, ◌||◌, ◌&&◌, not, nat_lt, nat_le, min, max, List, [], ◌∷◌, length, map, take, ◌-◌, sum_by, find, position, Option, Some, None, is_some, option_map, if◌then◌else◌}
+use Rattle.std.specs.Prelude.{ℕ, Bool, true, false, ◌==◌, ◌||◌, ◌&&◌, not, nat_lt, nat_le, min, max, List, [], ◌∷◌}
+use Rattle.std.specs.Prelude.{length, map, take, ◌-◌, sum_by, find, position, Option, Some, None, is_some, option_map}
+use Rattle.std.specs.Prelude.{if◌then◌else◌}
 use Rattle.std.specs.List.{list_any}
 use Rattle.of10_match.specs.Fields.{HeaderOf, MatchOf}
 use Rattle.of10_match.specs.Wildcards.{normal_of}
@@ -20,10 +22,12 @@ use Rattle.grants.specs.declared.denial.Detail.{Detail}
 use Rattle.grants.specs.declared.denial.Detail.TheVariants.{G1, G2Emerg, G2Kind, G3, G4, G5, G6, G7, G8, G9, G10, G11}
 use Rattle.grants.specs.declared.denial.Why.TheVariants as why
 use Rattle.grants.specs.declared.field.Field.{Field}
-use Rattle.grants.specs.declared.field.Field.TheVariants.{InPort, DlSrc, DlDst, DlVlan, DlVlanPcp, DlType, NwTos, NwProto, NwSrc, NwDst, TpSrc, TpDst}
+use Rattle.grants.specs.declared.field.Field.TheVariants.{InPort, DlSrc, DlDst, DlVlan, DlVlanPcp, DlType, NwTos}
+use Rattle.grants.specs.declared.field.Field.TheVariants.{NwProto, NwSrc, NwDst, TpSrc, TpDst}
 use Rattle.grants.specs.declared.grant.Grant.{Grant}
 use Rattle.grants.specs.declared.kind.Kind.{Kind}
-use Rattle.grants.specs.declared.kind.Kind.TheVariants.{Output, Controller, Pass, Link, SetDlSrc, SetDlDst, SetNwSrc, SetNwDst, SetNwTos, SetTpSrc, SetTpDst}
+use Rattle.grants.specs.declared.kind.Kind.TheVariants.{Output, Controller, Pass, Link, SetDlSrc, SetDlDst, SetNwSrc}
+use Rattle.grants.specs.declared.kind.Kind.TheVariants.{SetNwDst, SetNwTos, SetTpSrc, SetTpDst}
 
 -- the first row that applies
 abbrev pub first_of : List (Option Denial) → Option Denial
@@ -118,7 +122,8 @@ output_kind g port =
 
 -- the kind of an action; VLAN sets, STRIP_VLAN and ENQUEUE have none
 abbrev pub kind_of : Bool → Grant → PortView → Action → Option Kind
-kind_of in_flow g v (actions.Output port max_len) = Some (if is_refused in_flow g v port then Output else output_kind g port)
+kind_of in_flow g v (actions.Output port max_len) =
+    Some (if is_refused in_flow g v port then Output else output_kind g port)
 kind_of in_flow g v (actions.SetDlSrc address) = Some SetDlSrc
 kind_of in_flow g v (actions.SetDlDst address) = Some SetDlDst
 kind_of in_flow g v (actions.SetNwSrc address) = Some SetNwSrc
@@ -166,11 +171,13 @@ count_row g list = when (nat_lt 64 (sum_by (weight g) list)) (G10 (counted (sum_
 -- G7 to G10: G7 is tried on all actions first
 abbrev pub action_rows : Bool → Grant → PortView → List Action → List (Option Denial)
 action_rows in_flow g v list =
-    first_of (map (action_row in_flow g v) list) ∷ first_of (map (output_row in_flow g v) list) ∷ end_row g list ∷ count_row g list ∷ []
+    first_of (map (action_row in_flow g v) list) ∷ first_of (map (output_row in_flow g v) list) ∷ end_row g list
+    ∷ count_row g list ∷ []
 
 -- G4 to G10: what an entry may ask for and do
 abbrev pub entry_rows : Grant → PortView → MatchOf → List Action → List (Option Denial)
-entry_rows g v m list = field_row g m ∷ region_row g m ∷ in_port_row g m.in_port ∷ first_of (action_rows true g v list) ∷ []
+entry_rows g v m list = field_row g m ∷ region_row g m ∷ in_port_row g m.in_port ∷ first_of (action_rows true g v list)
+    ∷ []
 
 -- a DELETE touches the member's own table alone
 abbrev pub is_delete : ℕ → Bool
@@ -179,7 +186,8 @@ is_delete command = (command == 3) || (command == 4)
 -- G1 to G10, of a FLOW_MOD
 abbrev pub flow_rows : Grant → PortView → FlowMod → List (Option Denial)
 flow_rows g v m =
-    command_row m.command ∷ (if is_delete m.command then [] else emergency_row m.flags ∷ buffer_row m.buffer_id ∷ first_of (entry_rows g v (normal_of m.m) m.actions) ∷ [])
+    command_row m.command ∷ (if is_delete m.command then []
+    else emergency_row m.flags ∷ buffer_row m.buffer_id ∷ first_of (entry_rows g v (normal_of m.m) m.actions) ∷ [])
 
 abbrev pub flow_denial : Grant → PortView → FlowMod → Option Denial
 flow_denial g v m = first_of (flow_rows g v m)
@@ -196,7 +204,8 @@ is_port_wrong g m = if nat_lt m.in_port MAX then not (sees g.ports m.in_port) el
 -- G11: packets aren't granted, or the port is wrong, or the header isn't in the region
 abbrev pub packet_rows : Grant → PacketOut → HeaderOf → List (Option Denial)
 packet_rows g m h =
-    when (not g.packet_out) (G11 why.Grant) ∷ when (is_port_wrong g m) (G11 why.Port) ∷ when (not (in_region g h)) (G11 why.Region) ∷ []
+    when (not g.packet_out) (G11 why.Grant) ∷ when (is_port_wrong g m) (G11 why.Port)
+    ∷ when (not (in_region g h)) (G11 why.Region) ∷ []
 
 -- G3 and G7 to G11, of a PACKET_OUT with a header
 abbrev pub out_rows : Grant → PortView → PacketOut → HeaderOf → List (Option Denial)

@@ -27,7 +27,16 @@ linked = record { v = 0; outside = 1 ∷ 2 ∷ []; links = 9 ∷ [] }
 
 -- all fields but dl_vlan_pcp, addresses up to 24 bits, outputs, everywhere
 abbrev pub plain : Grant
-plain = record { fields = 0xfef; src_max = 24; dst_max = 24; actions = 1; ports = four; regions = everything ∷ []; misses = true; packet_out = false }
+plain = record {
+  fields = 0xfef;
+  src_max = 24;
+  dst_max = 24;
+  actions = 1;
+  ports = four;
+  regions = everything ∷ [];
+  misses = true;
+  packet_out = false;
+}
 
 -- the same, with passes and links
 abbrev pub passing : Grant
@@ -42,7 +51,18 @@ abbrev pub two_boxes : Grant
 two_boxes = record plain { regions = to_net 0x0a000000 24 ∷ to_net 0x0a000200 24 ∷ [] }
 
 abbrev pub entry : MatchOf → List Action → FlowMod
-entry m actions = record { m = match_bytes m; cookie = 0; command = 0; idle_timeout = 0; hard_timeout = 0; priority = 100; buffer_id = 0xffffffff; out_port = 65535; flags = 0; actions = actions }
+entry m actions = record {
+  m = match_bytes m;
+  cookie = 0;
+  command = 0;
+  idle_timeout = 0;
+  hard_timeout = 0;
+  priority = 100;
+  buffer_id = 0xffffffff;
+  out_port = 65535;
+  flags = 0;
+  actions = actions;
+}
 
 abbrev pub to : ℕ → Action
 to port = Output port 0
@@ -65,12 +85,16 @@ pub record CommandsFirst : Type 0 where
 pub record FieldsAreGranted : Type 0 where
   pub whole : Lets plain (entry (to_net 0x0a000000 24) (to 1 ∷ []))
   pub longer : Refuses plain (entry (to_net 0x0a000000 25) (to 1 ∷ [])) (G4 9)
-  pub port : Refuses (record plain { fields = 0x7ff }) (entry (record everything { dl_type = Some 0x0800; nw_proto = Some 6; tp_dst = Some 80 }) []) (G4 11)
-  pub tag : Refuses plain (entry (record everything { dl_vlan = Some 5; dl_vlan_pcp = Some 3; in_port = Some 9 }) []) (G4 4)
+  pub port : Refuses (record plain { fields = 0x7ff })
+      (entry (record everything { dl_type = Some 0x0800; nw_proto = Some 6; tp_dst = Some 80 }) []) (G4 11)
+  pub tag : Refuses plain (entry (record everything { dl_vlan = Some 5; dl_vlan_pcp = Some 3; in_port = Some 9 }) [])
+      (G4 4)
 
 -- a match of sources meets both boxes, one of destinations between them none; a port that isn't there
 pub record RegionsAreMet : Type 0 where
-  pub source : Lets two_boxes (entry (record everything { dl_type = Some 0x0800; nw_src = Some (record { addr = 0x0a000100; len = 24 }) }) (to 1 ∷ []))
+  pub source : Lets two_boxes
+      (entry (record everything { dl_type = Some 0x0800; nw_src = Some (record { addr = 0x0a000100; len = 24 }) })
+      (to 1 ∷ []))
   pub second : Lets two_boxes (entry (to_net 0x0a000200 24) (to 1 ∷ []))
   pub between : Refuses two_boxes (entry (to_net 0x0a000100 24) (to 1 ∷ [])) G5
   pub port : Refuses plain (entry (record everything { in_port = Some 5 }) []) (G6 5)
@@ -91,16 +115,31 @@ pub record ActionsInOrder : Type 0 where
 
 -- FLOOD counts as the four ports, and as one where there is none
 abbrev pub floods : List Action
-floods = to 0xfffb ∷ to 0xfffb ∷ to 0xfffb ∷ to 0xfffb ∷ to 0xfffb ∷ to 0xfffb ∷ to 0xfffb ∷ to 0xfffb ∷ to 0xfffb ∷ to 0xfffb ∷ to 0xfffb ∷ to 0xfffb ∷ to 0xfffb ∷ to 0xfffb ∷ to 0xfffb ∷ to 0xfffb ∷ []
+floods = to 0xfffb ∷ to 0xfffb ∷ to 0xfffb ∷ to 0xfffb ∷ to 0xfffb ∷ to 0xfffb ∷ to 0xfffb ∷ to 0xfffb ∷ to 0xfffb
+    ∷ to 0xfffb ∷ to 0xfffb ∷ to 0xfffb ∷ to 0xfffb ∷ to 0xfffb ∷ to 0xfffb ∷ to 0xfffb ∷ []
 
 pub record FloodsAreCounted : Type 0 where
   pub most : Lets plain (entry everything floods)
   pub one_more : Refuses plain (entry everything (to 1 ∷ floods)) (G10 65)
-  pub none : Lets (record plain { ports = record { v = 0; outside = []; links = [] } }) (entry everything (to 0xfffb ∷ floods))
+  pub none : Lets (record plain { ports = record { v = 0; outside = []; links = [] } })
+      (entry everything (to 0xfffb ∷ floods))
 
 -- an IPv4 packet to an address
 abbrev pub packet : ℕ → HeaderOf
-packet addr = record { in_port = 1; dl_src = 1; dl_dst = 2; dl_vlan = 65535; dl_vlan_pcp = 0; dl_type = 0x0800; nw_tos = 0; nw_proto = 6; nw_src = 5; nw_dst = addr; tp_src = 1; tp_dst = 80 }
+packet addr = record {
+  in_port = 1;
+  dl_src = 1;
+  dl_dst = 2;
+  dl_vlan = 65535;
+  dl_vlan_pcp = 0;
+  dl_type = 0x0800;
+  nw_tos = 0;
+  nw_proto = 6;
+  nw_src = 5;
+  nw_dst = addr;
+  tp_src = 1;
+  tp_dst = 80;
+}
 
 abbrev pub send : ℕ → ℕ → PacketOut
 send in_port port = record { buffer_id = 0xffffffff; in_port = in_port; actions = to port ∷ []; bytes = [] }

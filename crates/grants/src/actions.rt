@@ -1,7 +1,10 @@
 //! What of a list of actions is granted.
 ghost use Rattle.std.specs.Prelude.{◌≡◌, length, map, min, nat_lt, position, sum_by, take, ◌-◌, max};
 ghost use Rattle.grants.specs.Denials.{Answers};
-ghost use Rattle.grants.specs.Rows.{action_row, action_rows, count_row, counted as counted_of, end_row, ends_at as ends_at_of, first_of, grants as grants_of, is_end as is_end_of, is_refused as is_refused_of, kind_of as kind_of_of, output_kind as output_kind_of, output_row, weight as weight_of};
+ghost use Rattle.grants.specs.Rows.{action_row, action_rows, count_row, counted as counted_of, end_row};
+ghost use Rattle.grants.specs.Rows.{ends_at as ends_at_of, first_of, grants as grants_of, is_end as is_end_of};
+ghost use Rattle.grants.specs.Rows.{is_refused as is_refused_of, kind_of as kind_of_of, output_kind as output_kind_of};
+ghost use Rattle.grants.specs.Rows.{output_row, weight as weight_of};
 
 use crate::bits::has_bit;
 use crate::check::deny_if;

@@ -4,7 +4,9 @@ ghost use Rattle.std.specs.List.{list_any};
 ghost use Rattle.of10_match.specs.Wildcards.{normal_of};
 ghost use Rattle.grants.specs.Denials.{Answers};
 ghost use Rattle.grants.specs.Granted.{IsGranted, IsGrantedOut};
-ghost use Rattle.grants.specs.Rows.{buffer_row, command_row, emergency_row, entry_rows, first_of, flow_denial, is_delete as is_delete_of, is_port_wrong as is_port_wrong_of, is_to_table as is_to_table_of, kind_row, out_denial, packet_rows, when};
+ghost use Rattle.grants.specs.Rows.{buffer_row, command_row, emergency_row, entry_rows, first_of, flow_denial};
+ghost use Rattle.grants.specs.Rows.{is_delete as is_delete_of, is_port_wrong as is_port_wrong_of};
+ghost use Rattle.grants.specs.Rows.{is_to_table as is_to_table_of, kind_row, out_denial, packet_rows, when};
 
 use crate::actions::check_actions;
 use crate::bits::has_bit;
@@ -73,7 +75,8 @@ fn check_entry(g: &Grant, v: &PortView, m: &Match, actions: &[Action]) -> Result
 /// rule of G1 to G10 that refuses it. A DELETE meets G1 alone.
 pub fn check_flow(g: &Grant, v: &PortView, m: &FlowMod) -> Result<(), Denial>
     ensures denied { Answers (flow_denial g.now v.now m.now) result }
-    ensures granted { OnOk result (is_delete_of m.now.command ≡ false → IsGranted g.now v.now (normal_of m.now.m) m.now.actions) }
+    ensures granted { OnOk result (is_delete_of m.now.command ≡ false
+        → IsGranted g.now v.now (normal_of m.now.m) m.now.actions) }
 {
     check_command(m.command)?;
     if is_delete(m.command) {

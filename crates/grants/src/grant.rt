@@ -1,7 +1,8 @@
 //! Grants, and what a member sees by them.
 ghost use Rattle.std.specs.Prelude.{◌≡◌};
 ghost use Rattle.std.specs.List.{list_all};
-ghost use Rattle.grants.specs.Ports.{in_region as in_region_of, is_one_of as is_one_of_of, meets_region as meets_region_of, sees as sees_of, sees_all as sees_all_of};
+ghost use Rattle.grants.specs.Ports.{in_region as in_region_of, is_one_of as is_one_of_of};
+ghost use Rattle.grants.specs.Ports.{meets_region as meets_region_of, sees as sees_of, sees_all as sees_all_of};
 
 use cv_io::{Duplicate, List, Memory};
 use of10_actions::PortView;

@@ -9,5 +9,6 @@ ghost use Rattle.grants.specs.declared.grant.Grant.{Grant};
 /// the policy: never to TABLE, LOCAL, NONE or a number that names no visible port.
 #[tactic(auto, using(crate::proofs::Accepted::somewhere))]
 pub fn what_is_served_goes_somewhere()
-    ensures { (g : Grant) (v : PortView) (port : ℕ) → is_refused true g v port ≡ false → goes_somewhere g.ports port ≡ true }
+    ensures { (g : Grant) (v : PortView) (port : ℕ) → is_refused true g v port ≡ false
+        → goes_somewhere g.ports port ≡ true }
 {}

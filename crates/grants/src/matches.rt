@@ -2,7 +2,8 @@
 ghost use Rattle.std.specs.Prelude.{◌≡◌, find};
 ghost use Rattle.grants.specs.Denials.{Answers};
 ghost use Rattle.grants.specs.Names.{fields};
-ghost use Rattle.grants.specs.Rows.{field_row, in_port_row, is_beyond as is_beyond_of, is_within as is_within_of, names as names_of, region_row, within as within_of};
+ghost use Rattle.grants.specs.Rows.{field_row, in_port_row, is_beyond as is_beyond_of, is_within as is_within_of};
+ghost use Rattle.grants.specs.Rows.{names as names_of, region_row, within as within_of};
 
 use crate::bits::has_bit;
 use crate::check::deny_if;

@@ -1,5 +1,6 @@
 //! Worked examples, computed by the checker.
-ghost use Rattle.grants.specs.Worked.{ActionsInOrder, CommandsFirst, FieldsAreGranted, FloodsAreCounted, KindsAreServed, PacketsAreGranted, RegionsAreMet};
+ghost use Rattle.grants.specs.Worked.{ActionsInOrder, CommandsFirst, FieldsAreGranted, FloodsAreCounted};
+ghost use Rattle.grants.specs.Worked.{KindsAreServed, PacketsAreGranted, RegionsAreMet};
 
 /// What the rows give in examples.
 pub fn worked_examples()

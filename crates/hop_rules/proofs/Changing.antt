@@ -4,7 +4,8 @@ use Rattle.std.specs.Prelude.{IsPermutation, filter, filter_map}
 use Rattle.std.specs.List.Sorted.{IsStrictlySortedBy}
 use Rattle.std.specs.Ordering.{nat_cmp}
 use Rattle.std.proofs.lemmas.List.{map-append, length-append, length-map}
-use Rattle.std.proofs.lemmas.List.Sorted.{IsPermutation-append_comm, IsPermutation-map, IsPermutation-trans, length_permutation}
+use Rattle.std.proofs.lemmas.List.Sorted.{IsPermutation-append_comm, IsPermutation-map, IsPermutation-trans}
+use Rattle.std.proofs.lemmas.List.Sorted.{length_permutation}
 use Rattle.list_change.proofs.Permute.{by-equation, permuted-filter_map}
 use Rattle.match_index.specs.declared.item.Item.{Item}
 use Rattle.rule_ancestry.specs.Holding.{Held, id_of, is_outside, item_of}
@@ -29,19 +30,23 @@ same-rules : (stays : List Stay) → rules_in (map was_of stays) ≡ rules_in (m
 same-rules [] = refl
 same-rules (s ∷ stays) = ap (λ z. rule_held (is_of s) ∷ z) (same-rules stays)
 
-rules-in-order : (a g m : List (Held Made)) → IsPermutation (rules_in ((a ++ g) ++ m)) (rules_in g ++ (rules_in a ++ rules_in m))
+rules-in-order : (a g m : List (Held Made))
+    → IsPermutation (rules_in ((a ++ g) ++ m)) (rules_in g ++ (rules_in a ++ rules_in m))
 rules-in-order a g m =
     IsPermutation-trans _ _ _ (IsPermutation-map rule_held _ _ (front a g m))
     (by-equation _ _ (map-append rule_held g (a ++ m) ∙ ap (λ z. rules_in g ++ z) (map-append rule_held a m)))
 
-module _ (before now new : List (Held Made)) (lost : List ℕ) (fresh : List Made) (change : ChangeOf) (r : IsReady before now lost fresh change) (p : IsPermutation new (settled r)) where
+module _ (before now new : List (Held Made)) (lost : List ℕ) (fresh : List Made) (change : ChangeOf)
+    (r : IsReady before now lost fresh change) (p : IsPermutation new (settled r)) where
   -- what turned
-  pub ready-turned : (turn : Turn) → turn ≡ record { gone = change.gone; come = change.come } → Turned (rules_in before) (rules_in new) turn.gone turn.come
+  pub ready-turned : (turn : Turn) → turn ≡ record { gone = change.gone; come = change.come }
+      → Turned (rules_in before) (rules_in new) turn.gone turn.come
   ready-turned turn e = record {
     going = rules_in r.going;
     coming = rules_in r.coming;
     kept = rules_in r.kept ++ rules_in (map was_of change.stays);
-    was = IsPermutation-trans _ _ _ (IsPermutation-map rule_held _ _ r.was) (rules-in-order r.kept r.going (map was_of change.stays));
+    was = IsPermutation-trans _ _ _ (IsPermutation-map rule_held _ _ r.was)
+        (rules-in-order r.kept r.going (map was_of change.stays));
     is = IsPermutation-trans _ _ _ (IsPermutation-map rule_held _ _ p)
         (IsPermutation-trans _ _ _ (rules-in-order r.kept r.coming (map is_of change.stays))
         (by-equation _ _ (ap (λ z. rules_in r.coming ++ (rules_in r.kept ++ z)) (sym (same-rules change.stays)))));
@@ -50,8 +55,10 @@ module _ (before now new : List (Held Made)) (lost : List ℕ) (fresh : List Mad
   }
 
   -- all that is told of it
-  pub ready-change : (origins : List Origin) → lost ≡ map id_of (filter (is_held_of origins) before) → (turn : Turn) → turn ≡ record { gone = change.gone; come = change.come } →
-      (left : List Made) → left ≡ map item_of r.going → IsStrictlySortedBy nat_cmp (map id_of new) → IsChange before new origins fresh turn left
+  pub ready-change : (origins : List Origin) → lost ≡ map id_of (filter (is_held_of origins) before) → (turn : Turn)
+      → turn ≡ record { gone = change.gone; come = change.come } →
+      (left : List Made) → left ≡ map item_of r.going → IsStrictlySortedBy nat_cmp (map id_of new)
+      → IsChange before new origins fresh turn left
   unfolding ready-turned
   ready-change origins e turn t left l up = record {
     told = record {
@@ -59,7 +66,8 @@ module _ (before now new : List (Held Made)) (lost : List ℕ) (fresh : List Mad
       rising = subst (IsStrictlySortedBy nat_cmp) (same-ids before) r.rises;
       risen = subst (IsStrictlySortedBy nat_cmp) (same-ids new) up;
       left_are = ap (map rule_of) l ∙ sym (rules-are r.going);
-      apart = settled-apart before now lost fresh change r (map item_of (rules_in r.going)) (map item_of (rules_in r.coming)) (rules-are r.going) (rules-are r.coming);
+      apart = settled-apart before now lost fresh change r (map item_of (rules_in r.going))
+          (map item_of (rules_in r.coming)) (rules-are r.going) (rules-are r.coming);
     };
     items = IsPermutation-trans _ _ _ (IsPermutation-map item_of _ _ p)
         (IsPermutation-trans _ _ _ (settled-items before now lost fresh change r (is_made_of origins) e)
@@ -67,7 +75,8 @@ module _ (before now new : List (Held Made)) (lost : List ℕ) (fresh : List Mad
   }
 
 -- there is room for what comes
-pub come-count : (before now : List (Held Made)) (lost : List ℕ) (fresh : List Made) (change : ChangeOf) (r : IsReady before now lost fresh change) → length change.come ≤ length fresh
+pub come-count : (before now : List (Held Made)) (lost : List ℕ) (fresh : List Made) (change : ChangeOf)
+    (r : IsReady before now lost fresh change) → length change.come ≤ length fresh
 come-count before now lost fresh change r =
     let a = length_permutation fresh _ r.made_are in
     let b = length-map (r.coming ++ map is_of change.stays) item_of in
@@ -77,7 +86,9 @@ come-count before now lost fresh change r =
     omega arith
 
 -- what is found before a turn, once what went is hidden
-pub found-hidden : (items hidden : List Item) (held : List (Held Made)) (turn : Turn) (b : IsFoundBefore items held turn) → IsPermutation hidden (filter_map found (filter (is_outside turn.gone) b.before)) → AreHidden hidden held turn.come
+pub found-hidden : (items hidden : List Item) (held : List (Held Made)) (turn : Turn)
+    (b : IsFoundBefore items held turn)
+    → IsPermutation hidden (filter_map found (filter (is_outside turn.gone) b.before)) → AreHidden hidden held turn.come
 found-hidden items hidden held turn b h =
     let t = b.turned in
     record {
@@ -86,5 +97,7 @@ found-hidden items hidden held turn b h =
       all = t.is;
       ids_are = t.come_are;
       found_are = IsPermutation-trans _ _ _ h
-          (permuted-filter_map found _ _ (subst (λ ids. IsPermutation (filter (is_outside ids) b.before) t.kept) t.gone_are (without-all b.before t.going t.kept b.rising t.was)));
+          (permuted-filter_map found _ _
+          (subst (λ ids. IsPermutation (filter (is_outside ids) b.before) t.kept) t.gone_are
+          (without-all b.before t.going t.kept b.rising t.was)));
     }

@@ -1,5 +1,6 @@
 -- The rules of a node are below its size, normal, and of its port.
-use Rattle.std.proofs.Common.{◌≡◌, ℕ, zero, suc, ◌*◌, Bool, true, false, ◌&&◌, ◌==◌, Option, Some, None, refl, subst, arith}
+use Rattle.std.proofs.Common.{◌≡◌, ℕ, zero, suc, ◌*◌, Bool, true, false, ◌&&◌, ◌==◌, Option, Some, None, refl, subst}
+use Rattle.std.proofs.Common.{arith}
 use Rattle.std.specs.Prelude.{filter_map}
 use Rattle.std.specs.List.{AllByRecursion}
 use Rattle.of10_match.specs.Fields.{MatchOf}
@@ -7,7 +8,8 @@ use Rattle.of10_match.specs.Matching.{agree, at_port, either, overlaps}
 use Rattle.of10_match.proofs.NormalMeet.{IsNormal-both}
 use Rattle.pull_back.specs.Pulling.{pulled}
 use Rattle.pull_back.proofs.Normality.{normal-pulled}
-use Rattle.policy_meaning.specs.Hops.{Fabric, at_node, hop_rule, hop_size, hopped, hops_on, leads, node, peers_size, without_port}
+use Rattle.policy_meaning.specs.Hops.{Fabric, at_node, hop_rule, hop_size, hopped, hops_on, leads, node, peers_size}
+use Rattle.policy_meaning.specs.Hops.{without_port}
 use Rattle.policy_meaning.specs.LeafRules.{rule_met}
 use Rattle.policy_meaning.specs.declared.network.Onward.{Onward}
 use Rattle.policy_meaning.specs.declared.rule.Rule.{Rule}
@@ -55,17 +57,22 @@ module _ (f : Fabric) (own : (v : ℕ) → AllByRecursion (IsOwn (f.sizes v)) (f
     abbrev over : ℕ
     over = peers_size (hop_size f n) (f.links v)
 
-    made-at : (a : Rule) → IsAt size port a → (o : Option Onward) → leads a.tail (f.links v) port ≡ o → AllByRecursion (IsAt (size * over) port) (hops_on o (node f n) over (at_node v port a))
-    made-at a i None e = (record { below = high a.level size over 0 i.below (positive _); normal = i.normal; arrives = i.arrives }, tt)
+    made-at : (a : Rule) → IsAt size port a → (o : Option Onward) → leads a.tail (f.links v) port ≡ o
+        → AllByRecursion (IsAt (size * over) port) (hops_on o (node f n) over (at_node v port a))
+    made-at a i None e =
+        (record { below = high a.level size over 0 i.below (positive _); normal = i.normal; arrives = i.arrives }, tt)
     made-at a i (Some on) e =
         let l = leading a.tail (f.links v) port on e in
         let le = peer-size (hop_size f n) (f.links v) l.by on.place l.peer in
         let there = node f n on.place.v on.place.port in
-        all-filter_map (IsAt (hop_size f n on.place.v) on.place.port) (IsAt (size * over) port) (hop_rule over on.rewrite (at_node v port a)) there
-        (λ b y u ib. let s = some_pulled (hopped over on.rewrite (at_node v port a) b) a.m (without_port b.m) on.rewrite y u in
+        all-filter_map (IsAt (hop_size f n on.place.v) on.place.port) (IsAt (size * over) port)
+        (hop_rule over on.rewrite (at_node v port a)) there
+        (λ b y u ib. let s = some_pulled (hopped over on.rewrite (at_node v port a) b) a.m (without_port b.m) on.rewrite
+        y u in
         subst (IsAt (size * over) port) s.2 (record {
           below = let lb = ib.below in high a.level size over b.level i.below (omega arith);
-          normal = IsNormal-both a.m (pulled on.rewrite (without_port b.m)) s.1 i.normal (normal-pulled on.rewrite (without_port b.m) (normal-without_port b.m ib.normal));
+          normal = IsNormal-both a.m (pulled on.rewrite (without_port b.m)) s.1 i.normal
+              (normal-pulled on.rewrite (without_port b.m) (normal-without_port b.m ib.normal));
           arrives = either-open a.m.in_port port i.arrives;
         }))
         (before on.place.v on.place.port)
@@ -74,6 +81,8 @@ module _ (f : Fabric) (own : (v : ℕ) → AllByRecursion (IsOwn (f.sizes v)) (f
   node-fits zero v port = (record { below = omega arith; normal = normal-everything; arrives = refl }, tt)
   node-fits (suc n) v port =
       let size = f.sizes v in
-      all-flat_map (IsAt size port) (IsAt (hop_size f (suc n) v) port) _ (filter_map (λ a. rule_met a (at_port port)) (f.rules v))
+      all-flat_map (IsAt size port) (IsAt (hop_size f (suc n) v) port) _
+      (filter_map (λ a. rule_met a (at_port port)) (f.rules v))
       (λ a i. made-at n v port (λ u p. node-fits n u p) a i (leads a.tail (f.links v) port) refl)
-      (all-filter_map (IsOwn size) (IsAt size port) (λ a. rule_met a (at_port port)) (f.rules v) (λ x y e o. met-at size port x y e o) (own v))
+      (all-filter_map (IsOwn size) (IsAt size port) (λ a. rule_met a (at_port port)) (f.rules v)
+      (λ x y e o. met-at size port x y e o) (own v))

@@ -11,7 +11,8 @@ pub same-ids : (held : List (Held Made)) → map id_of held ≡ map id_of (rules
 same-ids [] = refl
 same-ids (h ∷ held) = ap (λ z. h.id ∷ z) (same-ids held)
 
-at-cond : (h : Held Made) (o : Option Made) (p : Option Rule) (t : Bool) → option_map rule_of o ≡ p → option_map rule_of (if t then Some h.item else o) ≡ (if t then Some h.item.rule else p)
+at-cond : (h : Held Made) (o : Option Made) (p : Option Rule) (t : Bool) → option_map rule_of o ≡ p
+    → option_map rule_of (if t then Some h.item else o) ≡ (if t then Some h.item.rule else p)
 at-cond h o p true e = refl
 at-cond h o p false e = e
 

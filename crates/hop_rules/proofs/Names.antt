@@ -1,5 +1,6 @@
 -- What goes by the names of what it is made of.
-use Rattle.std.proofs.Common.{◌≡◌, ℕ, Bool, true, false, ◌==◌, ◌||◌, ◌&&◌, not, List, [], ◌∷◌, ◌++◌, Option, Some, None, refl, subst, sym, ap, ◌∙◌, map, cond, inl, inr}
+use Rattle.std.proofs.Common.{◌≡◌, ℕ, Bool, true, false, ◌==◌, ◌||◌, ◌&&◌, not, List, [], ◌∷◌, ◌++◌, Option, Some, None}
+use Rattle.std.proofs.Common.{refl, subst, sym, ap, ◌∙◌, map, cond, inl, inr}
 use Rattle.std.specs.Prelude.{filter, option_map, if◌then◌else◌, IfSome}
 use Rattle.of10_actions.specs.Fields.{RewriteOf}
 use Rattle.of10_actions.specs.declared.effects.Tail.{Tail}
@@ -18,7 +19,8 @@ use Rattle.policy_meaning.specs.declared.rule.Rule.{Rule}
 use Rattle.made_rules.specs.Rules.{is_made_of, is_one_of, same_origin}
 use Rattle.made_rules.specs.declared.made.Made.{Made}
 use Rattle.made_rules.specs.declared.made.Origin.{Origin}
-use Rattle.hop_rules.specs.Nodes.{Arrival, arrived, hop_way, leads_there, lone_by, made_alone, made_of_pair, own, pair_by}
+use Rattle.hop_rules.specs.Nodes.{Arrival, arrived, hop_way, leads_there, lone_by, made_alone, made_of_pair, own}
+use Rattle.hop_rules.specs.Nodes.{pair_by}
 use Rattle.hop_rules.specs.Turns.{gone_at, lost_there}
 use Rattle.hop_rules.specs.Standing.{departing, exit_of, leads_back, leaving, over, standing}
 use Rattle.hop_rules.specs.declared.exits.Exit.{Exit}
@@ -33,28 +35,34 @@ either-of false true false d = refl
 either-of false false c d = refl
 
 module _ (xs ys : List Origin) where
-  any-of-both : (os : List Origin) → list_any (is_one_of (xs ++ ys)) os ≡ (list_any (is_one_of xs) os || list_any (is_one_of ys) os)
+  any-of-both : (os : List Origin) → list_any (is_one_of (xs ++ ys)) os
+      ≡ (list_any (is_one_of xs) os || list_any (is_one_of ys) os)
   any-of-both [] = refl
   any-of-both (o ∷ os) =
       ap (λ z. z || list_any (is_one_of (xs ++ ys)) os) (list_any-append (same_origin o) xs ys)
       ∙ ap (λ z. (is_one_of xs o || is_one_of ys o) || z) (any-of-both os)
       ∙ either-of (is_one_of xs o) (is_one_of ys o) (list_any (is_one_of xs) os) (list_any (is_one_of ys) os)
 
-  neither-cond : {A : Type 0} (a b : Bool) (m : A) (rest : List A) → cond (not (a || b)) (m ∷ rest) rest ≡ cond (not a) (cond (not b) (m ∷ rest) rest) rest
+  neither-cond : {A : Type 0} (a b : Bool) (m : A) (rest : List A)
+      → cond (not (a || b)) (m ∷ rest) rest ≡ cond (not a) (cond (not b) (m ∷ rest) rest) rest
   neither-cond true b m rest = refl
   neither-cond false b m rest = refl
 
-  inner : {A : Type 0} (p q : A → Bool) (m : A) (t : Bool) (ms : List A) → filter q (cond t (m ∷ filter p ms) (filter p ms)) ≡ cond t (cond (q m) (m ∷ filter q (filter p ms)) (filter q (filter p ms))) (filter q (filter p ms))
+  inner : {A : Type 0} (p q : A → Bool) (m : A) (t : Bool) (ms : List A)
+      → filter q (cond t (m ∷ filter p ms) (filter p ms))
+      ≡ cond t (cond (q m) (m ∷ filter q (filter p ms)) (filter q (filter p ms))) (filter q (filter p ms))
   inner p q m true ms = refl
   inner p q m false ms = refl
 
   -- what is made of neither
-  pub neither : (ms : List Made) → filter (λ m. not (is_made_of (xs ++ ys) m)) ms ≡ filter (λ m. not (is_made_of ys m)) (filter (λ m. not (is_made_of xs m)) ms)
+  pub neither : (ms : List Made) → filter (λ m. not (is_made_of (xs ++ ys) m)) ms
+      ≡ filter (λ m. not (is_made_of ys m)) (filter (λ m. not (is_made_of xs m)) ms)
   neither [] = refl
   neither (m ∷ ms) =
       let p = λ (m : Made). not (is_made_of xs m) in
       let q = λ (m : Made). not (is_made_of ys m) in
-      ap (λ t. cond (not t) (m ∷ filter (λ m. not (is_made_of (xs ++ ys) m)) ms) (filter (λ m. not (is_made_of (xs ++ ys) m)) ms)) (any-of-both m.origins)
+      ap (λ t. cond (not t) (m ∷ filter (λ m. not (is_made_of (xs ++ ys) m)) ms)
+      (filter (λ m. not (is_made_of (xs ++ ys) m)) ms)) (any-of-both m.origins)
       ∙ ap (λ z. cond (not (is_made_of xs m || is_made_of ys m)) (m ∷ z) z) (neither ms)
       ∙ neither-cond (is_made_of xs m) (is_made_of ys m) m (filter q (filter p ms))
       ∙ sym (inner p q m (p m) ms)
@@ -80,9 +88,11 @@ both-and : (t a b : Bool) → ((t && a) || (t && b)) ≡ (t && (a || b))
 both-and true a b = refl
 both-and false a b = refl
 
-one-lost : (k id place : ℕ) (gone : List ℕ) → is_one_of (map (arrived place) gone) (arrived k id) ≡ ((k == place) && list_any (λ x. id == x) gone)
+one-lost : (k id place : ℕ) (gone : List ℕ)
+    → is_one_of (map (arrived place) gone) (arrived k id) ≡ ((k == place) && list_any (λ x. id == x) gone)
 one-lost k id place [] = and-none (k == place)
-one-lost k id place (x ∷ gone) = ap (λ z. ((k == place) && (id == x)) || z) (one-lost k id place gone) ∙ both-and (k == place) (id == x) (list_any (λ x. id == x) gone)
+one-lost k id place (x ∷ gone) = ap (λ z. ((k == place) && (id == x)) || z) (one-lost k id place gone)
+    ∙ both-and (k == place) (id == x) (list_any (λ x. id == x) gone)
 
 and-both : (s t a : Bool) → ((s && a) || (t && a)) ≡ ((s || t) && a)
 and-both true t true = refl
@@ -104,11 +114,14 @@ pub or-true : (b c : Bool) → c ≡ true → (b || c) ≡ true
 or-true true c e = refl
 or-true false c e = e
 
-later-there : (e : Exit) (es : List Exit) (o : Option Exit) → IfSome o (λ (f : Exit). leads_there f.place es ≡ true) → IfSome o (λ (f : Exit). leads_there f.place (e ∷ es) ≡ true)
+later-there : (e : Exit) (es : List Exit) (o : Option Exit) → IfSome o (λ (f : Exit). leads_there f.place es ≡ true)
+    → IfSome o (λ (f : Exit). leads_there f.place (e ∷ es) ≡ true)
 later-there e es None i = tt
 later-there e es (Some f) i = or-true (f.place == e.place) _ i
 
-exit-there-by : (e : Exit) (es : List Exit) (o : Option Exit) (t : Bool) → IfSome o (λ (f : Exit). leads_there f.place es ≡ true) → IfSome (if t then Some e else o) (λ (f : Exit). leads_there f.place (e ∷ es) ≡ true)
+exit-there-by : (e : Exit) (es : List Exit) (o : Option Exit) (t : Bool)
+    → IfSome o (λ (f : Exit). leads_there f.place es ≡ true)
+    → IfSome (if t then Some e else o) (λ (f : Exit). leads_there f.place (e ∷ es) ≡ true)
 exit-there-by e es o true i = rw (itself e.place) refl
 exit-there-by e es o false i = later-there e es o i
 
@@ -116,21 +129,26 @@ exit-there : (es : List Exit) (port : ℕ) → IfSome (exit_of es port) (λ (f :
 exit-there [] port = tt
 exit-there (e ∷ es) port = exit-there-by e es (exit_of es port) (e.port == port) (exit-there es port)
 
-over-exit : (es : List Exit) (r : RewriteOf) (o : Option Exit) → IfSome o (λ (f : Exit). leads_there f.place es ≡ true) →
+over-exit : (es : List Exit) (r : RewriteOf) (o : Option Exit) → IfSome o (λ (f : Exit). leads_there f.place es ≡ true)
+    →
     IfSome (option_map (departing r) o) (λ (l : Departure). leads_there l.exit.place es ≡ true)
 over-exit es r None i = tt
 over-exit es r (Some e) i = i
 
-over-there : (es : List Exit) (tail : Tail) → IfSome (over es tail) (λ (l : Departure). leads_there l.exit.place es ≡ true)
+over-there : (es : List Exit) (tail : Tail)
+    → IfSome (over es tail) (λ (l : Departure). leads_there l.exit.place es ≡ true)
 over-there es Nothing = tt
 over-there es (Pass r) = tt
 over-there es (Link r to) = over-exit es r (exit_of es to) (exit-there es to)
 
-unless-back : (es : List Exit) (o : Option Departure) (t : Bool) → IfSome o (λ (l : Departure). leads_there l.exit.place es ≡ true) → IfSome (if t then None else o) (λ (l : Departure). leads_there l.exit.place es ≡ true)
+unless-back : (es : List Exit) (o : Option Departure) (t : Bool)
+    → IfSome o (λ (l : Departure). leads_there l.exit.place es ≡ true)
+    → IfSome (if t then None else o) (λ (l : Departure). leads_there l.exit.place es ≡ true)
 unless-back es o true i = tt
 unless-back es o false i = i
 
-pub leaving-there : (es : List Exit) (port : ℕ) (tail : Tail) → IfSome (leaving es port tail) (λ (l : Departure). leads_there l.exit.place es ≡ true)
+pub leaving-there : (es : List Exit) (port : ℕ) (tail : Tail)
+    → IfSome (leaving es port tail) (λ (l : Departure). leads_there l.exit.place es ≡ true)
 leaving-there es port tail = unless-back es (over es tail) (leads_back port tail) (over-there es tail)
 
 module _ (turns : List Turn) where
@@ -141,44 +159,59 @@ module _ (turns : List Turn) where
       ∙ ap (λ z. z || is_one_of (lost_there turns exits) (own id)) (own-arrived id e.place (gone_at turns e.place))
       ∙ own-elsewhere id exits
 
-  same-place : (k id place : ℕ) (t : Bool) → (k == place) ≡ t → (t && list_any (λ x. id == x) (gone_at turns place)) ≡ (t && list_any (λ x. id == x) (gone_at turns k))
+  same-place : (k id place : ℕ) (t : Bool) → (k == place) ≡ t
+      → (t && list_any (λ x. id == x) (gone_at turns place)) ≡ (t && list_any (λ x. id == x) (gone_at turns k))
   same-place k id place false e = refl
   same-place k id place true e = ap (λ z. list_any (λ x. id == x) (gone_at turns z)) (sym (is-same k place e))
 
-  pub lost-there : (k id : ℕ) (exits : List Exit) → is_one_of (lost_there turns exits) (arrived k id) ≡ (leads_there k exits && list_any (λ x. id == x) (gone_at turns k))
+  pub lost-there : (k id : ℕ) (exits : List Exit)
+      → is_one_of (lost_there turns exits) (arrived k id)
+      ≡ (leads_there k exits && list_any (λ x. id == x) (gone_at turns k))
   lost-there k id [] = refl
   lost-there k id (e ∷ exits) =
       let g = list_any (λ x. id == x) (gone_at turns k) in
-      list_any-append (same_origin (arrived k id)) (map (arrived e.place) (gone_at turns e.place)) (lost_there turns exits)
-      ∙ ap (λ z. z || is_one_of (lost_there turns exits) (arrived k id)) (one-lost k id e.place (gone_at turns e.place) ∙ same-place k id e.place (k == e.place) refl)
+      list_any-append (same_origin (arrived k id)) (map (arrived e.place) (gone_at turns e.place))
+      (lost_there turns exits)
+      ∙ ap (λ z. z || is_one_of (lost_there turns exits) (arrived k id))
+      (one-lost k id e.place (gone_at turns e.place) ∙ same-place k id e.place (k == e.place) refl)
       ∙ ap (λ z. ((k == e.place) && g) || z) (lost-there k id exits)
       ∙ and-both (k == e.place) (leads_there k exits) g
 
 -- ---- what a node makes, without some rules of its virtual switch and of the nodes to which its exits lead
 module _ (size : ℕ) (h : Held Rule) (c : Made) where
-  alone-left : (P : Made → Type 0) → ((r : Rule) → P (made_alone h.id r)) → (a : Rule) (l : Option Departure) → lone_by size h.id a l ≡ Some c → P c
+  alone-left : (P : Made → Type 0) → ((r : Rule) → P (made_alone h.id r)) → (a : Rule) (l : Option Departure)
+      → lone_by size h.id a l ≡ Some c → P c
   alone-left P f a None s = let t : made_alone h.id (hop_lone size a) ≡ c = cc in subst P t (f (hop_lone size a))
   alone-left P f a (Some l) s = absurd (cc)
 
-  alone-by : (P : Made → Type 0) → ((r : Rule) → P (made_alone h.id r)) → (exits : List Exit) (port : ℕ) (o : Option Rule) → option_and_then (λ (a : Rule). lone_by size h.id a (leaving exits port a.tail)) o ≡ Some c → P c
+  alone-by : (P : Made → Type 0) → ((r : Rule) → P (made_alone h.id r))
+      → (exits : List Exit) (port : ℕ) (o : Option Rule)
+      → option_and_then (λ (a : Rule). lone_by size h.id a (leaving exits port a.tail)) o ≡ Some c → P c
   alone-by P f exits port None s = absurd (cc)
   alone-by P f exits port (Some a) s = alone-left P f a (leaving exits port a.tail) s
 
-  made-by : (P : Made → Type 0) (y : Arrival) → ((r : Rule) → P (made_of_pair h.id y r)) → (o : Option Rule) → option_map (made_of_pair h.id y) o ≡ Some c → P c
+  made-by : (P : Made → Type 0) (y : Arrival) → ((r : Rule) → P (made_of_pair h.id y r)) → (o : Option Rule)
+      → option_map (made_of_pair h.id y) o ≡ Some c → P c
   made-by P y f None s = absurd (cc)
   made-by P y f (Some r) s = let t : made_of_pair h.id y r ≡ c = cc in subst P t (f r)
 
-  module _ (exits : List Exit) (y : Arrival) (P : Made → Type 0) (f : leads_there y.place exits ≡ true → (r : Rule) → P (made_of_pair h.id y r)) where
-    pair-there : (a : Rule) (l : Departure) (t : Bool) → (l.exit.place == y.place) ≡ t → leads_there l.exit.place exits ≡ true →
+  module _ (exits : List Exit) (y : Arrival) (P : Made → Type 0) (f : leads_there y.place exits ≡ true → (r : Rule)
+      → P (made_of_pair h.id y r)) where
+    pair-there : (a : Rule) (l : Departure) (t : Bool) → (l.exit.place == y.place) ≡ t
+        → leads_there l.exit.place exits ≡ true →
         (if t then option_map (made_of_pair h.id y) (hop_rule size l.rewrite a y.held.item) else None) ≡ Some c → P c
     pair-there a l false e i s = absurd (cc)
-    pair-there a l true e i s = made-by P y (f (subst (λ k. leads_there k exits ≡ true) (is-same l.exit.place y.place e) i)) (hop_rule size l.rewrite a y.held.item) s
+    pair-there a l true e i s =
+        made-by P y (f (subst (λ k. leads_there k exits ≡ true) (is-same l.exit.place y.place e) i))
+        (hop_rule size l.rewrite a y.held.item) s
 
-    pair-left : (a : Rule) (o : Option Departure) → IfSome o (λ l. leads_there l.exit.place exits ≡ true) → pair_by size h.id a y o ≡ Some c → P c
+    pair-left : (a : Rule) (o : Option Departure) → IfSome o (λ l. leads_there l.exit.place exits ≡ true)
+        → pair_by size h.id a y o ≡ Some c → P c
     pair-left a None i s = absurd (cc)
     pair-left a (Some l) i s = pair-there a l (l.exit.place == y.place) refl i s
 
-    pair-of : (port : ℕ) (o : Option Rule) → option_and_then (λ (a : Rule). pair_by size h.id a y (leaving exits port a.tail)) o ≡ Some c → P c
+    pair-of : (port : ℕ) (o : Option Rule)
+        → option_and_then (λ (a : Rule). pair_by size h.id a y (leaving exits port a.tail)) o ≡ Some c → P c
     pair-of port None s = absurd (cc)
     pair-of port (Some a) s = pair-left a (leaving exits port a.tail) (leaving-there exits port a.tail) s
 
@@ -206,13 +239,19 @@ module _ (at : Place) (size : ℕ) (exits : List Exit) where
       neither (map own gone) (lost_there turns exits) (made w rules ys)
       ∙ ap (filter (without-there turns exits))
       (made-without_left w (without-own gone) (is_outside gone)
-      (λ h c e. alone-by size h c (λ m. without-own gone m ≡ is_outside gone h) (λ r. ap not (or-none _ ∙ own-lost h.id gone)) exits at.port (standing at h.item) e)
+      (λ h c e. alone-by size h c (λ m. without-own gone m ≡ is_outside gone h)
+      (λ r. ap not (or-none _ ∙ own-lost h.id gone)) exits at.port (standing at h.item) e)
       (λ h y c e. pair-of size h c exits y (λ m. without-own gone m ≡ is_outside gone h)
-      (λ i r. ap not (ap (λ z. is_one_of (map own gone) (own h.id) || z) (ap (λ z. z || false) (arrived-own y.place y.held.id gone)) ∙ or-none _ ∙ own-lost h.id gone)) at.port (standing at h.item) e)
+      (λ i r. ap not (ap (λ z. is_one_of (map own gone) (own h.id) || z)
+      (ap (λ z. z || false) (arrived-own y.place y.held.id gone)) ∙ or-none _ ∙ own-lost h.id gone)) at.port
+      (standing at h.item) e)
       (λ y c e. absurd (cc)) rules ys)
       ∙ made-without_right w (without-there turns exits) (stays-there turns)
-      (λ h c e. alone-by size h c (λ m. without-there turns exits m ≡ true) (λ r. ap not (or-none _ ∙ own-elsewhere turns h.id exits)) exits at.port (standing at h.item) e)
+      (λ h c e. alone-by size h c (λ m. without-there turns exits m ≡ true)
+      (λ r. ap not (or-none _ ∙ own-elsewhere turns h.id exits)) exits at.port (standing at h.item) e)
       (λ h y c e. pair-of size h c exits y (λ m. without-there turns exits m ≡ stays-there turns y)
-      (λ i r. ap not (ap (λ z. z || (is_one_of (lost_there turns exits) (arrived y.place y.held.id) || false)) (own-elsewhere turns h.id exits)
-      ∙ or-none _ ∙ lost-there turns y.place y.held.id exits ∙ ap (λ z. z && list_any (λ x. y.held.id == x) (gone_at turns y.place)) i)) at.port (standing at h.item) e)
+      (λ i r. ap not (ap (λ z. z || (is_one_of (lost_there turns exits) (arrived y.place y.held.id) || false))
+      (own-elsewhere turns h.id exits)
+      ∙ or-none _ ∙ lost-there turns y.place y.held.id exits
+      ∙ ap (λ z. z && list_any (λ x. y.held.id == x) (gone_at turns y.place)) i)) at.port (standing at h.item) e)
       (λ y c e. absurd (cc)) (filter (is_outside gone) rules) ys

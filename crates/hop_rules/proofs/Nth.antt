@@ -1,5 +1,6 @@
 -- The item at a place, between those before it and those after it.
-use Rattle.std.proofs.Common.{◌≡◌, ℕ, zero, suc, ◌+◌, ◌<◌, List, [], ◌∷◌, ◌++◌, length, take, drop, get_or, map, refl, sym, ap, subst, ◌∙◌, arith}
+use Rattle.std.proofs.Common.{◌≡◌, ℕ, zero, suc, ◌+◌, ◌<◌, List, [], ◌∷◌, ◌++◌, length, take, drop, get_or, map, refl}
+use Rattle.std.proofs.Common.{sym, ap, subst, ◌∙◌, arith}
 use Rattle.rule_ancestry.specs.Holding.{Held, id_of}
 
 module _ {X : Type 0} where
@@ -35,11 +36,13 @@ module _ {X : Type 0} where
       }
 
 module _ {R : Type 0} where
-  get-mapped : (hs : List (Held R)) (i : ℕ) (h : Held R) (d : ℕ) → i < length hs → ((e : Held R) → get_or hs i e ≡ h) → get_or (map id_of hs) i d ≡ h.id
+  get-mapped : (hs : List (Held R)) (i : ℕ) (h : Held R) (d : ℕ) → i < length hs → ((e : Held R) → get_or hs i e ≡ h)
+      → get_or (map id_of hs) i d ≡ h.id
   get-mapped [] i h d lt f = absurd (omega arith)
   get-mapped (x ∷ hs) zero h d lt f = ap id_of (f x)
   get-mapped (x ∷ hs) (suc i) h d lt f = get-mapped hs i h d (omega arith) f
 
   -- its id, in a list of ids
-  pub id-at : (hs : List (Held R)) (ids : List ℕ) (i d : ℕ) (lt : i < length hs) → map id_of hs ≡ ids → get_or ids i d ≡ (nth hs i lt).item.id
+  pub id-at : (hs : List (Held R)) (ids : List ℕ) (i d : ℕ) (lt : i < length hs) → map id_of hs ≡ ids
+      → get_or ids i d ≡ (nth hs i lt).item.id
   id-at hs ids i d lt e = ap (λ z. get_or z i d) (sym e) ∙ get-mapped hs i (nth hs i lt).item d lt (nth hs i lt).at

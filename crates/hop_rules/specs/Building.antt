@@ -1,5 +1,6 @@
 -- The levels of a table without rules, and how many levels the rules have there.
-use Rattle.std.specs.Prelude.{◌≡◌, ℕ, Bool, true, false, ◌<◌, ◌≤◌, ◌^◌, List, [], ◌∷◌, Option, Some, None, if◌then◌else◌}
+use Rattle.std.specs.Prelude.{◌≡◌, ℕ, Bool, true, false, ◌<◌, ◌≤◌, ◌^◌, List, [], ◌∷◌, Option, Some, None}
+use Rattle.std.specs.Prelude.{if◌then◌else◌}
 use Rattle.std.specs.Prelude.{length, map, slice_index_or, suc}
 use Rattle.std.specs.List.{AllByRecursion}
 use Rattle.policy_meaning.specs.Hops.{Fabric, hop_size, last_rule, peers_size}
@@ -47,7 +48,8 @@ arrival_stand peers e = record { at = e.peer; size = size_at peers e.peer.v }
 -- an outside port, if its virtual switch isn't whole
 abbrev pub outside_stand : List Bool → List ℕ → ℕ → ℕ → Option Stand
 outside_stand whole peers v port =
-    if slice_index_or whole v false then None else Some (record { at = record { v = v; port = port }; size = size_at peers v })
+    if slice_index_or whole v false then None
+    else Some (record { at = record { v = v; port = port }; size = size_at peers v })
 
 abbrev pub joint_stand : List Bool → List ℕ → Joint → Option Stand
 joint_stand whole peers j = outside_stand whole peers j.0.0 j.0.1

@@ -18,7 +18,8 @@ use Rattle.hop_rules.specs.declared.node.Turn.{Turn}
 abbrev pub came_to : List GivenOf → Event → ℕ → List Rule
 came_to gs e v = map item_of (under (given_at gs v).rules (turn_at e v).come)
 
--- The rules of the virtual switches changed, as an event says, and the nodes of n hops with them, as the turns say; those
+-- The rules of the virtual switches changed, as an event says, and the nodes of n hops with them, as the turns say;
+-- those
 -- above haven't yet.
 pub record IsBelow (f : Fabric) (rules : ℕ → List Rule) (es : List LinkEnd) (n : ℕ) (old new : List GivenOf)
     (before below : List NodeOf) (levels : List Level) (top : Level) (e : Event) (turns : List Turn) : Type 0 where

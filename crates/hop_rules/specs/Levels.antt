@@ -90,11 +90,13 @@ node_cost gs below e turns s =
 
 -- The nodes of some places changed, as those of the virtual switches and those below did: what each held were the rules
 -- that it was to make, and now they are those that it is to make.
-pub record AreTurnedNodes (gs : List GivenOf) (below : List NodeOf) (e : Event) (turns : List Turn) (stands : List Stand)
+pub record AreTurnedNodes (gs : List GivenOf) (below : List NodeOf) (e : Event) (turns : List Turn)
+    (stands : List Stand)
     (first last : List NodeOf) (tolds : List Told) : Type 0 where
   pub made : (old : List GivenOf) → (nodes : List NodeOf) → IsEvent old gs e
       → AllByRecursion (AreTurnedAt gs nodes below turns) stands → (k : ℕ) → k < length stands
-      → IsMadeAt old nodes (stand_at stands k) (held_at first k) → IsMadeAt gs below (stand_at stands k) (held_at last k)
+      → IsMadeAt old nodes (stand_at stands k) (held_at first k)
+      → IsMadeAt gs below (stand_at stands k) (held_at last k)
   pub told : AreTold first last tolds
   pub read : map (λ (m : NodeOf). m.read) last ≡ map (λ (m : NodeOf). m.read) first
 

@@ -1,5 +1,6 @@
 //! The parts of a table without rules.
-ghost use Rattle.std.specs.Prelude.{◌≡◌, ◌+◌, ◌*◌, ◌<◌, ◌≤◌, ◌^◌, ℕ, IfOk, List, OnOk, false, filter_map, length, map, slice_index_or};
+ghost use Rattle.std.specs.Prelude.{◌≡◌, ◌+◌, ◌*◌, ◌<◌, ◌≤◌, ◌^◌, ℕ, IfOk, List, OnOk, false, filter_map, length, map};
+ghost use Rattle.std.specs.Prelude.{slice_index_or};
 ghost use Rattle.std.specs.Prelude.{suc, true};
 ghost use Rattle.std.specs.List.{AllByRecursion};
 ghost use Rattle.policy_meaning.specs.Hops.{Fabric, peers_size as peers_size_of};

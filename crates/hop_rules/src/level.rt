@@ -2,7 +2,8 @@
 ghost use Rattle.std.specs.Prelude.{◌≡◌, ◌==◌, ◌+◌, ◌<◌, ◌≤◌, IfOk, List, OnOk, length, sum_by};
 ghost use Rattle.std.specs.List.{AllByRecursion};
 ghost use Rattle.hop_rules.specs.Handed.{GivenOf};
-ghost use Rattle.hop_rules.specs.Levels.{AreTurnedAt, AreTurnedNodes, IsEvent, IsMadeAt, IsReadyAt, IsTurned, node_cost};
+ghost use Rattle.hop_rules.specs.Levels.{AreTurnedAt, AreTurnedNodes, IsEvent, IsMadeAt, IsReadyAt, IsTurned};
+ghost use Rattle.hop_rules.specs.Levels.{node_cost};
 ghost use Rattle.hop_rules.specs.Levels.{turn_at};
 ghost use Rattle.hop_rules.specs.Nodes.{NodeOf};
 ghost use Rattle.hop_rules.specs.Turns.{IsTold};
@@ -103,7 +104,8 @@ fn change_nodes<G: Ledger>(
 ) -> Result<List<Told>, Memory>
     requires count { length nodes.old ≡ length stands.now }
     requires ready { AllByRecursion (IsReadyAt given.now below.now) stands.now }
-    ensures turned { IfOk result (AreTurnedNodes given.now below.now event.now turns.now stands.now nodes.old nodes.new) }
+    ensures turned { IfOk result
+        (AreTurnedNodes given.now below.now event.now turns.now stands.now nodes.old nodes.new) }
     ensures steps { (old : List GivenOf) → IsEvent old given.now event.now
         → steps.new ≤ steps.old + sum_by (node_cost given.now below.now event.now turns.now) stands.now }
 {

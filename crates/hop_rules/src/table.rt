@@ -1,5 +1,6 @@
 //! The rules of the ports of virtual switches.
-ghost use Rattle.std.specs.Prelude.{◌≡◌, ◌+◌, ◌<◌, ◌≤◌, ◌^◌, ◌++◌, ◌∷◌, [], Contains, IfOk, IsPermutation, List, OnErr, OnOk, ℕ};
+ghost use Rattle.std.specs.Prelude.{◌≡◌, ◌+◌, ◌<◌, ◌≤◌, ◌^◌, ◌++◌, ◌∷◌, [], Contains, IfOk, IsPermutation, List, OnErr};
+ghost use Rattle.std.specs.Prelude.{OnOk, ℕ};
 ghost use Rattle.std.specs.Prelude.{false, length, map, true};
 ghost use Rattle.std.specs.List.{AllByRecursion};
 ghost use Rattle.list_change.specs.Changes.{Apart};
@@ -9,7 +10,8 @@ ghost use Rattle.policy_meaning.specs.declared.rule.Rule.{Rule};
 ghost use Rattle.hop_rules.specs.Counts.{change_steps};
 ghost use Rattle.hop_rules.specs.Links.{ends as ends_of};
 ghost use Rattle.hop_rules.specs.Kept.{IsKept, rules_of, with_rules};
-ghost use Rattle.hop_rules.specs.Tables.{AreDeltas, AreOfPorts, IsHanded, MayCome, TableOf, empty_table, fabric, is_whole};
+ghost use Rattle.hop_rules.specs.Tables.{AreDeltas, AreOfPorts, IsHanded, MayCome, TableOf, empty_table, fabric};
+ghost use Rattle.hop_rules.specs.Tables.{is_whole};
 ghost use Rattle.hop_rules.specs.Tables.{own_ports, port_rules, rules_at as rules_held};
 
 use crate::building::{last_nodes, level_of, levels_below, none_given, outside_stands, whole_at};
@@ -47,9 +49,24 @@ impl Model for HopTable {
 
     ghost Value = { TableOf };
 
-    ghost view = { λ t. record { plan = t.topology; sizes = t.sizes; hops = t.hops; whole = t.whole; rules = rules_of t.parts.given; lost = t.is_lost } };
+    ghost view = { λ t. record {
+      plan = t.topology;
+      sizes = t.sizes;
+      hops = t.hops;
+      whole = t.whole;
+      rules = rules_of t.parts.given;
+      lost = t.is_lost;
+    } };
 
-    ghost invariant = { λ t. t.is_lost ≡ false → IsKept (record { plan = t.topology; sizes = t.sizes; hops = t.hops; whole = t.whole; rules = rules_of t.parts.given; lost = t.is_lost }) t.parts };
+    ghost invariant = { λ t. t.is_lost ≡ false
+        → IsKept (record {
+          plan = t.topology;
+          sizes = t.sizes;
+          hops = t.hops;
+          whole = t.whole;
+          rules = rules_of t.parts.given;
+          lost = t.is_lost;
+        }) t.parts };
 }
 
 /// The parts of a table without rules.
@@ -64,7 +81,8 @@ fn parts_of(
     requires sizes { length sizes.now ≡ length topology.now.virtuals }
     requires whole { length whole.now ≡ length topology.now.virtuals }
     requires fits { (v : ℕ) → hop_size (fabric (empty_table topology.now sizes.now hops whole.now)) hops v < 2 ^ 64 }
-    ensures kept { IfOk result (λ parts. IsKept (with_rules (empty_table topology.now sizes.now hops whole.now) parts.given) parts) }
+    ensures kept { IfOk result
+        (λ parts. IsKept (with_rules (empty_table topology.now sizes.now hops whole.now) parts.given) parts) }
     ensures empty { IfOk result (λ parts. rules_of parts.given ≡ map (λ v. []) sizes.now) }
 {
     // That there are few virtual switches.
@@ -99,18 +117,24 @@ impl HopTable {
         requires sizes { length sizes ≡ length topology.virtuals }
         requires whole { length whole ≡ length topology.virtuals }
         requires fits { (v : ℕ) → hop_size (fabric (empty_table topology sizes hops whole)) hops v < 2 ^ 64 }
-        ensures { IfOk result (λ t. t ≡ record (empty_table topology sizes hops whole) { rules = map (λ v. []) sizes }) }
+        ensures { IfOk result
+            (λ t. t ≡ record (empty_table topology sizes hops whole) { rules = map (λ v. []) sizes }) }
     {
-        let parts = parts_of(alloc, &topology, sizes.as_slice(), hops, whole.as_slice())?;
-        Ok(HopTable {
-            alloc,
-            topology,
-            sizes,
-            hops,
-            whole,
-            parts,
-            is_lost: false,
-        })
+        match parts_of(alloc, &topology, sizes.as_slice(), hops, whole.as_slice()) {
+            Ok(parts) => Ok(HopTable {
+                alloc,
+                topology,
+                sizes,
+                hops,
+                whole,
+                parts,
+                is_lost: false,
+            }),
+            Err(memory) => {
+                drop(topology);
+                Err(memory)
+            }
+        }
     }
 
     /// Whether want of memory stopped a change halfway: then the table is to be made anew.

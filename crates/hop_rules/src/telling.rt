@@ -162,7 +162,8 @@ pub(crate) fn whole_delta(
     v: u32,
     delta: &RuleDelta,
 ) -> Result<List<PortDelta>, Memory>
-    ensures { IfOk result (λ deltas. deltas ≡ record { v = v; port = 0; gone = delta.now.gone; come = delta.now.come } ∷ []) }
+    ensures { IfOk result (λ deltas. deltas ≡ record { v = v; port = 0; gone = delta.now.gone; come = delta.now.come }
+        ∷ []) }
 {
     let mut deltas = List::new(alloc);
     deltas.push(PortDelta {

@@ -1,22 +1,24 @@
 -- What comes of a draft that is put is what comes of the event's draft.
 use Rattle.std.proofs.Common.{◌≡◌, ℕ, ◌-◌, ◌<◌, ◌^◌, Bool, true, length, map, sym, ap, ap₂, ◌∙◌, subst}
 use Rattle.std.specs.Prelude.{◌==◌}
-use Rattle.std.specs.Prelude.{Result, Ok, Err, IfSome, OnErr, OnOk, Option}
+use Rattle.std.specs.Prelude.{IfSome, Option}
 use Rattle.std.proofs.lemmas.List.{length-map}
 use Rattle.composed_tables.specs.Composing.{ComposedOf}
 use Rattle.policy_file.specs.Policies.{PolicyOf}
 use Rattle.stats_map.specs.Changes.{CanMake, made}
 use Rattle.stats_map.specs.Told.{HeldOf}
-use Rattle.machine_drafts.specs.Closings.{closing_of}
+use Rattle.event_ends.specs.Closings.{closing_of}
 use Rattle.hyper_core.specs.Drafting.{IsDraftOf, IsPutOf, bases_at}
 use Rattle.machine_meaning.specs.Drafts.{Draft}
-use Rattle.hyper_core.specs.Kept.{IsComposedOf}
+use Rattle.event_composes.specs.Kept.{IsComposedOf}
 use Rattle.machine_drafts.specs.Machines.{HasAll, bases_of, state_in_held}
 use Rattle.machine_drafts.specs.Moments.{moment_of}
-use Rattle.machine_drafts.specs.Moving.{AreParts, member_moved, moved_in, switch_moved}
+use Rattle.machine_drafts.specs.Moving.{member_moved, switch_moved}
+use Rattle.event_ends.specs.MovingIn.{AreParts, moved_in}
 use Rattle.machine_drafts.specs.Outcomes.{Bases, IsBefore, bases, draft_in}
 use Rattle.machine_meaning.specs.Phases.{both, draft_of, drafted, is_empty, overfilled, settled_of, slow, slow_from}
-use Rattle.machine_drafts.specs.Puts.{HaveNumbers, IsPut, with_counts}
+use Rattle.event_ends.specs.Puts.{IsPut, with_counts}
+use Rattle.machine_drafts.specs.Outcomes.{HaveNumbers}
 use Rattle.machine_meaning.specs.Putting.{put}
 use Rattle.machine_meaning.specs.Rounds.{Closing}
 use Rattle.machine_meaning.specs.States.{State}
@@ -25,14 +27,14 @@ use Rattle.machine_drafts.specs.Views.{member_of, switch_of}
 use Rattle.events.specs.declared.event.Event.{Event}
 use Rattle.events.specs.declared.event.Reply.{Reply}
 use Rattle.machine_drafts.specs.declared.held.Held.{Held}
-use Rattle.machine_drafts.specs.declared.moving.Parts.{Parts}
+use Rattle.event_ends.specs.declared.moving.Parts.{Parts}
 use Rattle.machine_drafts.specs.declared.outcome.Outcome.{Outcome}
-use Rattle.machine_drafts.specs.declared.overfilled.Closing.{Closing as ClosingHeld}
-use Rattle.machine_drafts.specs.declared.putting.Drafted.{Drafted}
-use Rattle.machine_drafts.specs.declared.putting.Trial.{Trial}
-use Rattle.machine_drafts.specs.declared.putting.Trial.TheVariants.{Ready, Slow}
+use Rattle.event_ends.specs.declared.overfilled.Closing.{Closing as ClosingHeld}
+use Rattle.event_ends.specs.declared.putting.Drafted.{Drafted}
+use Rattle.event_ends.specs.declared.putting.Trial.{Trial}
+use Rattle.event_ends.specs.declared.putting.Trial.TheVariants.{Ready, Slow}
 use Rattle.machine_drafts.proofs.Parted.{length-after_parts}
-use Rattle.hyper_core.proofs.Phased.{slow_more, slow_settled, stands_before}
+use Rattle.event_composes.proofs.Phased.{slow_more, slow_settled, stands_before}
 
 pub put_at : (p : PolicyOf) (h : Held) (e : Event) (c : Closing) (last : Bool) (o : Outcome) (r : Trial)
     → draft_in o ≡ draft_of p (state_in_held h) e c → bases o ≡ bases_at h e → IsPut p o last r → IsPutOf p h e c last r
@@ -99,7 +101,8 @@ held_with h counts = record h { counts = counts }
 
 -- what is made ready can be moved into what is held then, and gives the state in which all is put
 pub drafted_moves : (p : PolicyOf) (h : Held) (e : Event) (d : Draft) (x : Drafted) (counts : HeldOf)
-    → IsDraftOf h e d p x → counts ≡ made x.counts h.counts → AreParts (bases_of x.parts.moment (held_with h counts)) x.parts
+    → IsDraftOf h e d p x → counts ≡ made x.counts h.counts
+    → AreParts (bases_of x.parts.moment (held_with h counts)) x.parts
 drafted_moves p h e d x counts i made = record {
   all_members = i.parts.all_members;
   all_switches = i.parts.all_switches;
@@ -109,7 +112,8 @@ drafted_moves p h e d x counts i made = record {
 }
 
 pub drafted_gives : (p : PolicyOf) (h : Held) (e : Event) (d : Draft) (x : Drafted) (counts : HeldOf)
-    → IsDraftOf h e d p x → counts ≡ made x.counts h.counts → moved_in (bases_of x.parts.moment (held_with h counts)) x.parts ≡ put p d
+    → IsDraftOf h e d p x → counts ≡ made x.counts h.counts
+    → moved_in (bases_of x.parts.moment (held_with h counts)) x.parts ≡ put p d
 drafted_gives p h e d x counts i is =
     ap (λ (c : HeldOf). moved_in (bases_of x.parts.moment (held_with h c)) x.parts) is
     ∙ (ap (λ m. moved_in (with_counts x (bases_of m h)) x.parts) i.moment ∙ i.state)
@@ -149,12 +153,3 @@ kept_drafted p h s e c n x k same put rest i =
     let all : c ≡ slow p s e =
     sym (slow_settled p (state_in_held h) e c n put.1) ∙ (ap (λ z. slow_from n p z e c) same ∙ rest) in
     subst (λ (z : Closing). IfSome k (IsComposedOf p (settled_of p s e z).state)) all i
-
--- what holds in any case holds where memory is wanted, and where there is a result
-pub in_any_case : {T E P : Type 0} (r : Result T E) → P → OnErr r P
-in_any_case (Ok x) p = tt
-in_any_case (Err e) p = p
-
-pub in_ok_case : {T E P : Type 0} (r : Result T E) → P → OnOk r P
-in_ok_case (Ok x) p = p
-in_ok_case (Err e) p = tt

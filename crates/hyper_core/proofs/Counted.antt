@@ -5,11 +5,11 @@ use Rattle.stats_map.specs.Pending.{ended_now}
 use Rattle.switch_meaning.specs.Counts.{Numbers}
 use Rattle.switch_state.specs.Known.{KnownOf}
 use Rattle.waitings.specs.declared.state.Waiting.{Waiting}
-use Rattle.machine_drafts.proofs.Exchanged.{last_once}
-use Rattle.machine_drafts.specs.CookieCounts.{AreLast, counts_in, removal_counts, with_counts}
-use Rattle.machine_drafts.specs.declared.heard.Heard.{Heard}
-use Rattle.machine_drafts.specs.declared.heard.Heard.TheVariants as heards
-use Rattle.machine_drafts.specs.declared.hearing.CookieCount.{CookieCount}
+use Rattle.event_acts.proofs.Exchanged.{last_once}
+use Rattle.event_acts.specs.CookieCounts.{AreLast, counts_in, removal_counts, with_counts}
+use Rattle.event_acts.specs.declared.heard.Heard.{Heard}
+use Rattle.event_acts.specs.declared.heard.Heard.TheVariants as heards
+use Rattle.event_acts.specs.declared.hearing.CookieCount.{CookieCount}
 
 pub last_are_counted : (waiting : List Waiting) (known : KnownOf) (n : ℕ) (heard : Heard) (counts : CountsOf)
     → AreLast n known heard (with_counts n (counts_in waiting known n heard) counts)

@@ -7,16 +7,16 @@ use Rattle.cv_io.specs.declared.leaf.Who.TheVariants.{Audit, Member, Switch}
 use Rattle.stats_map.specs.Counting.{CountsOf}
 use Rattle.hyper_core.proofs.Counted.{last_are_counted}
 use Rattle.hyper_core.proofs.Reports.{counts_are_reported}
-use Rattle.machine_drafts.specs.CookieCounts.{AreLast, counts_in, with_counts}
-use Rattle.machine_drafts.specs.Heard.{heard_in}
+use Rattle.event_acts.specs.CookieCounts.{AreLast, counts_in, with_counts}
+use Rattle.event_acts.specs.Heard.{heard_in}
 use Rattle.machine_meaning.specs.Hearing.{counts_told, heard, reports_from, reports_in_frame}
 use Rattle.machine_drafts.specs.Machines.{at_moment}
-use Rattle.machine_drafts.specs.Overtaking.{AreTakenOver, IsHeardOf, IsTakenOver}
+use Rattle.event_acts.specs.Overtaking.{AreTakenOver, IsHeardOf, IsTakenOver}
 use Rattle.machine_meaning.specs.States.{State, SwitchOf}
 use Rattle.events.specs.declared.event.Event.{Event}
 use Rattle.events.specs.declared.event.Event.TheVariants.{Up, Msg, Gone, Tick, Take, Policy}
-use Rattle.machine_drafts.specs.declared.heard.Heard.{Heard}
-use Rattle.machine_drafts.specs.declared.hearing.CookieCount.{CookieCount}
+use Rattle.event_acts.specs.declared.heard.Heard.{Heard}
+use Rattle.event_acts.specs.declared.hearing.CookieCount.{CookieCount}
 
 module _ (s : State) (n : ℕ) (frame : List ℕ) (session : Session) (is : session.who ≡ Switch n) where
   -- what is reported is told

@@ -17,14 +17,14 @@ use Rattle.stats_map.specs.Counting.{CountsOf, reported}
 use Rattle.switch_state.specs.Reports.{removal}
 use Rattle.switch_state.specs.declared.removal.Removal.{Removal}
 use Rattle.switch_state.specs.declared.removal.Removal.TheVariants.{Ignored, Strange, Taken}
-use Rattle.machine_drafts.specs.CookieCounts.{counts_in, entry_count, removal_counts, with_count, with_counts}
-use Rattle.machine_drafts.specs.Heard.{body_heard, heard_in, part_heard, read_heard, reply_heard}
+use Rattle.event_acts.specs.CookieCounts.{counts_in, entry_count, removal_counts, with_count, with_counts}
+use Rattle.event_acts.specs.Heard.{body_heard, heard_in, part_heard, read_heard, reply_heard}
 use Rattle.machine_meaning.specs.Hearing.{counts_told, flow_report, reports_in_body, reports_in_frame, reports_in_part}
 use Rattle.machine_meaning.specs.Hearing.{reports_in_read, reports_in_removal, reports_in_reply}
 use Rattle.waitings.specs.Waitings.{waits_for_flows}
 use Rattle.machine_meaning.specs.States.{State, SwitchOf}
 use Rattle.machine_meaning.specs.SwitchMessages.{is_ignored}
-use Rattle.machine_drafts.specs.declared.heard.Heard.TheVariants.{Nothing}
+use Rattle.event_acts.specs.declared.heard.Heard.TheVariants.{Nothing}
 
 -- the numbers of entries
 entries_alike : (n : ℕ) (es : List FlowStat) (counts : CountsOf)

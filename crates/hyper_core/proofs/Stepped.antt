@@ -10,22 +10,22 @@ use Rattle.machine_meaning.specs.Events.{IsEvent}
 use Rattle.machine_meaning.specs.Glances.{glance_of}
 use Rattle.machine_meaning.specs.Hearing.{heard}
 use Rattle.machine_meaning.specs.Laws.{SoundnessIsKept}
-use Rattle.machine_drafts.specs.CookieCounts.{with_counts}
-use Rattle.hyper_core.specs.Kept.{IsKept, IsSoundWhile}
+use Rattle.event_acts.specs.CookieCounts.{with_counts}
+use Rattle.event_composes.specs.Kept.{IsKept, IsSoundWhile}
 use Rattle.machine_drafts.specs.Machines.{HasAll, holding_of, state_held, state_in_held}
 use Rattle.machine_drafts.specs.Moments.{taking_in}
 use Rattle.machine_meaning.specs.Phases.{drafted}
 use Rattle.machine_meaning.specs.States.{State}
 use Rattle.machine_meaning.specs.Steps.{done, proceed, step_by, step_of}
 use Rattle.machine_meaning.specs.Takings.{left_after, left_by, takes}
-use Rattle.hyper_core.specs.Settled.{IsSettledState}
+use Rattle.event_composes.specs.Settled.{IsSettledState}
 use Rattle.events.specs.declared.event.Event.{Event}
 use Rattle.events.specs.declared.event.Reply.{Reply}
 use Rattle.machine_drafts.specs.declared.held.Held.{Held}
-use Rattle.machine_drafts.specs.declared.hearing.CookieCount.{CookieCount}
+use Rattle.event_acts.specs.declared.hearing.CookieCount.{CookieCount}
 use Rattle.hyper_core.proofs.Attempts.{has_all_kept}
-use Rattle.hyper_core.proofs.KeptOn.{kept_none, kept_taken, sound_stepped}
-use Rattle.hyper_core.proofs.StaysSettled.{drafted_settled, left_settled}
+use Rattle.event_composes.proofs.KeptOn.{kept_none, kept_taken, sound_stepped}
+use Rattle.event_composes.proofs.StaysSettled.{drafted_settled, left_settled}
 use Rattle.events.specs.declared.event.Event.TheVariants.{Up, Msg, Gone, Tick, Take, Policy}
 
 proceed_taking : (p : PolicyOf) (s : State) (e : Event) (session : Session) → taking_in e ≡ Some session

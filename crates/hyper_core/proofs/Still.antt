@@ -39,9 +39,9 @@ use Rattle.machine_meaning.specs.Settings.{setting_of, ups_with}
 use Rattle.machine_meaning.specs.States.{MemberOf, State}
 use Rattle.machine_meaning.specs.Steps.{step_of}
 use Rattle.machine_meaning.proofs.Quiet.{same_tables}
-use Rattle.hyper_core.specs.Costs.{IsStill, StillTakesNone, building_steps_of, cost_in, followed_cost}
-use Rattle.hyper_core.specs.Costs.{sum_below, turning_steps, turning_steps_at, unless_still}
-use Rattle.hyper_core.specs.Meanings.{state_in}
+use Rattle.event_composes.specs.Costs.{IsStill, StillTakesNone, building_steps_of, cost_in, followed_cost}
+use Rattle.event_composes.specs.Costs.{sum_below, turning_steps, turning_steps_at, unless_still}
+use Rattle.event_composes.specs.Meanings.{state_in}
 
 -- nothing comes -----------------------------------------------------------------------------------------------------
 

@@ -4,7 +4,7 @@ use Rattle.std.specs.Prelude.{◌&&◌, is_some}
 use Rattle.of10_frames.specs.Frames.{IsFrame}
 use Rattle.policy_file.specs.Policies.{PolicyOf}
 use Rattle.machine_meaning.specs.Glances.{closed_unless, glance_of, is_frame, is_present}
-use Rattle.machine_drafts.specs.Overtaking.{IsWhole}
+use Rattle.event_acts.specs.Overtaking.{IsWhole}
 use Rattle.machine_meaning.specs.States.{State}
 use Rattle.events.specs.declared.event.Event.{Event}
 use Rattle.events.specs.declared.event.Event.TheVariants.{Up, Msg, Gone, Tick, Take, Policy}

@@ -2,23 +2,23 @@
 use Rattle.std.specs.Prelude.{◌≡◌, Bool, true, false}
 use Rattle.stats_map.specs.Changes.{CanMake}
 use Rattle.policy_file.specs.Policies.{PolicyOf}
-use Rattle.machine_drafts.specs.Closings.{closing_of}
+use Rattle.event_ends.specs.Closings.{closing_of}
 use Rattle.machine_meaning.specs.Acting.{act_on}
 use Rattle.machine_meaning.specs.Drafts.{Draft}
 use Rattle.machine_drafts.specs.Machines.{bases_of, state_in_held}
 use Rattle.machine_drafts.specs.Moments.{moment_of}
-use Rattle.machine_drafts.specs.Moving.{AreParts, moved_in}
+use Rattle.event_ends.specs.MovingIn.{AreParts, moved_in}
 use Rattle.machine_drafts.specs.Outcomes.{Bases}
 use Rattle.machine_meaning.specs.Phases.{draft_of, is_empty, overfilled}
-use Rattle.machine_drafts.specs.Puts.{with_counts}
+use Rattle.event_ends.specs.Puts.{with_counts}
 use Rattle.machine_meaning.specs.Putting.{put}
 use Rattle.machine_meaning.specs.Rounds.{Closing, close}
 use Rattle.machine_meaning.specs.Settling.{settle}
 use Rattle.events.specs.declared.event.Event.{Event}
 use Rattle.machine_drafts.specs.declared.held.Held.{Held}
-use Rattle.machine_drafts.specs.declared.putting.Drafted.{Drafted}
-use Rattle.machine_drafts.specs.declared.putting.Trial.{Trial}
-use Rattle.machine_drafts.specs.declared.putting.Trial.TheVariants.{Ready, Slow}
+use Rattle.event_ends.specs.declared.putting.Drafted.{Drafted}
+use Rattle.event_ends.specs.declared.putting.Trial.{Trial}
+use Rattle.event_ends.specs.declared.putting.Trial.TheVariants.{Ready, Slow}
 
 -- what stands beside the draft of an event
 abbrev pub bases_at : Held → Event → Bases

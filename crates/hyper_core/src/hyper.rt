@@ -5,7 +5,7 @@ ghost use Rattle.policy_file.specs.Policies.{plan};
 ghost use Rattle.policy_file.specs.Sound.{IsSound};
 ghost use Rattle.machine_meaning.specs.Glances.{glance_of};
 ghost use Rattle.machine_drafts.specs.Machines.{state_of};
-ghost use Rattle.hyper_core.specs.Costs.{cost_of, most_of, stays_kept};
+ghost use Rattle.event_composes.specs.Costs.{cost_of, most_of, stays_kept};
 ghost use Rattle.hyper_core.specs.Worlds.{AreTablesOf, installed_on, network_in, rule_count};
 ghost use Rattle.machine_meaning.specs.Sessions.{round_of};
 ghost use Rattle.machine_meaning.specs.Sound.{HasNumbers};
@@ -44,8 +44,8 @@ pub struct Hyper {
 impl Model for Hyper {
     ghost use Rattle.machine_drafts.specs.Machines.{HasAll, MachineOf, holding_of, state_in_held};
     ghost use Rattle.std.specs.Prelude.{is_some};
-    ghost use Rattle.hyper_core.specs.Kept.{IsKept};
-    ghost use Rattle.hyper_core.specs.Settled.{IsSettledState};
+    ghost use Rattle.event_composes.specs.Kept.{IsKept};
+    ghost use Rattle.event_composes.specs.Settled.{IsSettledState};
 
     ghost Value = { MachineOf };
 
@@ -63,20 +63,25 @@ impl Model for Hyper {
 }
 
 impl Hyper {
-    /// The machine of a policy: nothing is up, tables are empty, and each virtual switch has its expression. Its composed
-    /// part is kept from the first event on; the steps that it takes belong to no event.
+    /// The machine of a policy: nothing is up, tables are empty, and each virtual switch has its expression. Its
+    /// composed part is kept from the first event on; the steps that it takes belong to no event.
     pub fn open<R: Threads + Sync>(rt: &R, alloc: Global, policy: Policy) -> Result<Hyper, Memory>
         ensures plan { IfOk result (λ hyper. hyper.plan ≡ policy) }
         ensures opening { IfOk result (λ hyper. state_of hyper ≡ opening policy) }
         ensures compiled { IfOk result (λ hyper. hyper.compiled ≡ true) }
     {
         let setup = Setup::make(alloc, policy)?;
-        let opened = open_machine(rt, &setup)?;
-        Ok(Hyper {
-            setup,
-            held: opened.held,
-            composed: Some(opened.composed),
-        })
+        match open_machine(rt, &setup) {
+            Ok(opened) => Ok(Hyper {
+                setup,
+                held: opened.held,
+                composed: Some(opened.composed),
+            }),
+            Err(memory) => {
+                drop(setup);
+                Err(memory)
+            }
+        }
     }
 
     /// The reply of an event that changes nothing, and None for every other.
@@ -86,9 +91,10 @@ impl Hyper {
         glance(&self.setup, &self.held, event)
     }
 
-    /// One step: the reply to an event. After want of memory all is as it was. The steps of composition are counted. Where
-    /// the composed part was kept it still is, as long as the event closes no session as slow, replaces no expression, and
-    /// leaves numbers for cookies and entries; where it does, the composed part is made anew if there is memory for it.
+    /// One step: the reply to an event. After want of memory all is as it was. The steps of composition are counted.
+    /// Where the composed part was kept it still is, as long as the event closes no session as slow, replaces no
+    /// expression, and leaves numbers for cookies and entries; where it does, the composed part is made anew if there
+    /// is memory for it.
     pub fn step<R: Threads + Sync, G: Ledger>(
         &mut self,
         rt: &R,
@@ -132,12 +138,17 @@ impl Hyper {
         ensures state { IfOk result (λ copied. state_of copied ≡ state_of self.now) }
     {
         let setup = self.setup.copy()?;
-        let held = copied_held(&setup, &self.held)?;
-        Ok(Hyper {
-            setup,
-            held,
-            composed: None,
-        })
+        match copied_held(&setup, &self.held) {
+            Ok(held) => Ok(Hyper {
+                setup,
+                held,
+                composed: None,
+            }),
+            Err(memory) => {
+                drop(setup);
+                Err(memory)
+            }
+        }
     }
 
     /// Lets go of it. Who ends a machine by this need not show again that each of its parts can be let go.

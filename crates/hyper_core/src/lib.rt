@@ -1,21 +1,15 @@
 //! The machine: one event in, one reply out, for any policy.
 #![tactic(auto)]
 
-mod composed;
-mod composing;
 mod drafting;
 mod glances;
 pub mod hyper;
-mod keeping;
 pub mod machine;
 mod opening;
 mod overtaking;
-mod sources;
 mod starting;
 mod stepping;
 mod takings;
-mod turning;
-mod unchanged;
 mod views;
 pub mod worlds;
 

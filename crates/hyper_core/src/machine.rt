@@ -1,8 +1,8 @@
 //! The machine as the lock has it: one that many post events to.
 ghost use Rattle.std.specs.Prelude.{◌≡◌, true};
-ghost use Rattle.hyper_core.specs.Meanings.{MeaningsAreStates, NextIsStep, data_in, idle_stays, is_idle, next_data};
-ghost use Rattle.hyper_core.specs.Meanings.{reply_to};
-ghost use Rattle.hyper_core.specs.Costs.{StillTakesNone, cost_in, most_in};
+ghost use Rattle.event_composes.specs.Meanings.{MeaningsAreStates, NextIsStep, data_in, idle_stays, is_idle, next_data};
+ghost use Rattle.event_composes.specs.Meanings.{reply_to};
+ghost use Rattle.event_composes.specs.Costs.{StillTakesNone, cost_in, most_in};
 
 use crate::hyper::Hyper;
 use cv_io::{Duplicate, Memory, Steps};
@@ -19,7 +19,7 @@ pub struct Meaning {
 }
 
 impl Model for Meaning {
-    ghost use Rattle.hyper_core.specs.Meanings.{StateData, lefts_code, no_data};
+    ghost use Rattle.event_composes.specs.Meanings.{StateData, lefts_code, no_data};
 
     ghost Value = { StateData };
 
@@ -87,8 +87,8 @@ pub fn next_is_step()
     ensures { NextIsStep }
 {}
 
-/// An event that changes no member's table, replaces no expression and closes no session as slow takes no step where the
-/// composed part is kept.
+/// An event that changes no member's table, replaces no expression and closes no session as slow takes no step where
+/// the composed part is kept.
 pub fn still_events_take_none()
     ensures { StillTakesNone }
 {}

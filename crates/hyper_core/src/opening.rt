@@ -1,14 +1,14 @@
 //! The machine as it opens, with its composed part.
 ghost use Rattle.std.specs.Prelude.{◌≡◌, IfOk, Some};
-ghost use Rattle.hyper_core.specs.Kept.{IsKept};
-ghost use Rattle.hyper_core.specs.Settled.{IsSettledState};
+ghost use Rattle.event_composes.specs.Kept.{IsKept};
+ghost use Rattle.event_composes.specs.Settled.{IsSettledState};
 ghost use Rattle.machine_drafts.specs.Machines.{HasAll, state_in_held};
 ghost use Rattle.machine_meaning.specs.States.{opening};
 
-use crate::keeping::build_first;
 use crate::starting::open as open_held;
 use composed_tables::Composed;
 use cv_io::Memory;
+use event_composes::keeping::build_first;
 use machine_drafts::held::Held;
 use machine_drafts::setup::Setup;
 use std::marker::Brand;
@@ -31,6 +31,11 @@ pub(crate) fn open<R: Threads + Sync>(rt: &R, setup: &Setup) -> Result<Opened, M
         IsKept setup.now (state_in_held opened.held) (Some opened.composed)) }
 {
     let held = open_held(setup)?;
-    let composed = build_first::<R, Brand>(rt, setup, &held, Blank::new(1))?;
-    Ok(Opened { held, composed })
+    match build_first::<R, Brand>(rt, setup, &held, Blank::new(1)) {
+        Ok(composed) => Ok(Opened { held, composed }),
+        Err(memory) => {
+            drop(held);
+            Err(memory)
+        }
+    }
 }

@@ -1,7 +1,7 @@
 //! The machine as it opens: nothing is up, and tables are empty.
 ghost use Rattle.std.specs.Prelude.{◌≡◌, ◌≤◌, All, IfOk, map};
 ghost use Rattle.machine_drafts.specs.Machines.{HasAll, HasBits, state_in_held};
-ghost use Rattle.hyper_core.specs.Settled.{IsSettledState};
+ghost use Rattle.event_composes.specs.Settled.{IsSettledState};
 ghost use Rattle.machine_meaning.specs.Sound.{IsSoundState};
 ghost use Rattle.machine_meaning.specs.States.{new_member as new_member_of, new_switch as new_switch_of};
 ghost use Rattle.machine_meaning.specs.States.{nothing_stands, opening};

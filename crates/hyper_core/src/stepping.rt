@@ -4,28 +4,28 @@ ghost use Rattle.machine_meaning.specs.Events.{AreBytes, IsEvent};
 ghost use Rattle.machine_meaning.specs.Glances.{glance_of};
 ghost use Rattle.machine_meaning.specs.Hearing.{heard};
 ghost use Rattle.machine_meaning.specs.Sound.{HasNumbers};
-ghost use Rattle.hyper_core.specs.Costs.{cost_of, first_steps, followed_cost, is_followed, most_of, stays_kept};
-ghost use Rattle.hyper_core.specs.Costs.{whole_cost};
-ghost use Rattle.hyper_core.specs.Kept.{IsBegun, IsComposedOf, IsKept};
+ghost use Rattle.event_composes.specs.Costs.{cost_of, first_steps, followed_cost, is_followed, most_of, stays_kept};
+ghost use Rattle.event_composes.specs.Costs.{whole_cost};
+ghost use Rattle.event_composes.specs.Kept.{IsBegun, IsComposedOf, IsKept};
 ghost use Rattle.machine_drafts.specs.Machines.{HasAll, state_in_held};
 ghost use Rattle.machine_drafts.specs.Moments.{taking_in as taking_in_of};
-ghost use Rattle.machine_drafts.specs.Overtaking.{IsHeardOf, IsWhole};
-ghost use Rattle.hyper_core.specs.Settled.{IsSettledState};
+ghost use Rattle.event_acts.specs.Overtaking.{IsHeardOf, IsWhole};
+ghost use Rattle.event_composes.specs.Settled.{IsSettledState};
 ghost use Rattle.machine_meaning.specs.Phases.{drafted as drafted_of};
 ghost use Rattle.machine_meaning.specs.Steps.{done, step_of};
 
 use crate::drafting::draft_event;
 use crate::glances::glance;
-use crate::keeping::{keep, set_kept};
 use crate::overtaking::hear;
 use crate::takings::take;
 use composed_tables::Composed;
 use cv_io::{Memory, Session, Steps};
+use event_acts::heard::Heard;
+use event_composes::keeping::{keep, set_kept};
+use event_ends::moving::move_in;
+use event_ends::putting::Drafted;
 use events::{Event, Reply};
-use machine_drafts::heard::Heard;
 use machine_drafts::held::Held;
-use machine_drafts::moving::move_in;
-use machine_drafts::putting::Drafted;
 use machine_drafts::setup::Setup;
 use machine_meaning::laws::soundness_is_kept;
 use std::sync::ledger::Ledger;
@@ -75,8 +75,8 @@ fn cookie_fits(held: &Held)
     let _next = held.next_cookie;
 }
 
-/// One step of such an event: what it tells is heard before, and taken back where memory is wanted. What is kept follows
-/// it, or is made anew.
+/// One step of such an event: what it tells is heard before, and taken back where memory is wanted. What is kept
+/// follows it, or is made anew.
 pub(crate) fn proceed<R: Threads + Sync, G: Ledger>(
     rt: &R,
     setup: &Setup,

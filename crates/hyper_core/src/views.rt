@@ -5,14 +5,12 @@ ghost use Rattle.policy_meaning.specs.Networks.{switch_rules as switch_rules_of}
 ghost use Rattle.machine_drafts.specs.Machines.{state_in_held};
 ghost use Rattle.hyper_core.specs.Worlds.{installed_on, rule_count};
 ghost use Rattle.machine_meaning.specs.Sessions.{round_of};
-ghost use Rattle.machine_meaning.specs.Settings.{setting_of};
 
-use crate::composed::fitting;
 use crate::glances::outbox_for;
 use agreement::Setting;
 use cv_io::{List, Memory, Who};
+use event_composes::composed::present;
 use install_plan::Written;
-use machine_drafts::beginning::begin_outcome;
 use machine_drafts::held::Held;
 use machine_drafts::setup::Setup;
 use policy_meaning::switch_rules;
@@ -36,18 +34,6 @@ pub(crate) fn installed(held: &Held, n: u32) -> Result<Option<List<Written>>, Me
         Some(switch) if switch.outbox.is_up() => Ok(Some(switch.standing.listed()?)),
         _ => Ok(None),
     }
-}
-
-/// What composition reads of the present state.
-pub(crate) fn present(setup: &Setup, held: &Held) -> Result<Setting, Memory>
-    ensures setting { IfOk result (λ setting. setting ≡ setting_of setup.now (state_in_held held.now)) }
-    ensures fits { IfOk result IsFittingSetting }
-{
-    let outcome = begin_outcome(setup.alloc(), held, held.moment)?;
-    let members = outcome.members.as_slice();
-    let switches = outcome.switches.as_slice();
-    let setting = fitting(setup, &outcome.exprs, members, switches)?;
-    Ok(setting)
 }
 
 /// How many rules the expression of a virtual switch of a setting has.

@@ -40,14 +40,16 @@ in-range r n i = record {
 overlap-at : (m n : MatchOf) (h : HeaderOf) → holds m h ≡ true → holds n h ≡ true → overlaps m n ≡ true
 overlap-at m n h a b = and-second (holds (both m n) h) (overlaps m n) (holds-both m n h ∙ rw (a, b) refl)
 
-module _ (r : RewriteOf) (m n : MatchOf) (a : IsNormal m) (b : IsNormal n) (i : IsMatch m) (j : IsMatch n) (apart : overlaps (image r m) n ≡ false) where
+module _ (r : RewriteOf) (m n : MatchOf) (a : IsNormal m) (b : IsNormal n) (i : IsMatch m) (j : IsMatch n)
+    (apart : overlaps (image r m) n ≡ false) where
   -- no header of m is in n after r
   none-at : (h : HeaderOf) → holds m h ≡ true → holds n (apply r h) ≡ true → ⊥
   none-at h in-m in-n =
       let o = overlap-at (image r m) n (apply r h) (image_holds r m a h in-m) in-n in
       false≢true (sym apart ∙ o)
 
-  meets-none : (t u : Bool) → can_pull r n ≡ t → overlaps m (pulled r n) ≡ u → option_and_then (meet m) (if t then Some (pulled r n) else None) ≡ None
+  meets-none : (t u : Bool) → can_pull r n ≡ t → overlaps m (pulled r n) ≡ u
+      → option_and_then (meet m) (if t then Some (pulled r n) else None) ≡ None
   meets-none false u e f = refl
   meets-none true false e f = ap (λ b. if b then Some (both m (pulled r n)) else None) f
   meets-none true true e f =
@@ -55,9 +57,13 @@ module _ (r : RewriteOf) (m n : MatchOf) (a : IsNormal m) (b : IsNormal n) (i : 
       let s = IsMatch-both m (pulled r n) i (in-range r n j) in
       let o = (overlaps_exact true q q s s (sym (overlaps_self q))).0 refl in
       let both-hold : (holds m o.header && holds (pulled r n) o.header) ≡ true =
-      sym (holds-both m (pulled r n) o.header) ∙ (ap (λ z. holds q o.header && z) f ∙ (and-true (holds q o.header) ∙ o.in_first)) in
+      sym (holds-both m (pulled r n) o.header)
+      ∙ (ap (λ z. holds q o.header && z) f ∙ (and-true (holds q o.header) ∙ o.in_first)) in
       let in-n : holds n (apply r o.header) ≡ true =
-      sym (pull_is_exact r n o.header b) ∙ (ap (λ z. holds (pulled r n) o.header && z) e ∙ (and-true (holds (pulled r n) o.header) ∙ and-second (holds m o.header) (holds (pulled r n) o.header) both-hold)) in
+      sym (pull_is_exact r n o.header b)
+      ∙ (ap (λ z. holds (pulled r n) o.header && z) e
+      ∙ (and-true (holds (pulled r n) o.header)
+      ∙ and-second (holds m o.header) (holds (pulled r n) o.header) both-hold)) in
       absurd (none-at o.header (and-first (holds m o.header) (holds (pulled r n) o.header) both-hold) in-n)
 
   -- m doesn't meet what n asks for before r

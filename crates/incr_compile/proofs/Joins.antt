@@ -17,7 +17,8 @@ use Rattle.list_change.specs.Pairing.{by_left}
 use Rattle.made_rules.specs.declared.made.Made.{Made}
 use Rattle.incr_compile.specs.Ways.{held_way, left_origin, made_with, lone, lone_by, right_origin, stays_out}
 
-pub lone-in : (op : Op) (t : Tail) (touched : Bool) (size : ℕ) (a : Rule) → stays_out op touched ≡ false → (Joins op t → ⊥) → lone_by op t touched size a ≡ Some (alone op Left size a)
+pub lone-in : (op : Op) (t : Tail) (touched : Bool) (size : ℕ) (a : Rule) → stays_out op touched ≡ false
+    → (Joins op t → ⊥) → lone_by op t touched size a ≡ Some (alone op Left size a)
 lone-in Par t touched size a e n = absurd (n tt)
 lone-in Seq (Pass r) touched size a e n = absurd (n tt)
 lone-in Seq Nothing touched size a e n = refl
@@ -28,7 +29,8 @@ lone-in Hop (Link r p) touched size a e n = absurd (n tt)
 lone-in Hop Nothing touched size a e n = refl
 lone-in Hop (Pass r) touched size a e n = refl
 
-pub lone-out : (op : Op) (t : Tail) (touched : Bool) (size : ℕ) (a : Rule) → stays_out op touched ≡ true → lone_by op t touched size a ≡ None
+pub lone-out : (op : Op) (t : Tail) (touched : Bool) (size : ℕ) (a : Rule) → stays_out op touched ≡ true
+    → lone_by op t touched size a ≡ None
 lone-out Par t touched size a e = refl
 lone-out Seq (Pass r) touched size a e = refl
 lone-out Seq Nothing touched size a e = absurd (cc)
@@ -40,7 +42,8 @@ lone-out Hop Nothing touched size a e = absurd (cc)
 lone-out Hop (Pass r) touched size a e = absurd (cc)
 
 -- a rule that is joined doesn't stand alone
-pub lone-joined : (op : Op) (t : Tail) (touched : Bool) (size : ℕ) (a : Rule) → Joins op t → lone_by op t touched size a ≡ None
+pub lone-joined : (op : Op) (t : Tail) (touched : Bool) (size : ℕ) (a : Rule) → Joins op t
+    → lone_by op t touched size a ≡ None
 lone-joined Par t touched size a j = refl
 lone-joined Seq (Pass r) touched size a j = refl
 lone-joined Seq Nothing touched size a j = absurd j
@@ -68,9 +71,11 @@ unjoined Over size a b n = refl
 unjoined Hop size a b n = crossed-none a.tail size a b n
 
 module _ {B C D : Type 0} (f : B → C → D) where
-  nothing-made : (g : B → Option C) → ((b : B) → g b ≡ None) → (ys : List B) → filter_map (λ b. option_map (f b) (g b)) ys ≡ []
+  nothing-made : (g : B → Option C) → ((b : B) → g b ≡ None) → (ys : List B)
+      → filter_map (λ b. option_map (f b) (g b)) ys ≡ []
   nothing-made g h [] = refl
-  nothing-made g h (y ∷ ys) = ap (λ o. cons_option (option_map (f y) o) (filter_map (λ b. option_map (f b) (g b)) ys)) (h y) ∙ nothing-made g h ys
+  nothing-made g h (y ∷ ys) = ap (λ o. cons_option (option_map (f y) o) (filter_map (λ b. option_map (f b) (g b)) ys))
+      (h y) ∙ nothing-made g h ys
 
 cons-nil : {C : Type 0} (o : Option C) → cons_option o [] ≡ option_to_list o
 cons-nil None = refl
@@ -80,28 +85,38 @@ cons-nil (Some c) = refl
 pub by_left-alone : (op : Op) (size : ℕ) (a : Held Rule) (ys : List (Held Rule)) → (Joins op a.item.tail → ⊥) →
     by_left (held_way op size) (a ∷ []) ys ≡ option_to_list ((held_way op size).lone a)
 by_left-alone op size a ys n =
-    ap (λ r. cons_option ((held_way op size).lone a) [] ++ (r ++ [])) (nothing-made (λ (b : Held Rule). made_with (left_origin a.id ∷ right_origin b.id ∷ [])) (λ (b : Held Rule). joined op size a.item b.item) (λ b. unjoined op size a.item b.item n) ys)
+    ap (λ r. cons_option ((held_way op size).lone a) [] ++ (r ++ []))
+    (nothing-made (λ (b : Held Rule). made_with (left_origin a.id ∷ right_origin b.id ∷ []))
+    (λ (b : Held Rule). joined op size a.item b.item) (λ b. unjoined op size a.item b.item n) ys)
     ∙ append-nil _ ∙ cons-nil _
 
 -- what one that is joined makes
 pub by_left-joined : (op : Op) (size : ℕ) (a : Held Rule) (ys : List (Held Rule)) → Joins op a.item.tail →
     by_left (held_way op size) (a ∷ []) ys ≡ filter_map ((held_way op size).pair a) ys
 by_left-joined op size a ys j =
-    ap (λ o. cons_option (option_map (made_with (left_origin a.id ∷ [])) o) [] ++ (filter_map ((held_way op size).pair a) ys ++ [])) (lone-joined op a.item.tail a.item.touched size a.item j)
+    ap (λ o. cons_option (option_map (made_with (left_origin a.id ∷ [])) o) []
+    ++ (filter_map ((held_way op size).pair a) ys ++ [])) (lone-joined op a.item.tail a.item.touched size a.item j)
     ∙ append-nil _
 
 -- one more is made
-pub made-more : (op : Op) (size : ℕ) (a : Held Rule) (ys : List (Held Rule)) (i : ℕ) (b : Held Rule) (old out new : List Made) (r : Option Rule) → i < length ys → b ≡ get_or ys i b →
-    out ≡ old ++ filter_map ((held_way op size).pair a) (take i ys) → r ≡ joined op size a.item b.item → new ≡ out ++ option_to_list (option_map (made_with (left_origin a.id ∷ right_origin b.id ∷ [])) r) →
+pub made-more : (op : Op) (size : ℕ) (a : Held Rule) (ys : List (Held Rule)) (i : ℕ) (b : Held Rule)
+    (old out new : List Made) (r : Option Rule) → i < length ys → b ≡ get_or ys i b →
+    out ≡ old ++ filter_map ((held_way op size).pair a) (take i ys) → r ≡ joined op size a.item b.item
+    → new ≡ out ++ option_to_list (option_map (made_with (left_origin a.id ∷ right_origin b.id ∷ [])) r) →
     new ≡ old ++ filter_map ((held_way op size).pair a) (take (i + 1) ys)
 made-more op size a ys i b old out new r lt is far so added =
-    pushed_some ((held_way op size).pair a) ys i b old out new (option_map (made_with (left_origin a.id ∷ right_origin b.id ∷ [])) r) lt is far (ap (option_map (made_with (left_origin a.id ∷ right_origin b.id ∷ []))) so) added
+    pushed_some ((held_way op size).pair a) ys i b old out new
+    (option_map (made_with (left_origin a.id ∷ right_origin b.id ∷ [])) r) lt is far
+    (ap (option_map (made_with (left_origin a.id ∷ right_origin b.id ∷ []))) so) added
 
 -- what one that isn't joined makes, appended
-pub alone-added : (op : Op) (size : ℕ) (a : Held Rule) (ys : List (Held Rule)) (old new : List Made) (r : Option Rule) → (Joins op a.item.tail → ⊥) →
-    r ≡ lone op size a.item → new ≡ old ++ option_to_list (option_map (made_with (left_origin a.id ∷ [])) r) → new ≡ old ++ by_left (held_way op size) (a ∷ []) ys
+pub alone-added : (op : Op) (size : ℕ) (a : Held Rule) (ys : List (Held Rule)) (old new : List Made) (r : Option Rule)
+    → (Joins op a.item.tail → ⊥) →
+    r ≡ lone op size a.item → new ≡ old ++ option_to_list (option_map (made_with (left_origin a.id ∷ [])) r)
+    → new ≡ old ++ by_left (held_way op size) (a ∷ []) ys
 alone-added op size a ys old new r n so added =
-    added ∙ ap (λ o. old ++ option_to_list (option_map (made_with (left_origin a.id ∷ [])) o)) so ∙ ap (λ z. old ++ z) (sym (by_left-alone op size a ys n))
+    added ∙ ap (λ o. old ++ option_to_list (option_map (made_with (left_origin a.id ∷ [])) o)) so
+    ∙ ap (λ z. old ++ z) (sym (by_left-alone op size a ys n))
 
 pub not-so : (b : Bool) (P : Type 0) → b ≡ false → (IsTrue b ↔ P) → P → ⊥
 not-so false P e h p = let t : IsTrue false = h.1 p in absurd (cc)

@@ -24,7 +24,8 @@ use Rattle.incr_compile.specs.declared.tree.MemberChange.{MemberChange}
 use Rattle.incr_compile.proofs.TreeLemmas.{or-left}
 
 -- ---- lists that a function made
-from-map : {X Y : Type 0} (f : X → Y) (xs : List X) (y : Y) → Contains (map f xs) y → (x : X) × Contains xs x × (f x ≡ y)
+from-map : {X Y : Type 0} (f : X → Y) (xs : List X) (y : Y) → Contains (map f xs) y
+    → (x : X) × Contains xs x × (f x ≡ y)
 from-map f [] y (k, below, e) = absurd (omega arith)
 from-map f (x ∷ xs) y (zero, below, e) = (x, (0, grind (arith, common_steps), refl), e)
 from-map f (x ∷ xs) y (suc k, below, e) =
@@ -42,16 +43,24 @@ same-stays (s ∷ stays) = ap (λ z. s.rule ∷ z) (same-stays stays)
 permuted-rules : (xs ys : List (Held Made)) → IsPermutation xs ys → IsPermutation (rules_held xs) (rules_held ys)
 permuted-rules xs ys p = IsPermutation-map rule_of _ _ (IsPermutation-map item_of xs ys p)
 
-module _ (before now : List (Held Made)) (lost : List ℕ) (fresh : List Made) (change : ChangeOf) (r : IsReady before now lost fresh change) where
+module _ (before now : List (Held Made)) (lost : List ℕ) (fresh : List Made) (change : ChangeOf)
+    (r : IsReady before now lost fresh change) where
   -- what is told is what changed
-  pub told-changed : (new : List (Held Made)) (gone come : List Rule) → IsPermutation new (settled r) → gone ≡ rules_held r.going → come ≡ rules_held r.coming → Changed (rules_held before) (rules_held new) gone come
+  pub told-changed : (new : List (Held Made)) (gone come : List Rule) → IsPermutation new (settled r)
+      → gone ≡ rules_held r.going → come ≡ rules_held r.coming → Changed (rules_held before) (rules_held new) gone come
   told-changed new gone come p g c = record {
     kept = rules_held (r.kept ++ map was_of change.stays);
-    was = IsPermutation-trans _ _ _ (permuted-rules before _ (IsPermutation-trans _ _ _ r.was (front r.kept r.going (map was_of change.stays))))
-        (by-equation _ _ (rules-both r.going (r.kept ++ map was_of change.stays) ∙ ap (λ z. z ++ rules_held (r.kept ++ map was_of change.stays)) (sym g)));
-    is = IsPermutation-trans _ _ _ (permuted-rules new _ (IsPermutation-trans _ _ _ p (front r.kept r.coming (map is_of change.stays))))
-        (by-equation _ _ (rules-both r.coming (r.kept ++ map is_of change.stays) ∙ ap (λ z. z ++ rules_held (r.kept ++ map is_of change.stays)) (sym c)
-        ∙ ap (λ z. come ++ z) (rules-both r.kept (map is_of change.stays) ∙ ap (λ z. rules_held r.kept ++ z) (sym (same-stays change.stays)) ∙ sym (rules-both r.kept (map was_of change.stays)))));
+    was = IsPermutation-trans _ _ _
+        (permuted-rules before _ (IsPermutation-trans _ _ _ r.was (front r.kept r.going (map was_of change.stays))))
+        (by-equation _ _ (rules-both r.going (r.kept ++ map was_of change.stays)
+        ∙ ap (λ z. z ++ rules_held (r.kept ++ map was_of change.stays)) (sym g)));
+    is = IsPermutation-trans _ _ _
+        (permuted-rules new _ (IsPermutation-trans _ _ _ p (front r.kept r.coming (map is_of change.stays))))
+        (by-equation _ _ (rules-both r.coming (r.kept ++ map is_of change.stays)
+        ∙ ap (λ z. z ++ rules_held (r.kept ++ map is_of change.stays)) (sym c)
+        ∙ ap (λ z. come ++ z) (rules-both r.kept (map is_of change.stays)
+        ∙ ap (λ z. rules_held r.kept ++ z) (sym (same-stays change.stays))
+        ∙ sym (rules-both r.kept (map was_of change.stays)))));
   }
 
   -- no rule is in both lists
@@ -65,7 +74,8 @@ module _ (before now : List (Held Made)) (lost : List ℕ) (fresh : List Made) (
 
   -- there is room for what goes
   pub gone-count : (left : List Made) → left ≡ map item_of r.going → length left ≡ length change.gone
-  gone-count left e = ap (λ (z : List Made). length z) e ∙ length-map item_of r.going ∙ sym (length-map id_of r.going) ∙ ap (λ (z : List ℕ). length z) r.gone
+  gone-count left e = ap (λ (z : List Made). length z) e ∙ length-map item_of r.going ∙ sym (length-map id_of r.going)
+      ∙ ap (λ (z : List ℕ). length z) r.gone
 
 -- ---- what may be asked of a tree
 absent-fit : (asked : MemberChange) (t : TreeOf) → has_member asked.member t ≡ false → ComesFit asked t
@@ -80,41 +90,69 @@ absent-fit asked (branch n l r) e = (absent-fit asked l (first _ _ e), absent-fi
     second true b f = absurd (cc)
     second false b f = f
 
-present-fit : (asked : MemberChange) (t : TreeOf) → IsOnce t → has_member asked.member t ≡ true → AllByRecursion (IsMemberRule (member_size asked.member t)) asked.come.items → ComesFit asked t
+present-fit : (asked : MemberChange) (t : TreeOf) → IsOnce t → has_member asked.member t ≡ true
+    → AllByRecursion (IsMemberRule (member_size asked.member t)) asked.come.items → ComesFit asked t
 present-fit asked (leaf i s made) once h a = λ same. a
 present-fit asked (branch n l r) once h a =
-    by (has_member asked.member l) refl a (λ e b. present-fit asked l once.0 e b) (λ e b. present-fit asked r once.1 (or-left _ _ h e) b)
+    by (has_member asked.member l) refl a (λ e b. present-fit asked l once.0 e b)
+    (λ e b. present-fit asked r once.1 (or-left _ _ h e) b)
   where
-    by : (b : Bool) → has_member asked.member l ≡ b → AllByRecursion (IsMemberRule (if b then member_size asked.member l else member_size asked.member r)) asked.come.items →
-        (has_member asked.member l ≡ true → AllByRecursion (IsMemberRule (member_size asked.member l)) asked.come.items → ComesFit asked l) →
-        (has_member asked.member l ≡ false → AllByRecursion (IsMemberRule (member_size asked.member r)) asked.come.items → ComesFit asked r) → ComesFit asked (branch n l r)
+    by : (b : Bool) → has_member asked.member l ≡ b
+        → AllByRecursion (IsMemberRule (if b then member_size asked.member l else member_size asked.member r))
+        asked.come.items →
+        (has_member asked.member l ≡ true → AllByRecursion (IsMemberRule (member_size asked.member l)) asked.come.items
+        → ComesFit asked l) →
+        (has_member asked.member l ≡ false → AllByRecursion (IsMemberRule (member_size asked.member r)) asked.come.items
+        → ComesFit asked r) → ComesFit asked (branch n l r)
     by true e c p q = (p e c, absent-fit asked r (once.2 asked.member e))
     by false e c p q = (absent-fit asked l e, q e c)
 
-pub come-rules : (size : ℕ) (made : List Made) → AllByRecursion IsByLeaves made → AllByRecursion (λ (r : Rule). IsNormal r.m) (map rule_of made) → AllByRecursion (λ (r : Rule). r.level < size) (map rule_of made) → AllByRecursion (IsMemberRule size) made
+pub come-rules : (size : ℕ) (made : List Made) → AllByRecursion IsByLeaves made
+    → AllByRecursion (λ (r : Rule). IsNormal r.m) (map rule_of made)
+    → AllByRecursion (λ (r : Rule). r.level < size) (map rule_of made) → AllByRecursion (IsMemberRule size) made
 come-rules size [] f n b = tt
-come-rules size (m ∷ made) f n b =
-    (record { fit = record { sound = record { normal = n.0; in_range = f.0.in_range }; below = b.0 }; origins = f.0.origins }, come-rules size made f.1 n.1 b.1)
+come-rules size (m ∷ made) f n b = (
+  record {
+    fit = record { sound = record { normal = n.0; in_range = f.0.in_range }; below = b.0 };
+    origins = f.0.origins;
+  },
+  come-rules size made f.1 n.1 b.1,
+)
 
-pub can-change : (delta : LeafDelta) (asked : MemberChange) (t : TreeOf) → IsTree t → IsOnce t → has_member delta.member t ≡ true → IsMemberDelta delta t → Asks delta asked → AllByRecursion IsByLeaves asked.come.items → CanChange asked t
+pub can-change : (delta : LeafDelta) (asked : MemberChange) (t : TreeOf) → IsTree t → IsOnce t
+    → has_member delta.member t ≡ true → IsMemberDelta delta t → Asks delta asked
+    → AllByRecursion IsByLeaves asked.come.items → CanChange asked t
 can-change delta asked t is once h d k f =
     let there : has_member asked.member t ≡ true = subst (λ (i : ℕ). has_member i t ≡ true) (sym k.member) h in
     let normal = subst (λ (z : List Rule). AllByRecursion (λ (r : Rule). IsNormal r.m) z) (sym k.come) d.normal in
-    let below = subst (λ (i : ℕ). AllByRecursion (λ (r : Rule). r.level < member_size i t) (map rule_of asked.come.items)) (sym k.member)
-    (subst (λ (z : List Rule). AllByRecursion (λ (r : Rule). r.level < member_size delta.member t) z) (sym k.come) d.below) in
-    record { is_tree = is; once = once; member = there; come = present-fit asked t once there (come-rules (member_size asked.member t) asked.come.items f normal below) }
+    let below =
+    subst (λ (i : ℕ). AllByRecursion (λ (r : Rule). r.level < member_size i t) (map rule_of asked.come.items))
+    (sym k.member)
+    (subst (λ (z : List Rule). AllByRecursion (λ (r : Rule). r.level < member_size delta.member t) z) (sym k.come)
+    d.below) in
+    record {
+      is_tree = is;
+      once = once;
+      member = there;
+      come = present-fit asked t once there (come-rules (member_size asked.member t) asked.come.items f normal below);
+    }
 
 -- ---- the members stay
 pub same-member : (asked : MemberChange) (t u : TreeOf) → Changes asked t u → (i : ℕ) → has_member i u ≡ has_member i t
 same-member asked (leaf i s before) (leaf j k after) c m = ap (λ (x : ℕ). m == x) c.0
 same-member asked (branch n l r) (branch o l' r') c m =
-    ap (λ b. b || has_member m r') (same-member asked l l' c.2 m) ∙ ap (λ b. has_member m l || b) (same-member asked r r' c.3 m)
+    ap (λ b. b || has_member m r') (same-member asked l l' c.2 m)
+    ∙ ap (λ b. has_member m l || b) (same-member asked r r' c.3 m)
 same-member asked (leaf i s before) (branch o l' r') c m = absurd c
 same-member asked (branch n l r) (leaf j k after) c m = absurd c
 
 pub same-once : (asked : MemberChange) (t u : TreeOf) → Changes asked t u → IsOnce t → IsOnce u
 same-once asked (leaf i s before) (leaf j k after) c once = tt
-same-once asked (branch n l r) (branch o l' r') c once =
-    (same-once asked l l' c.2 once.0, same-once asked r r' c.3 once.1, λ m e. same-member asked r r' c.3 m ∙ once.2 m (sym (same-member asked l l' c.2 m) ∙ e))
+same-once asked (branch n l r) (branch o l' r') c once = (
+  same-once asked l l' c.2 once.0,
+  same-once asked r r' c.3 once.1,
+  λ m e. same-member asked r r' c.3 m
+      ∙ once.2 m (sym (same-member asked l l' c.2 m) ∙ e),
+)
 same-once asked (leaf i s before) (branch o l' r') c once = absurd c
 same-once asked (branch n l r) (leaf j k after) c once = absurd c

@@ -1,5 +1,6 @@
 -- A node made of operands that are whole.
-use Rattle.std.proofs.Common.{◌≡◌, ℕ, ◌+◌, ◌<◌, ◌≤◌, ◌^◌, ◌==◌, List, [], ◌∷◌, ◌++◌, length, map, refl, sym, ap, subst, ◌∙◌}
+use Rattle.std.proofs.Common.{◌≡◌, ℕ, ◌+◌, ◌<◌, ◌≤◌, ◌^◌, ◌==◌, List, [], ◌∷◌, ◌++◌, length, map, refl, sym, ap, subst}
+use Rattle.std.proofs.Common.{◌∙◌}
 use Rattle.std.proofs.Common.{arith}
 use Rattle.std.specs.Prelude.{IsPermutation, count_by, filter_map}
 use Rattle.std.specs.List.{All, AllByRecursion, IsDistinct}
@@ -45,29 +46,43 @@ right-level Seq b size = refl
 right-level Over b size = refl
 right-level Hop b size = refl
 
-pub alone-below : (op : Op) (size levels : ℕ) (come : List (Held Rule)) → levels < 2 ^ 64 → AreFit levels come → All (λ (b : Held Rule). alone_level op Right b.item.level size < 2 ^ 64) come
+pub alone-below : (op : Op) (size levels : ℕ) (come : List (Held Rule)) → levels < 2 ^ 64 → AreFit levels come
+    → All (λ (b : Held Rule). alone_level op Right b.item.level size < 2 ^ 64) come
 alone-below op size levels come w f =
-    All-from_recursion _ come (all-map (λ (b : Held Rule). IsFit levels b.item) (λ (b : Held Rule). alone_level op Right b.item.level size < 2 ^ 64) come
+    All-from_recursion _ come
+    (all-map (λ (b : Held Rule). IsFit levels b.item)
+    (λ (b : Held Rule). alone_level op Right b.item.level size < 2 ^ 64) come
     (λ b t. subst (λ (k : ℕ). k < 2 ^ 64) (sym (right-level op b.item.level size)) (let l = t.below in omega arith)) f)
 
-none-joined : (op : Op) (size : ℕ) (come : List (Held Rule)) → AllByRecursion (λ (b : Held Rule). All (λ (a : Held Rule). joined_level op a.item.level b.item.level size < 2 ^ 64) []) come
+none-joined : (op : Op) (size : ℕ) (come : List (Held Rule))
+    → AllByRecursion
+    (λ (b : Held Rule). All (λ (a : Held Rule). joined_level op a.item.level b.item.level size < 2 ^ 64) []) come
 none-joined op size [] = tt
 none-joined op size (b ∷ come) = (λ k d lt. absurd (omega arith), none-joined op size come)
 
-pub none-below : (op : Op) (size : ℕ) (come lefts : List (Held Rule)) → lefts ≡ [] → All (λ (b : Held Rule). All (λ (a : Held Rule). joined_level op a.item.level b.item.level size < 2 ^ 64) lefts) come
+pub none-below : (op : Op) (size : ℕ) (come lefts : List (Held Rule)) → lefts ≡ []
+    → All (λ (b : Held Rule). All (λ (a : Held Rule). joined_level op a.item.level b.item.level size < 2 ^ 64) lefts)
+    come
 none-below op size come lefts e =
-    subst (λ (z : List (Held Rule)). All (λ (b : Held Rule). All (λ (a : Held Rule). joined_level op a.item.level b.item.level size < 2 ^ 64) z) come) (sym e) (All-from_recursion _ come (none-joined op size come))
+    subst
+    (λ (z : List (Held Rule)). All
+    (λ (b : Held Rule). All (λ (a : Held Rule). joined_level op a.item.level b.item.level size < 2 ^ 64) z) come)
+    (sym e) (All-from_recursion _ come (none-joined op size come))
 
 pub none-sound : (left : List (Held Made)) → left ≡ [] → AreSound (rules_in left)
 none-sound left e = subst (λ (z : List (Held Made)). AreSound (rules_in z)) (sym e) tt
 
-pub none-shown : (op : Op) (items : List Item) (left : List (Held Made)) → items ≡ [] → left ≡ [] → IsPermutation items (filter_map (shown (reach op)) (rules_in left))
-none-shown op items left e f = by-equation _ _ (e ∙ ap (λ (z : List (Held Made)). filter_map (shown (reach op)) (rules_in z)) (sym f))
+pub none-shown : (op : Op) (items : List Item) (left : List (Held Made)) → items ≡ [] → left ≡ []
+    → IsPermutation items (filter_map (shown (reach op)) (rules_in left))
+none-shown op items left e f =
+    by-equation _ _ (e ∙ ap (λ (z : List (Held Made)). filter_map (shown (reach op)) (rules_in z)) (sym f))
 
-pub others-alone : (op : Op) (size : ℕ) (fresh : List Made) (come : List (Held Rule)) (left right : List (Held Made)) → left ≡ [] → come ≡ rules_in right → IsPermutation fresh (by_right (held_way op size) (rules_in left) come) →
+pub others-alone : (op : Op) (size : ℕ) (fresh : List Made) (come : List (Held Rule)) (left right : List (Held Made))
+    → left ≡ [] → come ≡ rules_in right → IsPermutation fresh (by_right (held_way op size) (rules_in left) come) →
     IsPermutation fresh (filter_map (held_way op size).other (rules_in right))
 others-alone op size fresh come left right e f p =
-    subst (λ (z : List (Held Rule)). IsPermutation fresh (filter_map (held_way op size).other z)) f (subst (λ (z : List (Held Made)). IsPermutation fresh (by_right (held_way op size) (rules_in z) come)) e p)
+    subst (λ (z : List (Held Rule)). IsPermutation fresh (filter_map (held_way op size).other z)) f
+    (subst (λ (z : List (Held Made)). IsPermutation fresh (by_right (held_way op size) (rules_in z) come)) e p)
 
 -- ---- operands that fit
 module _ (op : Op) (size : ℕ) (lefts rights : List (Held Made)) (c : CanJoin op size lefts rights) where
@@ -75,7 +90,12 @@ module _ (op : Op) (size : ℕ) (lefts rights : List (Held Made)) (c : CanJoin o
   bare = record { op = op; size = size; made = []; lefts = []; rights = [] }
 
   sizes : SizesFit bare c.left_size c.right_size
-  sizes = record { size = c.size_is; left_positive = c.left_positive; right_positive = c.right_positive; whole = c.whole }
+  sizes = record {
+    size = c.size_is;
+    left_positive = c.left_positive;
+    right_positive = c.right_positive;
+    whole = c.whole;
+  }
 
   module _ (come : List (Held Rule)) (e : come ≡ rules_in lefts) where
     come-fit : AreFit c.left_size come
@@ -87,35 +107,52 @@ module _ (op : Op) (size : ℕ) (lefts rights : List (Held Made)) (c : CanJoin o
     pub join-alone : All (λ (a : Held Rule). alone_level op Left a.item.level size < 2 ^ 64) come
     join-alone = left-levels bare c.left_size c.right_size sizes come come-fit
 
-    pub join-levels : All (λ (a : Held Rule). All (λ (b : Held Rule). joined_level op a.item.level b.item.level size < 2 ^ 64) (rules_in rights)) come
+    pub join-levels : All
+        (λ (a : Held Rule). All (λ (b : Held Rule). joined_level op a.item.level b.item.level size < 2 ^ 64)
+        (rules_in rights)) come
     join-levels = by-left-levels bare c.left_size c.right_size sizes come (rules_in rights) come-fit c.rights_fit
 
   pub join-rights : AreSound (rules_in rights)
   join-rights = fit-sound c.right_size (rules_in rights) c.rights_fit
 
-pub both-made : (op : Op) (size : ℕ) (fresh alone new : List Made) (come : List (Held Rule)) (lefts rights : List (Held Made)) → come ≡ rules_in lefts → IsPermutation fresh (by_left (held_way op size) come (rules_in rights)) →
-    IsPermutation alone (filter_map (held_way op size).other (rules_in rights)) → new ≡ fresh ++ alone → IsPermutation new (made (held_way op size) (rules_in lefts) (rules_in rights))
+pub both-made : (op : Op) (size : ℕ) (fresh alone new : List Made) (come : List (Held Rule))
+    (lefts rights : List (Held Made)) → come ≡ rules_in lefts
+    → IsPermutation fresh (by_left (held_way op size) come (rules_in rights)) →
+    IsPermutation alone (filter_map (held_way op size).other (rules_in rights)) → new ≡ fresh ++ alone
+    → IsPermutation new (made (held_way op size) (rules_in lefts) (rules_in rights))
 both-made op size fresh alone new come lefts rights e f a n =
     IsPermutation-trans _ _ _ (by-equation _ _ n)
-    (IsPermutation-append _ _ _ _ (subst (λ (z : List (Held Rule)). IsPermutation fresh (by_left (held_way op size) z (rules_in rights))) e f) a)
+    (IsPermutation-append _ _ _ _
+    (subst (λ (z : List (Held Rule)). IsPermutation fresh (by_left (held_way op size) z (rules_in rights))) e f) a)
 
 -- ---- what is kept
 kept-items : (ids : List ℕ) (items : List Made) → length ids ≡ length items → map item_of (held_as ids items) ≡ items
 kept-items [] [] e = refl
 kept-items [] (x ∷ items) e = absurd (let z : 0 ≡ length (x ∷ items) = e in grind (arith, common_steps))
 kept-items (i ∷ ids) [] e = absurd (let z : length (i ∷ ids) ≡ 0 = e in grind (arith, common_steps))
-kept-items (i ∷ ids) (x ∷ items) e = ap (λ z. x ∷ z) (kept-items ids items (let z : length (i ∷ ids) ≡ length (x ∷ items) = e in grind (arith, common_steps)))
+kept-items (i ∷ ids) (x ∷ items) e =
+    ap (λ z. x ∷ z)
+    (kept-items ids items (let z : length (i ∷ ids) ≡ length (x ∷ items) = e in grind (arith, common_steps)))
 
 -- a store that held nothing and keeps these items holds them
-pub kept-all : (ids : List ℕ) (items : List Made) (old new : List (Held Made)) → old ≡ [] → length ids ≡ length items → IsPermutation (held_as ids items ++ old) new → IsPermutation (map item_of new) items
+pub kept-all : (ids : List ℕ) (items : List Made) (old new : List (Held Made)) → old ≡ [] → length ids ≡ length items
+    → IsPermutation (held_as ids items ++ old) new → IsPermutation (map item_of new) items
 kept-all ids items old new e n p =
-    IsPermutation-trans _ _ _ (IsPermutation-map item_of _ _ (IsPermutation-sym _ _ (subst (λ (z : List (Held Made)). IsPermutation (held_as ids items ++ z) new) e p)))
+    IsPermutation-trans _ _ _
+    (IsPermutation-map item_of _ _
+    (IsPermutation-sym _ _ (subst (λ (z : List (Held Made)). IsPermutation (held_as ids items ++ z) new) e p)))
     (by-equation _ _ (ap (map item_of) (append-nil (held_as ids items)) ∙ kept-items ids items n))
 
-pub whole-node : (n : NodeOf) (op : Op) (size : ℕ) (fresh : List Made) (lefts rights : List (Held Made)) → n.op ≡ op → n.size ≡ size → IsPermutation (map item_of n.made) fresh → IsPermutation fresh (made (held_way op size) (rules_in lefts) (rules_in rights)) →
-    n.lefts ≡ filter_map (shown (reach op)) (rules_in lefts) → n.rights ≡ filter_map (shown (asked op)) (rules_in rights) → IsNode n (rules_in lefts) (rules_in rights)
+pub whole-node : (n : NodeOf) (op : Op) (size : ℕ) (fresh : List Made) (lefts rights : List (Held Made)) → n.op ≡ op
+    → n.size ≡ size → IsPermutation (map item_of n.made) fresh
+    → IsPermutation fresh (made (held_way op size) (rules_in lefts) (rules_in rights)) →
+    n.lefts ≡ filter_map (shown (reach op)) (rules_in lefts)
+    → n.rights ≡ filter_map (shown (asked op)) (rules_in rights) → IsNode n (rules_in lefts) (rules_in rights)
 whole-node n op size fresh lefts rights o s m f l r = record {
-  made_are = IsPermutation-trans _ _ _ m (IsPermutation-trans _ _ _ f (by-equation _ _ (ap (λ z. made (held_way z size) (rules_in lefts) (rules_in rights)) (sym o) ∙ ap (λ (k : ℕ). made (held_way n.op k) (rules_in lefts) (rules_in rights)) (sym s))));
+  made_are = IsPermutation-trans _ _ _ m
+      (IsPermutation-trans _ _ _ f
+      (by-equation _ _ (ap (λ z. made (held_way z size) (rules_in lefts) (rules_in rights)) (sym o)
+      ∙ ap (λ (k : ℕ). made (held_way n.op k) (rules_in lefts) (rules_in rights)) (sym s))));
   shown = record {
     lefts_are = by-equation _ _ (l ∙ ap (λ z. filter_map (shown (reach z)) (rules_in lefts)) (sym o));
     rights_are = by-equation _ _ (r ∙ ap (λ z. filter_map (shown (asked z)) (rules_in rights)) (sym o));
@@ -129,44 +166,61 @@ one-more x xs = grind (arith, common_steps)
 alone-ones : (op : Op) (rights : List (Held Made)) → right_cost op [] (rules_in rights) ≡ length rights
 alone-ones op [] = refl
 alone-ones op (h ∷ rights) =
-    sum_by-cons (λ (b : Held Rule). 1 + count_by (λ (a : Held Rule). could_meet op a.item b.item) []) (rule_held h) (rules_in rights)
+    sum_by-cons (λ (b : Held Rule). 1 + count_by (λ (a : Held Rule). could_meet op a.item b.item) []) (rule_held h)
+    (rules_in rights)
     ∙ (ap (λ (k : ℕ). 1 + k) (alone-ones op rights) ∙ sym (one-more h rights))
 
 -- with no rules of the left, one step for each
-pub alone-spent : (op : Op) (left right : List (Held Made)) (come : List (Held Rule)) (old new : ℕ) → left ≡ [] → come ≡ rules_in right → new ≤ old + right_cost op (rules_in left) come → new ≤ old + length right
+pub alone-spent : (op : Op) (left right : List (Held Made)) (come : List (Held Rule)) (old new : ℕ) → left ≡ []
+    → come ≡ rules_in right → new ≤ old + right_cost op (rules_in left) come → new ≤ old + length right
 alone-spent op left right come old new e f p =
-    subst (λ (k : ℕ). new ≤ old + k) (ap (λ (z : List (Held Made)). right_cost op (rules_in z) come) e ∙ ap (right_cost op []) f ∙ alone-ones op right) p
+    subst (λ (k : ℕ). new ≤ old + k) (ap (λ (z : List (Held Made)). right_cost op (rules_in z) come) e
+    ∙ ap (right_cost op []) f ∙ alone-ones op right) p
 
-one-each : (op : Op) (lefts : List (Held Rule)) (rights : List (Held Made)) → length rights ≤ right_cost op lefts (rules_in rights)
+one-each : (op : Op) (lefts : List (Held Rule)) (rights : List (Held Made))
+    → length rights ≤ right_cost op lefts (rules_in rights)
 one-each op lefts [] = omega arith
 one-each op lefts (h ∷ rights) =
-    let e = sum_by-cons (λ (b : Held Rule). 1 + count_by (λ (a : Held Rule). could_meet op a.item b.item) lefts) (rule_held h) (rules_in rights) in
-    at (length rights) (right_cost op lefts (rules_in rights)) (count_by (λ (a : Held Rule). could_meet op a.item h.item.rule) lefts) (length (h ∷ rights)) _ (one-each op lefts rights) (one-more h rights) e
+    let e = sum_by-cons (λ (b : Held Rule). 1 + count_by (λ (a : Held Rule). could_meet op a.item b.item) lefts)
+    (rule_held h) (rules_in rights) in
+    at (length rights) (right_cost op lefts (rules_in rights))
+    (count_by (λ (a : Held Rule). could_meet op a.item h.item.rule) lefts) (length (h ∷ rights)) _
+    (one-each op lefts rights) (one-more h rights) e
   where
     at : (n c k m t : ℕ) → n ≤ c → m ≡ 1 + n → t ≡ (1 + k) + c → m ≤ t
     at n c k m t p e f = omega arith
 
 -- the steps of whole operands, and where there was no memory after those of the left
-pub both-spent : (op : Op) (come : List (Held Rule)) (lefts rights : List (Held Made)) (s0 s1 s2 : ℕ) → come ≡ rules_in lefts → s1 ≤ s0 + left_cost op (rules_in rights) come → s2 ≤ s1 + length rights →
+pub both-spent : (op : Op) (come : List (Held Rule)) (lefts rights : List (Held Made)) (s0 s1 s2 : ℕ)
+    → come ≡ rules_in lefts → s1 ≤ s0 + left_cost op (rules_in rights) come → s2 ≤ s1 + length rights →
     s2 ≤ s0 + (left_cost op (rules_in rights) (rules_in lefts) + right_cost op (rules_in lefts) (rules_in rights))
 both-spent op come lefts rights s0 s1 s2 e p q =
-    at (left_cost op (rules_in rights) (rules_in lefts)) (right_cost op (rules_in lefts) (rules_in rights)) (length rights)
-    (subst (λ (z : List (Held Rule)). s1 ≤ s0 + left_cost op (rules_in rights) z) e p) q (one-each op (rules_in lefts) rights)
+    at (left_cost op (rules_in rights) (rules_in lefts)) (right_cost op (rules_in lefts) (rules_in rights))
+    (length rights)
+    (subst (λ (z : List (Held Rule)). s1 ≤ s0 + left_cost op (rules_in rights) z) e p) q
+    (one-each op (rules_in lefts) rights)
   where
     at : (a b n : ℕ) → s1 ≤ s0 + a → s2 ≤ s1 + n → n ≤ b → s2 ≤ s0 + (a + b)
     at a b n p q r = omega arith
 
-pub lefts-spent : (op : Op) (come : List (Held Rule)) (lefts rights : List (Held Made)) (s0 s1 : ℕ) → come ≡ rules_in lefts → s1 ≤ s0 + left_cost op (rules_in rights) come →
+pub lefts-spent : (op : Op) (come : List (Held Rule)) (lefts rights : List (Held Made)) (s0 s1 : ℕ)
+    → come ≡ rules_in lefts → s1 ≤ s0 + left_cost op (rules_in rights) come →
     s1 ≤ s0 + (left_cost op (rules_in rights) (rules_in lefts) + right_cost op (rules_in lefts) (rules_in rights))
 lefts-spent op come lefts rights s0 s1 e p =
-    at (left_cost op (rules_in rights) (rules_in lefts)) (right_cost op (rules_in lefts) (rules_in rights)) (subst (λ (z : List (Held Rule)). s1 ≤ s0 + left_cost op (rules_in rights) z) e p)
+    at (left_cost op (rules_in rights) (rules_in lefts)) (right_cost op (rules_in lefts) (rules_in rights))
+    (subst (λ (z : List (Held Rule)). s1 ≤ s0 + left_cost op (rules_in rights) z) e p)
   where
     at : (a b : ℕ) → s1 ≤ s0 + a → s1 ≤ s0 + (a + b)
     at a b p = omega arith
 
 -- the same where the operands are written otherwise
-pub spent-at : (op : Op) (xs us ys vs : List (Held Made)) (s0 s1 : ℕ) → xs ≡ us → ys ≡ vs → s1 ≤ s0 + (left_cost op (rules_in ys) (rules_in xs) + right_cost op (rules_in xs) (rules_in ys)) →
+pub spent-at : (op : Op) (xs us ys vs : List (Held Made)) (s0 s1 : ℕ) → xs ≡ us → ys ≡ vs
+    → s1 ≤ s0 + (left_cost op (rules_in ys) (rules_in xs) + right_cost op (rules_in xs) (rules_in ys)) →
     s1 ≤ s0 + (left_cost op (rules_in vs) (rules_in us) + right_cost op (rules_in us) (rules_in vs))
 spent-at op xs us ys vs s0 s1 e f p =
-    subst (λ (z : List (Held Made)). s1 ≤ s0 + (left_cost op (rules_in z) (rules_in us) + right_cost op (rules_in us) (rules_in z))) f
-    (subst (λ (z : List (Held Made)). s1 ≤ s0 + (left_cost op (rules_in ys) (rules_in z) + right_cost op (rules_in z) (rules_in ys))) e p)
+    subst
+    (λ (z : List (Held Made)). s1 ≤ s0 +
+    (left_cost op (rules_in z) (rules_in us) + right_cost op (rules_in us) (rules_in z))) f
+    (subst
+    (λ (z : List (Held Made)). s1 ≤ s0 +
+    (left_cost op (rules_in ys) (rules_in z) + right_cost op (rules_in z) (rules_in ys))) e p)

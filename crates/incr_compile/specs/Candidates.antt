@@ -48,11 +48,13 @@ could_meet op a b = both_overlap (reach op a) (asked op b)
 
 -- one step for each rule that comes to the left, and one for each rule of the right that it could meet
 abbrev pub left_cost : Op → List (Held Rule) → List (Held Rule) → ℕ
-left_cost op rights come = sum_by (λ (a : Held Rule). 1 + count_by (λ (b : Held Rule). could_meet op a.item b.item) rights) come
+left_cost op rights come =
+    sum_by (λ (a : Held Rule). 1 + count_by (λ (b : Held Rule). could_meet op a.item b.item) rights) come
 
 -- the same for rules that come to the right
 abbrev pub right_cost : Op → List (Held Rule) → List (Held Rule) → ℕ
-right_cost op lefts come = sum_by (λ (b : Held Rule). 1 + count_by (λ (a : Held Rule). could_meet op a.item b.item) lefts) come
+right_cost op lefts come =
+    sum_by (λ (b : Held Rule). 1 + count_by (λ (a : Held Rule). could_meet op a.item b.item) lefts) come
 
 -- a match under an id, as an index holds it
 abbrev pub item_for : ℕ → MatchOf → Item

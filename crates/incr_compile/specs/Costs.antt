@@ -27,7 +27,8 @@ module _ (sizes : ℕ → ℕ) (before after : ℕ → List Rule) where
 
   -- the steps at an operator over two expressions
   abbrev pub steps_at : Op → Policy → Policy → ℕ
-  steps_at op a b = left_steps op (rules_of sizes after b) (come_to a) + right_steps op (rules_of sizes after a) (come_to b)
+  steps_at op a b = left_steps op (rules_of sizes after b) (come_to a) + right_steps op (rules_of sizes after a)
+      (come_to b)
 
   -- the steps at all operators of an expression
   abbrev pub steps_of : Policy → ℕ

@@ -89,14 +89,17 @@ changed_by asked made = asked.come.items ++ filter (is_not_of asked.gone.items) 
 abbrev pub Changes : MemberChange → TreeOf → TreeOf → Type 0
 Changes asked (leaf i s before) (leaf j t after) =
     (j ≡ i) × (t ≡ s)
-    × IsPermutation (map item_of after) (if asked.member == i then changed_by asked (map item_of before) else map item_of before)
+    × IsPermutation (map item_of after) (if asked.member == i then changed_by asked (map item_of before)
+    else map item_of before)
 Changes asked (branch n l r) (branch m l' r') =
     (m.op ≡ n.op) × (m.size ≡ n.size) × Changes asked l l' × Changes asked r r'
 Changes asked (leaf i s before) (branch m l' r') = ⊥
 Changes asked (branch n l r) (leaf j t after) = ⊥
 
 -- an operand's change is under way at a node that is ready to follow: `mid` are its rules then
-pub record FollowsLeft (operand : ChangeOf → List (Held Made) → Type 0) (asked : MemberChange) (n : NodeOf) (node : Node) (other other' : TreeOf) (below change : ChangeOf) (after : List (Held Made)) : Type 0 where
+pub record FollowsLeft (operand : ChangeOf → List (Held Made)
+    → Type 0) (asked : MemberChange) (n : NodeOf) (node : Node) (other other' : TreeOf) (below change : ChangeOf)
+    (after : List (Held Made)) : Type 0 where
   pub mid : List (Held Made)
   pub changes : operand below mid
   pub same : other' ≡ other
@@ -105,7 +108,9 @@ pub record FollowsLeft (operand : ChangeOf → List (Held Made) → Type 0) (ask
   pub room : length below.come ≤ node.lefts.room
   pub carried : IsCarried n.made node.made after change (made_by n (rules_in mid) (rules_in (made_in other)))
 
-pub record FollowsRight (operand : ChangeOf → List (Held Made) → Type 0) (asked : MemberChange) (n : NodeOf) (node : Node) (other other' : TreeOf) (below change : ChangeOf) (after : List (Held Made)) : Type 0 where
+pub record FollowsRight (operand : ChangeOf → List (Held Made)
+    → Type 0) (asked : MemberChange) (n : NodeOf) (node : Node) (other other' : TreeOf) (below change : ChangeOf)
+    (after : List (Held Made)) : Type 0 where
   pub mid : List (Held Made)
   pub changes : operand below mid
   pub same : other' ≡ other
@@ -115,11 +120,13 @@ pub record FollowsRight (operand : ChangeOf → List (Held Made) → Type 0) (as
   pub carried : IsCarried n.made node.made after change (made_by n (rules_in (made_in other)) (rules_in mid))
 
 -- the operand of this side is under way, where `on_left` and `on_right` say what that is
-abbrev pub FollowsBy : (on_left on_right : ChangeOf → List (Held Made) → Type 0) → MemberChange → NodeOf → Node → (l r l' r' : TreeOf) → Side → (below change : ChangeOf) → List (Held Made) → Type 0
+abbrev pub FollowsBy : (on_left on_right : ChangeOf → List (Held Made) → Type 0) → MemberChange → NodeOf → Node
+    → (l r l' r' : TreeOf) → Side → (below change : ChangeOf) → List (Held Made) → Type 0
 FollowsBy p q asked n node l r l' r' Left below change after = FollowsLeft p asked n node r r' below change after
 FollowsBy p q asked n node l r l' r' Right below change after = FollowsRight q asked n node l l' below change after
 
-abbrev pub Follows : (on_left on_right : ChangeOf → List (Held Made) → Type 0) → MemberChange → NodeOf → Node → (l r l' r' : TreeOf) → Option Below → ChangeOf → List (Held Made) → Type 0
+abbrev pub Follows : (on_left on_right : ChangeOf → List (Held Made) → Type 0) → MemberChange → NodeOf → Node
+    → (l r l' r' : TreeOf) → Option Below → ChangeOf → List (Held Made) → Type 0
 Follows p q asked n node l r l' r' None change after = ⊥
 Follows p q asked n node l r l' r' (Some b) change after =
     FollowsBy p q asked n node l r l' r' b.side b.change change after

@@ -82,7 +82,8 @@ fn operator_tree<R: Threads + Sync, G: Ledger>(
 ) -> Result<Tree, Memory>
     requires { CanBeOver op size (tree_of left) (tree_of right) }
     ensures over { IfOk result (λ tree. IsOver op (tree_of left) (tree_of right) (tree_of tree)) }
-    ensures steps { steps.new ≤ steps.old + (left_cost op (rules_in (made_in (tree_of right))) (rules_in (made_in (tree_of left)))
+    ensures steps { steps.new ≤ steps.old +
+        (left_cost op (rules_in (made_in (tree_of right))) (rules_in (made_in (tree_of left)))
         + right_cost op (rules_in (made_in (tree_of left))) (rules_in (made_in (tree_of right)))) }
 {
     // The node comes last, so that no failure has to let go of it.

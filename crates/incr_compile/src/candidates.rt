@@ -69,7 +69,8 @@ pub(crate) fn candidates<'a>(
     m: Option<Match>,
     store: &'a Store<Made>,
 ) -> Result<Vec<Old<'a>>, Memory>
-    ensures { (by : Rule → Option MatchOf) → IsPermutation index.now.items (filter_map (shown by) (rules_in store.now)) → IfOk result (λ olds. IsPermutation olds.items (filter (is_found m by) (rules_in store.now))) }
+    ensures { (by : Rule → Option MatchOf) → IsPermutation index.now.items (filter_map (shown by) (rules_in store.now))
+        → IfOk result (λ olds. IsPermutation olds.items (filter (is_found m by) (rules_in store.now))) }
 {
     let ids = meeting(alloc, index, m)?;
     let found = olds(alloc, store, &ids)?;

@@ -43,7 +43,8 @@ impl Model for Compiled {
 }
 
 impl Compiled {
-    ghost use Rattle.std.specs.Prelude.{◌≡◌, ◌≢◌, ◌+◌, ◌<◌, ◌≤◌, ◌^◌, ℕ, All, IfOk, IsPermutation, List, OnErr, OnOk, true};
+    ghost use Rattle.std.specs.Prelude.{◌≡◌, ◌≢◌, ◌+◌, ◌<◌, ◌≤◌, ◌^◌, ℕ, All, IfOk, IsPermutation, List, OnErr, OnOk};
+    ghost use Rattle.std.specs.Prelude.{true};
     ghost use Rattle.std.specs.List.{AllByRecursion};
     ghost use Rattle.list_change.specs.Changes.{Apart, Changed};
     ghost use Rattle.policy_expr.specs.Policy.{members_of, policy_of};
@@ -92,11 +93,13 @@ impl Compiled {
             → IsOf sizes before (tree_of self.old) → OnOk result (IsOf sizes after (tree_of self.new)) }
         ensures policy { OnOk result (policy_in (tree_of self.new) ≡ policy_in (tree_of self.old)) }
         // What is told is what changed, and no rule is in both lists.
-        ensures told { IfOk result (λ told. Changed (rules_at (tree_of self.old)) (rules_at (tree_of self.new)) told.gone told.come) }
+        ensures told { IfOk result
+            (λ told. Changed (rules_at (tree_of self.old)) (rules_at (tree_of self.new)) told.gone told.come) }
         ensures apart { IfOk result (λ told. Apart told.gone told.come) }
         // Whatever the result is, the steps are those for the rules that come.
         ensures steps { (sizes : ℕ → ℕ) → (before after : ℕ → List Rule) → MemberChanges delta before after
-            → IsOf sizes before (tree_of self.old) → steps.new ≤ steps.old + steps_of sizes before after (policy_in (tree_of self.old)) }
+            → IsOf sizes before (tree_of self.old)
+            → steps.new ≤ steps.old + steps_of sizes before after (policy_in (tree_of self.old)) }
         ensures memory { OnErr result (tree_of self.new ≡ tree_of self.old) }
     {
         let asked = asked_of(self.alloc, delta)?;

@@ -1,11 +1,13 @@
 //! What a rule that comes makes with rules of the other operand.
-ghost use Rattle.std.specs.Prelude.{◌≡◌, ◌+◌, ◌<◌, ◌≤◌, ◌^◌, ◌++◌, ◌∷◌, [], All, IfOk, OnOk, IsTrue, ◌↔◌, List, option_map, option_to_list, filter_map, length};
+ghost use Rattle.std.specs.Prelude.{◌≡◌, ◌+◌, ◌<◌, ◌≤◌, ◌^◌, ◌++◌, ◌∷◌, [], All, IfOk, OnOk, IsTrue, ◌↔◌, List};
+ghost use Rattle.std.specs.Prelude.{option_map, option_to_list, filter_map, length};
 ghost use Rattle.list_change.specs.Pairing.{by_left, by_right};
 ghost use Rattle.op_compose.specs.Composition.{Joins, alone_level, joined, joined_level};
 ghost use Rattle.op_compose.specs.declared.op.Side.TheVariants.{Left, Right};
 ghost use Rattle.policy_meaning.specs.declared.rule.Rule.{Rule};
 ghost use Rattle.rule_ancestry.specs.Holding.{Held};
-ghost use Rattle.incr_compile.specs.Ways.{held_way, left_origin, lone, made_with, right_origin, stays_out as stays_out_by};
+ghost use Rattle.incr_compile.specs.Ways.{held_way, left_origin, lone, made_with, right_origin};
+ghost use Rattle.incr_compile.specs.Ways.{stays_out as stays_out_by};
 
 use cv_io::{List, Memory, Steps};
 use made_rules::{Made, Old, Origin};
@@ -48,7 +50,8 @@ pub(crate) fn keep(
     rule: Option<Rule>,
     origins: &[Origin],
 ) -> Result<(), Memory>
-    ensures { OnOk result (fresh.new.items ≡ fresh.old.items ++ option_to_list (option_map (made_with origins.now) rule)) }
+    ensures { OnOk result (fresh.new.items ≡ fresh.old.items
+        ++ option_to_list (option_map (made_with origins.now) rule)) }
 {
     if let Some(rule) = rule {
         let origins = List::from_slice(alloc, origins)?;
@@ -64,7 +67,8 @@ fn keep_alone(
     rule: Option<Rule>,
     id: usize,
 ) -> Result<(), Memory>
-    ensures { OnOk result (fresh.new.items ≡ fresh.old.items ++ option_to_list (option_map (made_with (left_origin id ∷ [])) rule)) }
+    ensures { OnOk result (fresh.new.items ≡ fresh.old.items
+        ++ option_to_list (option_map (made_with (left_origin id ∷ [])) rule)) }
 {
     keep(alloc, fresh, rule, &[left_rule(id)])
 }
@@ -81,7 +85,8 @@ pub(crate) fn add_pairs<G: Ledger>(
 ) -> Result<(), Memory>
     requires joins { Joins op a.now.item.tail }
     requires level { All (λ (b : Held Rule). joined_level op a.now.item.level b.item.level size < 2 ^ 64) rights.now }
-    ensures made { OnOk result (fresh.new.items ≡ fresh.old.items ++ filter_map ((held_way op size).pair a.now) rights.now) }
+    ensures made { OnOk result (fresh.new.items ≡ fresh.old.items
+        ++ filter_map ((held_way op size).pair a.now) rights.now) }
     ensures steps { steps.new ≤ steps.old + length rights.now }
 {
     for b in rights {
@@ -131,7 +136,8 @@ pub(crate) fn add_by_left<G: Ledger>(
 ) -> Result<(), Memory>
     requires alone { alone_level op Left a.now.item.level size < 2 ^ 64 }
     requires level { All (λ (b : Held Rule). joined_level op a.now.item.level b.item.level size < 2 ^ 64) rights.now }
-    ensures made { OnOk result (fresh.new.items ≡ fresh.old.items ++ by_left (held_way op size) (a.now ∷ []) rights.now) }
+    ensures made { OnOk result (fresh.new.items ≡ fresh.old.items
+        ++ by_left (held_way op size) (a.now ∷ []) rights.now) }
     ensures steps { steps.new ≤ steps.old + (1 + length rights.now) }
 {
     if joins(op, &a.rule.tail) {
@@ -171,7 +177,8 @@ pub(crate) fn add_by_right<G: Ledger>(
 ) -> Result<(), Memory>
     requires alone { alone_level op Right b.now.item.level size < 2 ^ 64 }
     requires level { All (λ (a : Held Rule). joined_level op a.item.level b.now.item.level size < 2 ^ 64) lefts.now }
-    ensures made { OnOk result (fresh.new.items ≡ fresh.old.items ++ by_right (held_way op size) lefts.now (b.now ∷ [])) }
+    ensures made { OnOk result (fresh.new.items ≡ fresh.old.items
+        ++ by_right (held_way op size) lefts.now (b.now ∷ [])) }
     ensures steps { steps.new ≤ steps.old + (1 + length lefts.now) }
 {
     for a in lefts {

@@ -1,12 +1,14 @@
 //! A node of an operator: what it made of the rules of its operands.
-ghost use Rattle.std.specs.Prelude.{◌≡◌, ◌+◌, ◌≤◌, ◌<◌, ◌^◌, ℕ, [], IfOk, IsPermutation, List, OnErr, OnOk, filter_map, length, map};
+ghost use Rattle.std.specs.Prelude.{◌≡◌, ◌+◌, ◌≤◌, ◌<◌, ◌^◌, ℕ, [], IfOk, IsPermutation, List, OnErr, OnOk, filter_map};
+ghost use Rattle.std.specs.Prelude.{length, map};
 ghost use Rattle.list_change.specs.Pairing.{made};
 ghost use Rattle.rule_ancestry.specs.Holding.{Held, item_of};
 ghost use Rattle.made_rules.specs.Changing.{AreWide, IsReady, settled};
 ghost use Rattle.made_rules.specs.declared.made.Made.{Made};
 ghost use Rattle.incr_compile.specs.Candidates.{asked, left_cost, reach, right_cost, shown};
 ghost use Rattle.made_rules.specs.Rules.{rules_in};
-ghost use Rattle.incr_compile.specs.Nodes.{AreFit, CanJoin, IsCarried, IsNode, LeftChanges, RightChanges, made_by, node_of};
+ghost use Rattle.incr_compile.specs.Nodes.{AreFit, CanJoin, IsCarried, IsNode, LeftChanges, RightChanges, made_by};
+ghost use Rattle.incr_compile.specs.Nodes.{node_of};
 ghost use Rattle.incr_compile.specs.Ways.{held_way, left_origin, right_origin};
 
 use crate::found::{found_rights, made_of_found};
@@ -94,8 +96,11 @@ fn made_of_all<R: Threads + Sync, G: Ledger>(
 ) -> Result<Vec<Made>, Memory>
     requires can { CanJoin op size left.now right.now }
     requires shown { IsPermutation rights.now.items (filter_map (shown (asked op)) (rules_in right.now)) }
-    ensures made { IfOk result (λ fresh. IsPermutation fresh.items (made (held_way op size) (rules_in left.now) (rules_in right.now))) }
-    ensures steps { steps.new ≤ steps.old + (left_cost op (rules_in right.now) (rules_in left.now) + right_cost op (rules_in left.now) (rules_in right.now)) }
+    ensures made { IfOk result
+        (λ fresh. IsPermutation fresh.items (made (held_way op size) (rules_in left.now) (rules_in right.now))) }
+    ensures steps { steps.new ≤ steps.old +
+        (left_cost op (rules_in right.now) (rules_in left.now) + right_cost op (rules_in left.now)
+        (rules_in right.now)) }
 {
     let ids = left.ids()?;
     let come = olds(alloc, left, &ids)?;
@@ -179,7 +184,8 @@ fn made_alone<G: Ledger>(
     steps: &mut Steps<G>,
 ) -> Result<Vec<Made>, Memory>
     requires { (levels : ℕ) × AreFit levels (rules_in right.now) × (levels < 2 ^ 64) }
-    ensures made { IfOk result (λ fresh. IsPermutation fresh.items (filter_map (held_way op size).other (rules_in right.now))) }
+    ensures made { IfOk result
+        (λ fresh. IsPermutation fresh.items (filter_map (held_way op size).other (rules_in right.now))) }
     ensures steps { steps.new ≤ steps.old + length right.now }
 {
     let ids = right.ids()?;
@@ -218,7 +224,9 @@ impl Node {
         ensures node { IfOk result (λ node. IsNode (node_of node) (rules_in left.now) (rules_in right.now)) }
         ensures op { IfOk result (λ node. node.op ≡ op) }
         ensures size { IfOk result (λ node. node.size ≡ size) }
-        ensures steps { steps.new ≤ steps.old + (left_cost op (rules_in right.now) (rules_in left.now) + right_cost op (rules_in left.now) (rules_in right.now)) }
+        ensures steps { steps.new ≤ steps.old +
+            (left_cost op (rules_in right.now) (rules_in left.now) + right_cost op (rules_in left.now)
+            (rules_in right.now)) }
     {
         let filed = filed(alloc, op, left, right)?;
         match store_of_all(rt, alloc, op, size, left, right, &filed.1, steps) {
@@ -251,7 +259,8 @@ impl Node {
         ensures ready { (before after : List (Held Made))
             → LeftChanges (node_of self.old) before left.now after right.now below.now
             → IfOk result (λ change. (new : List (Held Made))
-            × IsCarried self.old.made self.new.made new change (made_by (node_of self.old) (rules_in after) (rules_in right.now))) }
+            × IsCarried self.old.made self.new.made new change
+            (made_by (node_of self.old) (rules_in after) (rules_in right.now))) }
         ensures rest { node_of self.new ≡ record (node_of self.old) { made = self.new.made } }
         ensures room { OnOk result (length below.now.come ≤ self.new.lefts.room) }
         ensures steps { (before after : List (Held Made))
@@ -281,7 +290,8 @@ impl Node {
         ensures ready { (before after : List (Held Made))
             → RightChanges (node_of self.old) before right.now after left.now below.now
             → IfOk result (λ change. (new : List (Held Made))
-            × IsCarried self.old.made self.new.made new change (made_by (node_of self.old) (rules_in left.now) (rules_in after))) }
+            × IsCarried self.old.made self.new.made new change
+            (made_by (node_of self.old) (rules_in left.now) (rules_in after))) }
         ensures rest { node_of self.new ≡ record (node_of self.old) { made = self.new.made } }
         ensures room { OnOk result (length below.now.come ≤ self.new.rights.room) }
         ensures steps { (before after : List (Held Made))
@@ -313,7 +323,8 @@ impl Node {
             → (u : IsReady before self.old.made lost fresh change) → IsPermutation self.new.made (settled u) }
         ensures left { (before : List (Held Made)) → (lost : _) → (fresh : List Made)
             → (u : IsReady before self.old.made lost fresh change) → result.items ≡ map item_of u.going }
-        ensures rest { node_of self.new ≡ record (node_of self.old) { made = self.new.made; lefts = self.new.lefts.items } }
+        ensures rest { node_of self.new ≡ record (node_of self.old)
+            { made = self.new.made; lefts = self.new.lefts.items } }
     {
         show_change(&mut self.lefts, self.op, Side::Left, left, below);
         change.settle(&mut self.made)
@@ -334,7 +345,8 @@ impl Node {
             → (u : IsReady before self.old.made lost fresh change) → IsPermutation self.new.made (settled u) }
         ensures left { (before : List (Held Made)) → (lost : _) → (fresh : List Made)
             → (u : IsReady before self.old.made lost fresh change) → result.items ≡ map item_of u.going }
-        ensures rest { node_of self.new ≡ record (node_of self.old) { made = self.new.made; rights = self.new.rights.items } }
+        ensures rest { node_of self.new ≡ record (node_of self.old)
+            { made = self.new.made; rights = self.new.rights.items } }
     {
         show_change(&mut self.rights, self.op, Side::Right, right, below);
         change.settle(&mut self.made)

@@ -1,5 +1,6 @@
 //! The rules of an operand in the index of a node.
-ghost use Rattle.std.specs.Prelude.{◌≡◌, ◌==◌, ◌+◌, ◌<◌, ◌≤◌, ◌++◌, ◌∷◌, [], false, IsPermutation, List, OnOk, filter, filter_map, length, map, option_map, option_to_list};
+ghost use Rattle.std.specs.Prelude.{◌≡◌, ◌==◌, ◌+◌, ◌<◌, ◌≤◌, ◌++◌, ◌∷◌, [], false, IsPermutation, List, OnOk, filter};
+ghost use Rattle.std.specs.Prelude.{filter_map, length, map, option_map, option_to_list};
 ghost use Rattle.std.specs.List.{IsDistinct, list_any};
 ghost use Rattle.match_index.specs.Items.{has_id};
 ghost use Rattle.rule_ancestry.specs.Holding.{Held, id_of};

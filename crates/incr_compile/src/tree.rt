@@ -10,7 +10,8 @@ ghost use Rattle.incr_compile.specs.Candidates.{left_cost, right_cost};
 ghost use Rattle.incr_compile.specs.Compiling.{Asks, IsOf, MemberChanges, policy_in};
 ghost use Rattle.incr_compile.specs.Costs.{steps_of};
 ghost use Rattle.incr_compile.specs.Nodes.{IsCarried, LeftChanges, RightChanges, made_by, node_of};
-ghost use Rattle.incr_compile.specs.Trees.{CanCarryLeft, CanCarryRight, CanChange, IsReadyIn, IsSettled, IsUnderWay, TreeOf, has_member, made_in, tree_of};
+ghost use Rattle.incr_compile.specs.Trees.{CanCarryLeft, CanCarryRight, CanChange, IsReadyIn, IsSettled, IsUnderWay};
+ghost use Rattle.incr_compile.specs.Trees.{TreeOf, has_member, made_in, tree_of};
 ghost use Rattle.incr_compile.specs.declared.compiled.LeafDelta.{LeafDelta};
 ghost use Rattle.incr_compile.specs.declared.tree.MemberChange.{MemberChange};
 
@@ -58,14 +59,17 @@ fn carry_left<G: Ledger>(
     ensures carried { (before mid : List (Held Made))
         → LeftChanges (node_of node.old) before (made_in (tree_of left.old)) mid (made_in (tree_of right.now)) below
         → IfOk result (λ change. (after : List (Held Made))
-        × IsCarried node.old.made node.new.made after change (made_by (node_of node.old) (rules_in mid) (rules_in (made_in (tree_of right.now))))) }
+        × IsCarried node.old.made node.new.made after change
+        (made_by (node_of node.old) (rules_in mid) (rules_in (made_in (tree_of right.now))))) }
     ensures below { OnOk result (node.new.below ≡ Some (record { side = Left; change = below })) }
     ensures room { OnOk result (length below.come ≤ node.new.lefts.room) }
     ensures rest { node_of node.new ≡ record (node_of node.old) { made = node.new.made } }
     ensures left { OnOk result (left.new ≡ left.old) }
     ensures steps { (before mid : List (Held Made))
-        → (l : LeftChanges (node_of node.old) before (made_in (tree_of left.old)) mid (made_in (tree_of right.now)) below)
-        → steps.new ≤ steps.old + left_cost node.old.op (rules_in (made_in (tree_of right.now))) (rules_in l.ready.coming) }
+        → (l : LeftChanges (node_of node.old) before (made_in (tree_of left.old)) mid (made_in (tree_of right.now))
+        below)
+        → steps.new ≤ steps.old + left_cost node.old.op (rules_in (made_in (tree_of right.now)))
+        (rules_in l.ready.coming) }
     ensures memory { OnErr result (node.new.made ≡ node.old.made) }
     ensures undone { (asked : MemberChange) → (before : TreeOf) → (mid : List (Held Made))
         → IsReadyIn asked before left.old below mid → OnErr result (tree_of left.new ≡ before) }
@@ -100,14 +104,17 @@ fn carry_right<G: Ledger>(
     ensures carried { (before mid : List (Held Made))
         → RightChanges (node_of node.old) before (made_in (tree_of right.old)) mid (made_in (tree_of left.now)) below
         → IfOk result (λ change. (after : List (Held Made))
-        × IsCarried node.old.made node.new.made after change (made_by (node_of node.old) (rules_in (made_in (tree_of left.now))) (rules_in mid))) }
+        × IsCarried node.old.made node.new.made after change
+        (made_by (node_of node.old) (rules_in (made_in (tree_of left.now))) (rules_in mid))) }
     ensures below { OnOk result (node.new.below ≡ Some (record { side = Right; change = below })) }
     ensures room { OnOk result (length below.come ≤ node.new.rights.room) }
     ensures rest { node_of node.new ≡ record (node_of node.old) { made = node.new.made } }
     ensures right { OnOk result (right.new ≡ right.old) }
     ensures steps { (before mid : List (Held Made))
-        → (l : RightChanges (node_of node.old) before (made_in (tree_of right.old)) mid (made_in (tree_of left.now)) below)
-        → steps.new ≤ steps.old + right_cost node.old.op (rules_in (made_in (tree_of left.now))) (rules_in l.ready.coming) }
+        → (l : RightChanges (node_of node.old) before (made_in (tree_of right.old)) mid (made_in (tree_of left.now))
+        below)
+        → steps.new ≤ steps.old + right_cost node.old.op (rules_in (made_in (tree_of left.now)))
+        (rules_in l.ready.coming) }
     ensures memory { OnErr result (node.new.made ≡ node.old.made) }
     ensures undone { (asked : MemberChange) → (before : TreeOf) → (mid : List (Held Made))
         → IsReadyIn asked before right.old below mid → OnErr result (tree_of right.new ≡ before) }

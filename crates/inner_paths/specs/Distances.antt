@@ -17,8 +17,10 @@ has_path ways (suc n) from to = list_any (λ (w : Joint). (w.0.0 == from) && has
 -- the least number of cables of a path, of at most so many
 abbrev pub distance_within : List Joint → ℕ → ℕ → ℕ → Option ℕ
 distance_within ways zero from to = if from == to then Some 0 else None
-distance_within ways (suc n) from to = option_or (distance_within ways n from to) (if has_path ways (suc n) from to then Some (suc n) else None)
+distance_within ways (suc n) from to = option_or (distance_within ways n from to)
+    (if has_path ways (suc n) from to then Some (suc n) else None)
 
--- the distance of two switches; a shortest path comes to no switch twice, so it has no more cables than there are switches
+-- the distance of two switches; a shortest path comes to no switch twice, so it has no more cables than there are
+-- switches
 abbrev pub distance : TopologyPlan → ℕ → ℕ → Option ℕ
 distance plan from to = distance_within (ways_of plan) (length plan.switches) from to

@@ -1,5 +1,6 @@
 -- The port by which packets from one physical switch to another leave the first.
-use Rattle.std.specs.Prelude.{ℕ, Bool, ◌==◌, ◌&&◌, ◌||◌, nat_lt, Option, Some, None, List, [], ◌∷◌, if◌then◌else◌, filter_map, option_map, slice_get}
+use Rattle.std.specs.Prelude.{ℕ, Bool, ◌==◌, ◌&&◌, ◌||◌, nat_lt, Option, Some, None, List, [], ◌∷◌, if◌then◌else◌}
+use Rattle.std.specs.Prelude.{filter_map, option_map, slice_get}
 use Rattle.std.specs.Option.{option_and_then}
 use Rattle.virtual_topology.specs.declared.plan.TopologyPlan.{TopologyPlan}
 use Rattle.virtual_topology.specs.declared.plan.SwitchItem.{SwitchItem}
@@ -34,9 +35,11 @@ lead_by left from w = if w.0.0 == from then option_map (λ d. (d, w.0.1)) (left 
 -- the port of least number among those that lead nearest, between two different switches
 abbrev pub hop_between : TopologyPlan → ℕ → ℕ → Option ℕ
 hop_between plan from to =
-    if from == to then None else option_map (λ (l : Lead). l.1) (nearest (filter_map (lead_by (λ s. distance plan s to) from) (ways_of plan)))
+    if from == to then None else option_map (λ (l : Lead). l.1)
+    (nearest (filter_map (lead_by (λ s. distance plan s to) from) (ways_of plan)))
 
 -- of switches that are there
 abbrev pub next_hop_of : TopologyPlan → ℕ → ℕ → Option ℕ
 next_hop_of plan from to =
-    option_and_then (λ (a : SwitchItem). option_and_then (λ (b : SwitchItem). hop_between plan from to) (slice_get plan.switches to)) (slice_get plan.switches from)
+    option_and_then (λ (a : SwitchItem). option_and_then (λ (b : SwitchItem). hop_between plan from to)
+    (slice_get plan.switches to)) (slice_get plan.switches from)

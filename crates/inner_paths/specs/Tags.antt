@@ -1,5 +1,6 @@
 -- The VLAN numbers of outside ports.
-use Rattle.std.specs.Prelude.{ℕ, suc, Bool, ◌==◌, ◌&&◌, ◌||◌, nat_lt, Option, Some, None, List, filter, filter_map, length, if◌then◌else◌, is_some}
+use Rattle.std.specs.Prelude.{ℕ, suc, Bool, ◌==◌, ◌&&◌, ◌||◌, nat_lt, Option, Some, None, List, filter, filter_map}
+use Rattle.std.specs.Prelude.{length, if◌then◌else◌, is_some}
 use Rattle.virtual_topology.specs.declared.plan.TopologyPlan.{TopologyPlan}
 use Rattle.virtual_topology.specs.Rows.{Spot}
 use Rattle.virtual_topology.specs.Wires.{Joint, is_spread_of, outside_joints, outside_of}
@@ -14,7 +15,8 @@ place_of plan v port = suc (length (filter (stands_before plan v port) (outside_
 
 -- the tag of an outside port of a spread virtual switch
 abbrev pub tag_of : TopologyPlan → ℕ → ℕ → Option ℕ
-tag_of plan v port = if is_spread_of plan v && is_some (outside_of plan v port) then Some (place_of plan v port) else None
+tag_of plan v port = if is_spread_of plan v && is_some (outside_of plan v port) then Some (place_of plan v port)
+    else None
 
 -- an outside port with its tag, if it has one
 abbrev pub tag_row : TopologyPlan → Joint → Option (Spot × ℕ)

@@ -31,7 +31,8 @@ fn check_pair(
     to: u32,
     to_item: &SwitchItem,
 ) -> Result<(), PathFault>
-    requires distances { IsTable (length topology.now.switches) (length topology.now.switches) (λ to from. distance topology.now from to) distances.now }
+    requires distances { IsTable (length topology.now.switches) (length topology.now.switches)
+        (λ to from. distance topology.now from to) distances.now }
     requires from { from < length topology.now.switches }
     requires to { to < length topology.now.switches }
     ensures { Answers PathFault.Memory result (cut_between topology.now v (from, from_item.now) (to, to_item.now)) }
@@ -55,7 +56,8 @@ fn check_from(
     from: u32,
     from_item: &SwitchItem,
 ) -> Result<(), PathFault>
-    requires distances { IsTable (length topology.now.switches) (length topology.now.switches) (λ to from. distance topology.now from to) distances.now }
+    requires distances { IsTable (length topology.now.switches) (length topology.now.switches)
+        (λ to from. distance topology.now from to) distances.now }
     requires from { from < length topology.now.switches }
     ensures { Answers PathFault.Memory result (cut_from topology.now v (from, from_item.now)) }
 {
@@ -71,7 +73,8 @@ fn check_virtual(
     distances: &List<List<Option<u32>>>,
     v: u32,
 ) -> Result<(), PathFault>
-    requires distances { IsTable (length topology.now.switches) (length topology.now.switches) (λ to from. distance topology.now from to) distances.now }
+    requires distances { IsTable (length topology.now.switches) (length topology.now.switches)
+        (λ to from. distance topology.now from to) distances.now }
     ensures { Answers PathFault.Memory result (cut_of topology.now v) }
 {
     let switches = topology.plan().switches.as_slice();
@@ -86,7 +89,8 @@ pub(crate) fn check_reach(
     topology: &Topology,
     distances: &List<List<Option<u32>>>,
 ) -> Result<(), PathFault>
-    requires distances { IsTable (length topology.now.switches) (length topology.now.switches) (λ to from. distance topology.now from to) distances.now }
+    requires distances { IsTable (length topology.now.switches) (length topology.now.switches)
+        (λ to from. distance topology.now from to) distances.now }
     ensures { Answers PathFault.Memory result (cut_fault topology.now) }
 {
     let count = topology.plan().virtuals.len() as u32;

@@ -1,5 +1,6 @@
 //! Distances by count of cables.
-ghost use Rattle.std.specs.Prelude.{◌≡◌, ◌<◌, ◌^◌, ◌==◌, ◌+◌, ℕ, suc, Bool, false, None, Some, IfOk, length, slice_index_or, if◌then◌else◌};
+ghost use Rattle.std.specs.Prelude.{◌≡◌, ◌<◌, ◌^◌, ◌==◌, ◌+◌, ℕ, suc, Bool, false, None, Some, IfOk, length};
+ghost use Rattle.std.specs.Prelude.{slice_index_or, if◌then◌else◌};
 ghost use Rattle.std.specs.Option.{option_or};
 ghost use Rattle.inner_paths.specs.Distances.{distance_within, has_path};
 ghost use Rattle.inner_paths.specs.Tables.{IsRow, leads_into as leads_into_of};
@@ -45,7 +46,8 @@ fn own_layer(alloc: Global, count: u32, to: u32) -> Result<Vec<bool>, Memory>
 /// The switches from which a way leads to one of a layer.
 fn next_layer(alloc: Global, ways: &[Way], layer: &[bool], count: u32) -> Result<Vec<bool>, Memory>
     ensures whole { IfOk result (λ v. length v.items ≡ count) }
-    ensures each { IfOk result (λ v. (s : ℕ) → s < count → slice_index_or v.items s false ≡ leads_into_of ways.now layer.now s) }
+    ensures each { IfOk result (λ v. (s : ℕ) → s < count
+        → slice_index_or v.items s false ≡ leads_into_of ways.now layer.now s) }
 {
     let mut next = Vec::new(alloc);
     for switch in 0..count {
@@ -56,7 +58,8 @@ fn next_layer(alloc: Global, ways: &[Way], layer: &[bool], count: u32) -> Result
 
 /// The distance of a switch, once those are known that have a path of so many cables.
 fn noted_at(distances: &[Option<u32>], layer: &[bool], cables: u32, switch: u32) -> Option<u32>
-    ensures { result ≡ option_or (slice_index_or distances.now switch None) (if slice_index_or layer.now switch false then Some cables else None) }
+    ensures { result ≡ option_or (slice_index_or distances.now switch None)
+        (if slice_index_or layer.now switch false then Some cables else None) }
 {
     let known = distances.get(switch as usize).copied().unwrap_or(None);
     known.or(if has(layer, switch) {
@@ -74,7 +77,9 @@ fn noted(
     cables: u32,
     count: u32,
 ) -> Result<Vec<Option<u32>>, Memory>
-    ensures { IfOk result (λ v. IsRow count (λ s. option_or (slice_index_or distances.now s None) (if slice_index_or layer.now s false then Some cables else None)) v.items) }
+    ensures { IfOk result
+        (λ v. IsRow count (λ s. option_or (slice_index_or distances.now s None)
+        (if slice_index_or layer.now s false then Some cables else None)) v.items) }
 {
     let mut noted = Vec::new(alloc);
     for switch in 0..count {

@@ -1,6 +1,7 @@
 //! The port by which packets from one switch to another leave the first.
 ghost use Rattle.std.specs.Prelude.{◌≡◌, ◌==◌, ℕ, None, Some, filter_map, option_map, slice_index_or, if◌then◌else◌};
-ghost use Rattle.inner_paths.specs.Hops.{is_nearer as is_nearer_of, lead_by as lead_by_of, nearer as nearer_of, nearest as nearest_of, nearest_with as nearest_with_of};
+ghost use Rattle.inner_paths.specs.Hops.{is_nearer as is_nearer_of, lead_by as lead_by_of, nearer as nearer_of};
+ghost use Rattle.inner_paths.specs.Hops.{nearest as nearest_of, nearest_with as nearest_with_of};
 
 use crate::distance::Way;
 

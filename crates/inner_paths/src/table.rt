@@ -57,8 +57,12 @@ pub(crate) struct Tables {
 }
 
 pub(crate) fn make_tables(alloc: Global, topology: &Topology) -> Result<Tables, Memory>
-    ensures distances { IfOk result (λ t. IsTable (length topology.now.switches) (length topology.now.switches) (λ to from. distance topology.now from to) t.distances) }
-    ensures hops { IfOk result (λ t. IsTable (length topology.now.switches) (length topology.now.switches) (λ to from. hop_between topology.now from to) t.hops) }
+    ensures distances { IfOk result
+        (λ t. IsTable (length topology.now.switches) (length topology.now.switches)
+        (λ to from. distance topology.now from to) t.distances) }
+    ensures hops { IfOk result
+        (λ t. IsTable (length topology.now.switches) (length topology.now.switches)
+        (λ to from. hop_between topology.now from to) t.hops) }
 {
     let count = topology.plan().switches.len() as u32;
     let mut tables = Tables {

@@ -1,6 +1,7 @@
 //! The VLAN numbers of outside ports.
 ghost use Rattle.std.specs.Prelude.{◌≡◌, ◌<◌, ◌≤◌, ◌+◌, IfOk, OnOk, ◌++◌, if◌then◌else◌, length, option_to_list};
-ghost use Rattle.inner_paths.specs.Tags.{place_of as place_of_port, stands_before as stands_before_of, tag_row as tag_row_of, tag_rows as tag_rows_of};
+ghost use Rattle.inner_paths.specs.Tags.{place_of as place_of_port, stands_before as stands_before_of};
+ghost use Rattle.inner_paths.specs.Tags.{tag_row as tag_row_of, tag_rows as tag_rows_of};
 ghost use Rattle.virtual_topology.specs.Wires.{outside_joints};
 
 use cv_io::Memory;

@@ -1,5 +1,6 @@
 -- How many entries pass a test.
-use Rattle.std.proofs.Common.{◌≡◌, ℕ, zero, suc, ◌+◌, ◌≤◌, ◌<◌, Bool, true, false, cond, List, [], ◌∷◌, length, get_or, take, refl, sym, ap, subst, ◌∙◌, arith, count_by, nat_lt, lt-ltb, ltb-true}
+use Rattle.std.proofs.Common.{◌≡◌, ℕ, zero, suc, ◌+◌, ◌≤◌, ◌<◌, Bool, true, false, cond, List, [], ◌∷◌, length, get_or}
+use Rattle.std.proofs.Common.{take, refl, sym, ap, subst, ◌∙◌, arith, count_by, nat_lt, lt-ltb, ltb-true}
 use Rattle.std.specs.Prelude.{Some, flat_map}
 use Rattle.std.specs.List.{Contains, list_any}
 use Rattle.std.specs.Map.{lookup, set_value}
@@ -22,17 +23,21 @@ pub place_total : IsTotalOrder place_cmp
 place_total = then_total key_total by_ancestry_total
 
 -- one slot is written
-pub count-written : {A : Type 0} (p : A → Bool) (g : Key × Slot → List A) (test : Key → Bool) (s w : Slot) (slots : List (Key × Slot)) (m n : ℕ) → lookup test slots ≡ Some s
+pub count-written : {A : Type 0} (p : A → Bool) (g : Key × Slot → List A) (test : Key
+    → Bool) (s w : Slot) (slots : List (Key × Slot)) (m n : ℕ) → lookup test slots ≡ Some s
     → ((k : Key) → test k ≡ true → count_by p (g (k, w)) + m ≡ count_by p (g (k, s)) + n)
     → count_by p (flat_map g (set_value test slots w)) + m ≡ count_by p (flat_map g slots) + n
 count-written p g test s w [] m n e h = cc
 count-written p g test s w (q ∷ qs) m n e h = by (test q.0) refl e (λ f. count-written p g test s w qs m n f h)
   where
-    by : (b : Bool) → test q.0 ≡ b → cond b (Some q.1) (lookup test qs) ≡ Some s → (lookup test qs ≡ Some s → count_by p (flat_map g (set_value test qs w)) + m ≡ count_by p (flat_map g qs) + n)
-        → count_by p (flat_map g (cond b ((q.0, w) ∷ qs) (q ∷ set_value test qs w))) + m ≡ count_by p (flat_map g (q ∷ qs)) + n
+    by : (b : Bool) → test q.0 ≡ b → cond b (Some q.1) (lookup test qs) ≡ Some s
+        → (lookup test qs ≡ Some s → count_by p (flat_map g (set_value test qs w)) + m ≡ count_by p (flat_map g qs) + n)
+        → count_by p (flat_map g (cond b ((q.0, w) ∷ qs) (q ∷ set_value test qs w))) + m
+        ≡ count_by p (flat_map g (q ∷ qs)) + n
     by true t f rest =
         let is : q.1 ≡ s = cc in
-        let here : count_by p (g (q.0, w)) + m ≡ count_by p (g q) + n = subst (λ (z : Slot). count_by p (g (q.0, w)) + m ≡ count_by p (g (q.0, z)) + n) (sym is) (h q.0 t) in
+        let here : count_by p (g (q.0, w)) + m ≡ count_by p (g q) + n =
+        subst (λ (z : Slot). count_by p (g (q.0, w)) + m ≡ count_by p (g (q.0, z)) + n) (sym is) (h q.0 t) in
         let a = count-append p (g (q.0, w)) (flat_map g qs) in
         let b = count-append p (g q) (flat_map g qs) in
         omega (arith, here, a, b)
@@ -49,7 +54,8 @@ counted-in e es lt =
     subst (λ (d : PhysEntry). IsIn d es) (sym ((entry_decides e p.item).0 p.passes)) p.stands
 
 -- one item more of a list
-pub count-more : {A : Type 0} (p : A → Bool) (xs : List A) (i : ℕ) (x : A) → i < length xs → x ≡ get_or xs i x → count_by p (take (i + 1) xs) ≡ count_by p (take i xs) + count_by p (x ∷ [])
+pub count-more : {A : Type 0} (p : A → Bool) (xs : List A) (i : ℕ) (x : A) → i < length xs → x ≡ get_or xs i x
+    → count_by p (take (i + 1) xs) ≡ count_by p (take i xs) + count_by p (x ∷ [])
 count-more p [] i x lt e = absurd (omega arith)
 count-more p (y ∷ ys) zero x lt e =
     let one : 0 + 1 ≡ suc 0 = omega arith in
@@ -60,7 +66,8 @@ count-more p (y ∷ ys) (suc i) x lt e =
     let m = count-more p ys i x (omega arith) e in
     let a = count-cons p y (take (i + 1) ys) in
     let b = count-cons p y (take i ys) in
-    subst (λ n. count_by p (take n (y ∷ ys)) ≡ count_by p (take (suc i) (y ∷ ys)) + count_by p (x ∷ [])) (sym next) (omega (arith, m, a, b))
+    subst (λ n. count_by p (take n (y ∷ ys)) ≡ count_by p (take (suc i) (y ∷ ys)) + count_by p (x ∷ [])) (sym next)
+    (omega (arith, m, a, b))
 
 pub count-take : {A : Type 0} (p : A → Bool) (xs : List A) (i : ℕ) → count_by p (take i xs) ≤ count_by p xs
 count-take p xs i = sum_by-take-le (λ x. cond (p x) 1 0) xs i
@@ -69,8 +76,10 @@ count-one : {A : Type 0} (p : A → Bool) (x : A) → p x ≡ true → count_by 
 count-one p x e = rw e refl
 
 -- each entry that goes is still there as its turn comes
-pub still-there : (gone old cur : List PhysEntry) (i : ℕ) (g : PhysEntry) → ((test : PhysEntry → Bool) → count_by test gone ≤ count_by test old)
-    → ((test : PhysEntry → Bool) → count_by test (take i gone) + count_by test cur ≡ count_by test old) → i < length gone → g ≡ get_or gone i g → Contains cur g
+pub still-there : (gone old cur : List PhysEntry) (i : ℕ) (g : PhysEntry)
+    → ((test : PhysEntry → Bool) → count_by test gone ≤ count_by test old)
+    → ((test : PhysEntry → Bool) → count_by test (take i gone) + count_by test cur ≡ count_by test old)
+    → i < length gone → g ≡ get_or gone i g → Contains cur g
 still-there gone old cur i g there so_far lt e =
     let m = count-more (same_entry g) gone i g lt e in
     let o = count-one (same_entry g) g ((entry_decides g g).1 refl) in
@@ -86,7 +95,8 @@ none-counted false n e z = refl
 -- each entry that comes has a place of its own as its turn comes
 pub still-apart : (gone come old cur : List PhysEntry) (i : ℕ) (c : PhysEntry)
     → ((e : PhysEntry) → count_by (same_place e) old + count_by (same_place e) come ≤ count_by (same_place e) gone + 1)
-    → ((test : PhysEntry → Bool) → count_by test old + count_by test (take i come) ≡ count_by test gone + count_by test cur) → i < length come → c ≡ get_or come i c
+    → ((test : PhysEntry → Bool) → count_by test old + count_by test (take i come)
+    ≡ count_by test gone + count_by test cur) → i < length come → c ≡ get_or come i c
     → list_any (same_place c) cur ≡ false
 still-apart gone come old cur i c apart so_far lt e =
     let m = count-more (same_place c) come i c lt e in
@@ -94,4 +104,5 @@ still-apart gone come old cur i c apart so_far lt e =
     let t = count-take (same_place c) come (i + 1) in
     let a = apart c in
     let b = so_far (same_place c) in
-    none-counted (list_any (same_place c) cur) (count_by (same_place c) cur) (any_count (same_place c) cur) (omega (arith, m, o, t, a, b))
+    none-counted (list_any (same_place c) cur) (count_by (same_place c) cur) (any_count (same_place c) cur)
+    (omega (arith, m, o, t, a, b))

@@ -1,5 +1,6 @@
 -- Keys are found by the headers that their matches hold.
-use Rattle.std.proofs.Common.{◌≡◌, ℕ, ◌+◌, ◌<◌, ◌^◌, ◌⊎◌, inl, inr, Bool, true, false, cond, List, [], ◌∷◌, ◌++◌, map, find, Some, None, refl, sym, ap, subst, ◌∙◌, arith, eq-eqb, eqb-true, lt-ltb, true≢false}
+use Rattle.std.proofs.Common.{◌≡◌, ℕ, ◌+◌, ◌<◌, ◌^◌, ◌⊎◌, inl, inr, Bool, true, false, cond, List, [], ◌∷◌, ◌++◌, map}
+use Rattle.std.proofs.Common.{find, Some, None, refl, sym, ap, subst, ◌∙◌, arith, eq-eqb, eqb-true, lt-ltb, true≢false}
 use Rattle.std.specs.Prelude.{◌==◌, Option, IsPermutation, IsSome, flat_map, option_to_list}
 use Rattle.std.specs.BTreeMap.{is_at}
 use Rattle.std.specs.List.{IsDistinct, list_any}
@@ -13,8 +14,10 @@ use Rattle.match_index.specs.Questions.{is_holding}
 use Rattle.match_index.specs.declared.item.Item.{Item}
 use Rattle.std.proofs.lemmas.List.Sorted.{IsPermutation-sym}
 use Rattle.switch_meaning.proofs.Items.{fails, some_injective}
-use Rattle.switch_meaning.proofs.Members.{IsIn, all-in, any-passes, from-place, here, in-all, in-either, in-filter, in-left, in-map, in-one, in-permuted, in-right, place, there}
-use Rattle.install_plan.specs.InsideFinder.{AreHeld, AreIndexed, AreKnown, IsIndexed, Numbers, key_if_small, key_in, key_under, keys_under, number_at}
+use Rattle.switch_meaning.proofs.Members.{IsIn, all-in, any-passes, from-place, here, in-all, in-either, in-filter}
+use Rattle.switch_meaning.proofs.Members.{in-left, in-map, in-one, in-permuted, in-right, place, there}
+use Rattle.install_plan.specs.InsideFinder.{AreHeld, AreIndexed, AreKnown, IsIndexed, Numbers, key_if_small, key_in}
+use Rattle.install_plan.specs.InsideFinder.{key_under, keys_under, number_at}
 use Rattle.install_plan.specs.InsideSlots.{Slots, order, slot_at}
 use Rattle.install_plan.specs.declared.key.Key.{Key}
 use Rattle.install_plan.proofs.Cookies.{none-some}
@@ -34,7 +37,8 @@ of-option None i = no-items i
 of-option (Some y) i = ap Some (sym (in-one i))
 
 -- no match stands under the next number
-pub new-number : (numbers : Numbers) (items : List Item) (next : ℕ) → AreIndexed numbers items next → list_any (has_id next) items ≡ false
+pub new-number : (numbers : Numbers) (items : List Item) (next : ℕ) → AreIndexed numbers items next
+    → list_any (has_id next) items ≡ false
 new-number numbers items next a =
     fails (list_any (has_id next) items) (λ t.
     let p = any-passes (has_id next) items t in
@@ -43,22 +47,41 @@ new-number numbers items next a =
     omega arith)
 
 -- one key more
-module _ (numbers numbers' : Numbers) (items : List Item) (next : ℕ) (k : Key) (i : Item) (a : AreIndexed numbers items next)
-    (at : (q : Key) → number_at q numbers' ≡ cond (is_at (order k) q) (Some next) (number_at q numbers)) (key : key_in i ≡ k) (id : i.id ≡ next) (r : IsMatch i.normal) (s : i.rank < 2 ^ 16) where
+module _ (numbers numbers' : Numbers) (items : List Item) (next : ℕ) (k : Key) (i : Item)
+    (a : AreIndexed numbers items next)
+    (at : (q : Key) → number_at q numbers' ≡ cond (is_at (order k) q) (Some next) (number_at q numbers))
+    (key : key_in i ≡ k) (id : i.id ≡ next) (r : IsMatch i.normal) (s : i.rank < 2 ^ 16) where
   abbrev more : List Item
   more = items ++ i ∷ []
 
   own : (q : Key) (n : ℕ) → k ≡ q → next ≡ n → IsIndexed more q n
-  own q n same new = record { item = i; stands = place i more (in-right items (i ∷ []) here); number = id ∙ new; key = key ∙ same; in_range = r; small = s }
+  own q n same new = record {
+    item = i;
+    stands = place i more (in-right items (i ∷ []) here);
+    number = id
+        ∙ new;
+    key = key ∙ same;
+    in_range = r;
+    small = s;
+  }
 
   older : (q : Key) (n : ℕ) → IsIndexed items q n → IsIndexed more q n
-  older q n x = record { item = x.item; stands = place x.item more (in-left (i ∷ []) (from-place x.item items x.stands)); number = x.number; key = x.key; in_range = x.in_range; small = x.small }
+  older q n x =
+      record {
+        item = x.item;
+        stands = place x.item more (in-left (i ∷ []) (from-place x.item items x.stands));
+        number = x.number;
+        key = x.key;
+        in_range = x.in_range;
+        small = x.small;
+      }
 
   each : (q : Key) (n : ℕ) → number_at q numbers' ≡ Some n → IsIndexed more q n
   each q n e = by (is_at (order k) q) refl
     where
       by : (b : Bool) → is_at (order k) q ≡ b → IsIndexed more q n
-      by true t = own q n (at_exact k q t) (some_injective (sym (at q ∙ ap (λ c. cond c (Some next) (number_at q numbers)) t) ∙ e))
+      by true t = own q n (at_exact k q t)
+          (some_injective (sym (at q ∙ ap (λ c. cond c (Some next) (number_at q numbers)) t) ∙ e))
       by false t = older q n (a.each q n (sym (at q ∙ ap (λ c. cond c (Some next) (number_at q numbers)) t) ∙ e))
 
   pub indexed-more : AreIndexed numbers' more (next + 1)
@@ -72,7 +95,8 @@ module _ (numbers numbers' : Numbers) (items : List Item) (next : ℕ) (k : Key)
       below-each j (inr st) = let same : j.id ≡ next = ap (λ (z : Item). z.id) (in-one st) ∙ id in omega arith
 
 -- a number finds its match, where none stands twice
-find-its : (xs : List Item) (i : Item) → IsDistinct ◌==◌ (map (λ (e : Item). e.id) xs) → IsIn i xs → find (has_id i.id) xs ≡ Some i
+find-its : (xs : List Item) (i : Item) → IsDistinct ◌==◌ (map (λ (e : Item). e.id) xs) → IsIn i xs
+    → find (has_id i.id) xs ≡ Some i
 unfolding IsDistinct
 find-its [] i d s = no-items s
 find-its (x ∷ xs) i d here = ap (λ b. cond b (Some i) (find (has_id i.id) xs)) (eq-eqb i.id i.id refl)
@@ -86,7 +110,8 @@ find-its (x ∷ xs) i d (there s) =
 module _ (numbers numbers' : Numbers) (items : List Item) (next : ℕ) (k : Key) (a : AreIndexed numbers items next)
     (at : (q : Key) → number_at q numbers' ≡ cond (is_at (order k) q) None (number_at q numbers)) where
   -- the number of another key was that before
-  other : (q : Key) (n : ℕ) → number_at q numbers' ≡ Some n → (is_at (order k) q ≡ false) × (number_at q numbers ≡ Some n)
+  other : (q : Key) (n : ℕ) → number_at q numbers' ≡ Some n
+      → (is_at (order k) q ≡ false) × (number_at q numbers ≡ Some n)
   other q n e = by (is_at (order k) q) refl
     where
       by : (b : Bool) → is_at (order k) q ≡ b → (is_at (order k) q ≡ false) × (number_at q numbers ≡ Some n)
@@ -97,16 +122,21 @@ module _ (numbers numbers' : Numbers) (items : List Item) (next : ℕ) (k : Key)
   pub indexed-same : AreIndexed numbers' items next
   indexed-same = record { each = λ q n e. a.each q n (other q n e).1; below = a.below }
 
-  module _ (items' : List Item) (n : ℕ) (had : number_at k numbers ≡ Some n) (once : IsDistinct ◌==◌ (map (λ (e : Item). e.id) items))
+  module _ (items' : List Item) (n : ℕ) (had : number_at k numbers ≡ Some n)
+      (once : IsDistinct ◌==◌ (map (λ (e : Item). e.id) items))
       (gone : IsPermutation items (option_to_list (find (has_id n) items) ++ items')) where
     x : IsIndexed items k n
     x = a.each k n had
 
     found : find (has_id n) items ≡ Some x.item
-    found = ap (λ z. find (has_id z) items) (sym x.number) ∙ find-its items x.item once (from-place x.item items x.stands)
+    found = ap (λ z. find (has_id z) items) (sym x.number)
+        ∙ find-its items x.item once (from-place x.item items x.stands)
 
     left : (q : Key) (m : ℕ) → is_at (order k) q ≡ false → IsIndexed items q m → IsIndexed items' q m
-    left q m f y = by (in-either (option_to_list (find (has_id n) items)) items' (in-permuted items (option_to_list (find (has_id n) items) ++ items') y.item gone (from-place y.item items y.stands)))
+    left q m f y =
+        by (in-either (option_to_list (find (has_id n) items)) items'
+        (in-permuted items (option_to_list (find (has_id n) items) ++ items') y.item gone
+        (from-place y.item items y.stands)))
       where
         by : IsIn y.item (option_to_list (find (has_id n) items)) ⊎ IsIn y.item items' → IsIndexed items' q m
         by (inl s) =
@@ -114,11 +144,20 @@ module _ (numbers numbers' : Numbers) (items : List Item) (next : ℕ) (k : Key)
             let one : k ≡ q = sym x.key ∙ (ap key_in same ∙ y.key) in
             let is : is_at (order k) q ≡ true = ap (is_at (order k)) (sym one) ∙ at_self k in
             absurd (true≢false (sym is ∙ f))
-        by (inr s) = record { item = y.item; stands = place y.item items' s; number = y.number; key = y.key; in_range = y.in_range; small = y.small }
+        by (inr s) = record {
+          item = y.item;
+          stands = place y.item items' s;
+          number = y.number;
+          key = y.key;
+          in_range = y.in_range;
+          small = y.small;
+        }
 
     kept-below : (j : Item) → IsIn j items' → j.id < next
     kept-below j s =
-        let before = in-permuted (option_to_list (find (has_id n) items) ++ items') items j (IsPermutation-sym items (option_to_list (find (has_id n) items) ++ items') gone) (in-right (option_to_list (find (has_id n) items)) items' s) in
+        let before = in-permuted (option_to_list (find (has_id n) items) ++ items') items j
+        (IsPermutation-sym items (option_to_list (find (has_id n) items) ++ items') gone)
+        (in-right (option_to_list (find (has_id n) items)) items' s) in
         in-all (λ (z : Item). z.id < next) before a.below
 
     pub indexed-less : AreIndexed numbers' items' next
@@ -128,28 +167,37 @@ module _ (numbers numbers' : Numbers) (items : List Item) (next : ℕ) (k : Key)
     }
 
 -- what other keys have stays
-pub others-stay : (numbers value numbers' : Numbers) (k : Key) → numbers ≡ value → ((q : Key) → number_at q numbers' ≡ cond (is_at (order k) q) None (number_at q numbers))
+pub others-stay : (numbers value numbers' : Numbers) (k : Key) → numbers ≡ value
+    → ((q : Key) → number_at q numbers' ≡ cond (is_at (order k) q) None (number_at q numbers))
     → (q : Key) → is_at (order k) q ≡ false → IsSome (number_at q value) → IsSome (number_at q numbers')
 others-stay numbers value numbers' k view at q f s =
-    subst IsSome (sym (at q ∙ ap (λ c. cond c None (number_at q numbers)) f)) (subst (λ (ns : Numbers). IsSome (number_at q ns)) (sym view) s)
+    subst IsSome (sym (at q ∙ ap (λ c. cond c None (number_at q numbers)) f))
+    (subst (λ (ns : Numbers). IsSome (number_at q ns)) (sym view) s)
 
 -- the key that goes has no number
-pub goes : (numbers numbers' : Numbers) (k : Key) → ((q : Key) → number_at q numbers' ≡ cond (is_at (order k) q) None (number_at q numbers)) → number_at k numbers' ≡ None
+pub goes : (numbers numbers' : Numbers) (k : Key)
+    → ((q : Key) → number_at q numbers' ≡ cond (is_at (order k) q) None (number_at q numbers))
+    → number_at k numbers' ≡ None
 goes numbers numbers' k at = at k ∙ ap (λ c. cond c None (number_at k numbers)) (at_self k)
 
 -- the keys of all matches that hold a header
-pub are-held : (numbers : Numbers) (items : List Item) (next : ℕ) (h : HeaderOf) (ids : List ℕ) → AreIndexed numbers items next → IsDistinct ◌==◌ (map (λ (e : Item). e.id) items)
+pub are-held : (numbers : Numbers) (items : List Item) (next : ℕ) (h : HeaderOf) (ids : List ℕ)
+    → AreIndexed numbers items next → IsDistinct ◌==◌ (map (λ (e : Item). e.id) items)
     → IsPermutation (ids_of (is_holding h) items) ids → AreHeld numbers h (flat_map (keys_under items) ids)
 are-held numbers items next h ids a once p q m known bytes r t =
     let n = numbered (number_at q numbers) known in
     let x = a.each q n.0 n.1 in
     let st = from-place x.item items x.stands in
-    let same : x.item.normal ≡ m = match_bytes-injective x.item.normal m x.in_range r (ap (λ (z : Key). z.bytes) x.key ∙ bytes) in
+    let same : x.item.normal ≡ m = match_bytes-injective x.item.normal m x.in_range r
+    (ap (λ (z : Key). z.bytes) x.key ∙ bytes) in
     let held : is_holding h x.item ≡ true = ap (λ z. holds z h) same ∙ t in
-    let listed = in-permuted (ids_of (is_holding h) items) ids x.item.id p (in-map (λ (e : Item). e.id) (in-filter (is_holding h) st held)) in
+    let listed = in-permuted (ids_of (is_holding h) items) ids x.item.id p
+    (in-map (λ (e : Item). e.id) (in-filter (is_holding h) st held)) in
     let key : key_under items x.item.id ≡ Some (key_in x.item) =
-    ap (λ o. option_and_then key_if_small o) (find-its items x.item once st) ∙ ap (λ b. cond b (Some (key_in x.item)) None) (lt-ltb x.item.rank (2 ^ 16) x.small) in
-    let under : IsIn (key_in x.item) (keys_under items x.item.id) = subst (λ o. IsIn (key_in x.item) (option_to_list o)) (sym key) here in
+    ap (λ o. option_and_then key_if_small o) (find-its items x.item once st)
+    ∙ ap (λ b. cond b (Some (key_in x.item)) None) (lt-ltb x.item.rank (2 ^ 16) x.small) in
+    let under : IsIn (key_in x.item) (keys_under items x.item.id) =
+    subst (λ o. IsIn (key_in x.item) (option_to_list o)) (sym key) here in
     let all : IsIn (key_in x.item) (flat_map (keys_under items) ids) = in-flat (keys_under items) listed under in
     place q (flat_map (keys_under items) ids) (subst (λ (z : Key). IsIn z (flat_map (keys_under items) ids)) x.key all)
 
@@ -159,16 +207,21 @@ still-numbered false n o s = s
 
 -- slots come and go
 
-pub known-less : (numbers numbers' : Numbers) (slots slots' : Slots) (k : Key) → ((q : Key) → is_at (order k) q ≡ false → IsSome (number_at q numbers) → IsSome (number_at q numbers'))
-    → ((q : Key) → slot_at q slots' ≡ cond (is_at (order k) q) None (slot_at q slots)) → AreKnown numbers slots → AreKnown numbers' slots'
+pub known-less : (numbers numbers' : Numbers) (slots slots' : Slots) (k : Key)
+    → ((q : Key) → is_at (order k) q ≡ false → IsSome (number_at q numbers) → IsSome (number_at q numbers'))
+    → ((q : Key) → slot_at q slots' ≡ cond (is_at (order k) q) None (slot_at q slots)) → AreKnown numbers slots
+    → AreKnown numbers' slots'
 known-less numbers numbers' slots slots' k others at known q s = by (is_at (order k) q) refl
   where
     by : (b : Bool) → is_at (order k) q ≡ b → IsSome (number_at q numbers')
-    by true t = let none : slot_at q slots' ≡ None = at q ∙ ap (λ c. cond c None (slot_at q slots)) t in let w = subst IsSome none s in cc
+    by true t = let none : slot_at q slots' ≡ None = at q ∙ ap (λ c. cond c None (slot_at q slots)) t in let w =
+        subst IsSome none s in cc
     by false t = others q t (known q (subst IsSome (at q ∙ ap (λ c. cond c None (slot_at q slots)) t) s))
 
-pub known-more : (numbers numbers' : Numbers) (slots slots' : Slots) (k : Key) → IsSome (number_at k numbers') → ((q : Key) → IsSome (number_at q numbers) → IsSome (number_at q numbers'))
-    → ((q : Key) → is_at (order k) q ≡ false → IsSome (slot_at q slots') → IsSome (slot_at q slots)) → AreKnown numbers slots → AreKnown numbers' slots'
+pub known-more : (numbers numbers' : Numbers) (slots slots' : Slots) (k : Key) → IsSome (number_at k numbers')
+    → ((q : Key) → IsSome (number_at q numbers) → IsSome (number_at q numbers'))
+    → ((q : Key) → is_at (order k) q ≡ false → IsSome (slot_at q slots') → IsSome (slot_at q slots))
+    → AreKnown numbers slots → AreKnown numbers' slots'
 known-more numbers numbers' slots slots' k has still only known q s = by (is_at (order k) q) refl
   where
     by : (b : Bool) → is_at (order k) q ≡ b → IsSome (number_at q numbers')
@@ -176,5 +229,7 @@ known-more numbers numbers' slots slots' k has still only known q s = by (is_at 
     by false t = still q (known q (only q t s))
 
 -- where a slot is written the same keys have slots
-pub known-written : (numbers : Numbers) (slots slots' : Slots) → ((q : Key) → IsSome (slot_at q slots') → IsSome (slot_at q slots)) → AreKnown numbers slots → AreKnown numbers slots'
+pub known-written : (numbers : Numbers) (slots slots' : Slots)
+    → ((q : Key) → IsSome (slot_at q slots') → IsSome (slot_at q slots)) → AreKnown numbers slots
+    → AreKnown numbers slots'
 known-written numbers slots slots' only known q s = known q (only q s)

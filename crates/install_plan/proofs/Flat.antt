@@ -15,7 +15,9 @@ pub filter-append : {A : Type 0} (q : A → Bool) (xs ys : List A) → filter q 
 filter-append q [] ys = refl
 filter-append q (x ∷ xs) ys = by (q x) (filter-append q xs ys)
   where
-    by : (b : Bool) → filter q (xs ++ ys) ≡ filter q xs ++ filter q ys → (if b then x ∷ filter q (xs ++ ys) else filter q (xs ++ ys)) ≡ (if b then x ∷ filter q xs else filter q xs) ++ filter q ys
+    by : (b : Bool) → filter q (xs ++ ys) ≡ filter q xs ++ filter q ys
+        → (if b then x ∷ filter q (xs ++ ys) else filter q (xs ++ ys))
+        ≡ (if b then x ∷ filter q xs else filter q xs) ++ filter q ys
     by true e = ap (λ zs. x ∷ zs) e
     by false e = e
 

@@ -1,5 +1,6 @@
 -- Slots under their keys.
-use Rattle.std.proofs.Common.{◌≡◌, ◌⊎◌, inl, inr, Bool, true, false, cond, List, [], ◌∷◌, ◌++◌, refl, ap, sym, ◌∙◌, true≢false}
+use Rattle.std.proofs.Common.{◌≡◌, ◌⊎◌, inl, inr, Bool, true, false, cond, List, [], ◌∷◌, ◌++◌, refl, ap, sym, ◌∙◌}
+use Rattle.std.proofs.Common.{true≢false}
 use Rattle.std.specs.Prelude.{Some, None, IsSome, is_some, flat_map}
 use Rattle.std.specs.BTreeMap.{insert_entry, is_at}
 use Rattle.std.specs.Map.{lookup, keys_of, set_value, remove_entry}
@@ -62,13 +63,15 @@ found-in k s slots e = from-place (k, s) slots (Contains-from_lookup {eq = eq_by
 
 -- what is there is found
 pub in-found : (k : Key) (s : Slot) (slots : Slots) → Rise slots → IsIn (k, s) slots → slot_at k slots ≡ Some s
-in-found k s slots r i = lookup-from_Contains equal_keys k s slots (IsDistinct-from_sorted order (keys_of slots) r) (place (k, s) slots i)
+in-found k s slots r i = lookup-from_Contains equal_keys k s slots (IsDistinct-from_sorted order (keys_of slots) r)
+    (place (k, s) slots i)
 
 -- one slot is written
 pub found-written : (k q : Key) (s w : Slot) (slots : Slots) → slot_at k slots ≡ Some s
     → slot_at q (set_value (is_at (order k)) slots w) ≡ cond (is_at (order k) q) (Some w) (slot_at q slots)
 found-written k q s w slots e =
-    lookup-set_value equal_keys (is_at (order k)) (λ x y t. ap (λ (z : Key). is_at (order z) y) (at_exact k x t)) q w slots (ap is_some e)
+    lookup-set_value equal_keys (is_at (order k)) (λ x y t. ap (λ (z : Key). is_at (order z) y) (at_exact k x t)) q w
+    slots (ap is_some e)
 
 pub no-items : {A B : Type 0} {x : A} → IsIn x [] → B
 no-items i = elim i [ ]
@@ -102,42 +105,54 @@ module _ {A B : Type 0} (g : A → List B) where
 
 module _ {A : Type 0} (g : Key × Slot → List A) where
   -- a new slot that gives nothing
-  pub flat-opened : (k : Key) (s : Slot) (slots : Slots) → slot_at k slots ≡ None → g (k, s) ≡ [] → flat_map g (insert_entry order slots k s) ≡ flat_map g slots
+  pub flat-opened : (k : Key) (s : Slot) (slots : Slots) → slot_at k slots ≡ None → g (k, s) ≡ []
+      → flat_map g (insert_entry order slots k s) ≡ flat_map g slots
   flat-opened k s [] n e = ap (λ xs. xs ++ []) e
   flat-opened k s (p ∷ ps) n e = by (order k p.0) refl (λ m. flat-opened k s ps m e)
     where
-      by : (r : Ordering) → order k p.0 ≡ r → (slot_at k ps ≡ None → flat_map g (insert_entry order ps k s) ≡ flat_map g ps)
-          → flat_map g (match_ordering r ((k, s) ∷ p ∷ ps) ((p.0, s) ∷ ps) (p ∷ insert_entry order ps k s)) ≡ flat_map g (p ∷ ps)
+      by : (r : Ordering) → order k p.0 ≡ r
+          → (slot_at k ps ≡ None → flat_map g (insert_entry order ps k s) ≡ flat_map g ps)
+          → flat_map g (match_ordering r ((k, s) ∷ p ∷ ps) ((p.0, s) ∷ ps) (p ∷ insert_entry order ps k s))
+          ≡ flat_map g (p ∷ ps)
       by Less t rest = ap (λ xs. xs ++ flat_map g (p ∷ ps)) e
-      by Equal t rest = let f : slot_at k (p ∷ ps) ≡ Some p.1 = ap (λ r. cond (is_eq r) (Some p.1) (slot_at k ps)) t in cc
+      by Equal t rest = let f : slot_at k (p ∷ ps) ≡ Some p.1 = ap (λ r. cond (is_eq r) (Some p.1) (slot_at k ps)) t in
+          cc
       by Greater t rest = ap (λ xs. g p ++ xs) (rest (sym (ap (λ r. cond (is_eq r) (Some p.1) (slot_at k ps)) t) ∙ n))
 
   -- a slot that gives nothing is taken out
-  pub flat-dropped : (test : Key → Bool) (slots : Slots) → AllByRecursion (λ (p : Key × Slot). test p.0 ≡ true → g p ≡ []) slots → flat_map g (remove_entry test slots) ≡ flat_map g slots
+  pub flat-dropped : (test : Key → Bool) (slots : Slots)
+      → AllByRecursion (λ (p : Key × Slot). test p.0 ≡ true → g p ≡ []) slots
+      → flat_map g (remove_entry test slots) ≡ flat_map g slots
   flat-dropped test [] a = refl
   flat-dropped test (p ∷ ps) a = by (test p.0) refl (flat-dropped test ps a.1)
     where
-      by : (b : Bool) → test p.0 ≡ b → flat_map g (remove_entry test ps) ≡ flat_map g ps → flat_map g (cond b ps (p ∷ remove_entry test ps)) ≡ flat_map g (p ∷ ps)
+      by : (b : Bool) → test p.0 ≡ b → flat_map g (remove_entry test ps) ≡ flat_map g ps
+          → flat_map g (cond b ps (p ∷ remove_entry test ps)) ≡ flat_map g (p ∷ ps)
       by true t rest = sym (ap (λ xs. xs ++ flat_map g ps) (a.0 t))
       by false t rest = ap (λ xs. g p ++ xs) rest
 
   -- slots that give the same
-  pub flat-alike : (h : Key × Slot → List A) (slots : Slots) → AllByRecursion (λ (p : Key × Slot). g p ≡ h p) slots → flat_map g slots ≡ flat_map h slots
+  pub flat-alike : (h : Key × Slot → List A) (slots : Slots) → AllByRecursion (λ (p : Key × Slot). g p ≡ h p) slots
+      → flat_map g slots ≡ flat_map h slots
   flat-alike h [] a = refl
   flat-alike h (p ∷ ps) a = λ i. a.0 i ++ flat-alike h ps a.1 i
 
   -- a slot is written that gives the same
-  pub flat-written : (test : Key → Bool) (s w : Slot) (slots : Slots) → lookup test slots ≡ Some s → ((k : Key) → test k ≡ true → g (k, w) ≡ g (k, s))
+  pub flat-written : (test : Key → Bool) (s w : Slot) (slots : Slots) → lookup test slots ≡ Some s
+      → ((k : Key) → test k ≡ true → g (k, w) ≡ g (k, s))
       → flat_map g (set_value test slots w) ≡ flat_map g slots
   flat-written test s w [] e same = refl
   flat-written test s w (p ∷ ps) e same = by (test p.0) refl e (λ f. flat-written test s w ps f same)
     where
-      by : (b : Bool) → test p.0 ≡ b → cond b (Some p.1) (lookup test ps) ≡ Some s → (lookup test ps ≡ Some s → flat_map g (set_value test ps w) ≡ flat_map g ps)
+      by : (b : Bool) → test p.0 ≡ b → cond b (Some p.1) (lookup test ps) ≡ Some s
+          → (lookup test ps ≡ Some s → flat_map g (set_value test ps w) ≡ flat_map g ps)
           → flat_map g (cond b ((p.0, w) ∷ ps) (p ∷ set_value test ps w)) ≡ flat_map g (p ∷ ps)
-      by true t f rest = let is : p.1 ≡ s = cc in ap (λ xs. xs ++ flat_map g ps) (same p.0 t ∙ sym (ap (λ (z : Slot). g (p.0, z)) is))
+      by true t f rest = let is : p.1 ≡ s = cc in
+          ap (λ xs. xs ++ flat_map g ps) (same p.0 t ∙ sym (ap (λ (z : Slot). g (p.0, z)) is))
       by false t f rest = ap (λ xs. g p ++ xs) (rest f)
 
 -- a key below all keys of the slots is below that of each
-pub key-above : (k : Key) (q : Key × Slot) {qs : Slots} → IsIn q qs → AllByRecursion (λ (z : Key). order k z ≡ Less) (keys_of qs) → order k q.0 ≡ Less
+pub key-above : (k : Key) (q : Key × Slot) {qs : Slots} → IsIn q qs
+    → AllByRecursion (λ (z : Key). order k z ≡ Less) (keys_of qs) → order k q.0 ≡ Less
 key-above k q here b = b.0
 key-above k q (there i) b = key-above k q i b.1

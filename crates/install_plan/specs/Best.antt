@@ -17,7 +17,8 @@ is_holding h w = holds w.entry.m h
 
 -- the first has a higher rank, or the same one and a lesser cookie
 abbrev pub is_above : Written → Written → Bool
-is_above v w = nat_lt (rank_of w.entry) (rank_of v.entry) || ((rank_of w.entry == rank_of v.entry) && nat_lt v.cookie w.cookie)
+is_above v w = nat_lt (rank_of w.entry) (rank_of v.entry) ||
+    ((rank_of w.entry == rank_of v.entry) && nat_lt v.cookie w.cookie)
 
 -- it stands and holds the header, and none that holds it is above it
 pub record IsFirst (h : HeaderOf) (standing : List Written) (w : Written) : Type 0 where

@@ -1,5 +1,6 @@
 -- How the first of the entries that hold a header is found among their keys.
-use Rattle.std.specs.Prelude.{◌≡◌, Bool, false, ◌==◌, ◌&&◌, ◌||◌, nat_lt, List, [], Option, Some, None, flat_map, if◌then◌else◌, option_to_list, MatchOption}
+use Rattle.std.specs.Prelude.{◌≡◌, Bool, false, ◌==◌, ◌&&◌, ◌||◌, nat_lt, List, [], Option, Some, None, flat_map}
+use Rattle.std.specs.Prelude.{if◌then◌else◌, option_to_list, MatchOption}
 use Rattle.std.specs.List.{Contains, list_any}
 use Rattle.std.specs.Option.{option_and_then}
 use Rattle.of10_match.specs.Fields.{HeaderOf}

@@ -1,5 +1,6 @@
 -- How the keys of slots are found by the headers that their matches hold.
-use Rattle.std.specs.Prelude.{◌≡◌, ℕ, ◌<◌, ◌^◌, nat_lt, true, Option, Some, None, IsSome, List, find, if◌then◌else◌, option_to_list}
+use Rattle.std.specs.Prelude.{◌≡◌, ℕ, ◌<◌, ◌^◌, nat_lt, true, Option, Some, None, IsSome, List, find, if◌then◌else◌}
+use Rattle.std.specs.Prelude.{option_to_list}
 use Rattle.std.specs.BTreeMap.{is_at}
 use Rattle.std.specs.Map.{lookup}
 use Rattle.std.specs.List.{AllByRecursion, Contains}
@@ -57,4 +58,5 @@ keys_under items n = option_to_list (key_under items n)
 
 -- the keys have each that has a number and whose match holds the header
 abbrev pub AreHeld : Numbers → HeaderOf → List Key → Type 0
-AreHeld numbers h keys = (q : Key) (m : MatchOf) → IsSome (number_at q numbers) → q.bytes ≡ match_bytes m → IsMatch m → holds m h ≡ true → Contains keys q
+AreHeld numbers h keys = (q : Key) (m : MatchOf) → IsSome (number_at q numbers) → q.bytes ≡ match_bytes m → IsMatch m
+    → holds m h ≡ true → Contains keys q

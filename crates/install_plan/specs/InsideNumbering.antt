@@ -54,7 +54,8 @@ AreAllSaved saved slots = AllByRecursion (λ (p : Key × Slot). IsSome (slot_at 
 
 -- the slot of a key, where there is one, under a cookie
 abbrev pub numbered_at : Key → ℕ → Slots → Slots
-numbered_at k cookie slots = set_value (is_at (order k)) slots (record { entries = entries_at slots k; cookie = cookie })
+numbered_at k cookie slots = set_value (is_at (order k)) slots
+    (record { entries = entries_at slots k; cookie = cookie })
 
 -- at most the cookie of the key's slot is another one
 abbrev pub IsNumberedAt : Key → Slots → Slots → Type 0

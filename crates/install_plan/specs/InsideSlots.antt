@@ -1,5 +1,6 @@
 -- How the entries of a switch stand under their keys.
-use Rattle.std.specs.Prelude.{◌≡◌, ℕ, Bool, true, false, Option, Some, None, IsSome, List, [], ◌∷◌, flat_map, unwrap_or, option_to_list}
+use Rattle.std.specs.Prelude.{◌≡◌, ℕ, Bool, true, false, Option, Some, None, IsSome, List, [], ◌∷◌, flat_map, unwrap_or}
+use Rattle.std.specs.Prelude.{option_to_list}
 use Rattle.std.specs.BTreeMap.{is_at}
 use Rattle.std.specs.Map.{keys_of, lookup, remove_entry, set_value}
 use Rattle.std.specs.List.{AllByRecursion, Contains, list_any}
@@ -47,7 +48,10 @@ top s = first s.entries s.cookie
 
 -- the table that slots make
 abbrev pub table_by : (Key × Slot → Slot) → Slots → TableOf
-table_by f slots = record { entries = flat_map (λ p. (f p).entries) slots; standing = flat_map (λ p. option_to_list (top (f p))) slots }
+table_by f slots = record {
+  entries = flat_map (λ p. (f p).entries) slots;
+  standing = flat_map (λ p. option_to_list (top (f p))) slots;
+}
 
 -- a slot as it is
 abbrev pub as_is : Key × Slot → Slot
@@ -104,4 +108,5 @@ pub record IsPutInto (put : Bool) (e : PhysEntry) (old new : Slots) (s : Slot) :
   pub slot : Slot
   pub written : new ≡ set_value (is_at (order (key_of e))) old slot
   pub fits : Fits (key_of e, slot)
-  pub added : put ≡ true → list_any (λ (d : PhysEntry). is_eq (by_ancestry e d)) s.entries ≡ false → Adds e s.entries slot.entries
+  pub added : put ≡ true → list_any (λ (d : PhysEntry). is_eq (by_ancestry e d)) s.entries ≡ false
+      → Adds e s.entries slot.entries

@@ -49,12 +49,14 @@ AreThere gone t = (test : PhysEntry → Bool) → count_by test gone ≤ count_b
 
 -- once some go, those that come have places of their own
 abbrev pub AreApart : List PhysEntry → List PhysEntry → TableOf → Type 0
-AreApart gone come t = (e : PhysEntry) → count_by (same_place e) t.entries + count_by (same_place e) come ≤ count_by (same_place e) gone + 1
+AreApart gone come t = (e : PhysEntry)
+    → count_by (same_place e) t.entries + count_by (same_place e) come ≤ count_by (same_place e) gone + 1
 
 -- where that is so, what was there and what came is what went and what is there
 abbrev pub Exchanges : List PhysEntry → List PhysEntry → TableOf → TableOf → Type 0
 Exchanges gone come old new =
-    AreThere gone old → AreApart gone come old → (test : PhysEntry → Bool) → count_by test old.entries + count_by test come ≡ count_by test gone + count_by test new.entries
+    AreThere gone old → AreApart gone come old → (test : PhysEntry → Bool)
+    → count_by test old.entries + count_by test come ≡ count_by test gone + count_by test new.entries
 
 -- a number of 64 bits stands still at the greatest one
 abbrev pub after : ℕ → ℕ
@@ -69,7 +71,8 @@ numbered next (e ∷ es) = record { entry = e; cookie = next } ∷ numbered (aft
 abbrev pub entries_in : Batch → Difference
 entries_in b = record { deletes = map entry_of b.deletes; adds = map entry_of b.adds }
 
--- the batch is the difference of what stood and what stands; what is deleted goes under the cookies under which it stood,
+-- the batch is the difference of what stood and what stands; what is deleted goes under the cookies under which it
+-- stood,
 -- what is added comes under cookies from a number on, and what stands has the cookie that it had or one of these
 pub record IsBatch (old new : TableOf) (next : ℕ) (b : Batch) : Type 0 where
   pub difference : entries_in b ≡ difference (map entry_of old.standing) (map entry_of new.standing)

@@ -3,7 +3,8 @@ ghost use Rattle.std.specs.Prelude.{◌≡◌, Some, IfOk, MatchOption};
 ghost use Rattle.std.specs.Option.{option_copied, option_and_then};
 ghost use Rattle.install_plan.specs.Best.{rank_of};
 ghost use Rattle.install_plan.specs.InsideSlots.{top};
-ghost use Rattle.install_plan.specs.InsideBest.{Leads, before as before_of, candidate_at, candidate_if, candidates, is_before as is_before_of, standing_at};
+ghost use Rattle.install_plan.specs.InsideBest.{Leads, before as before_of, candidate_at, candidate_if, candidates};
+ghost use Rattle.install_plan.specs.InsideBest.{is_before as is_before_of, standing_at};
 
 use crate::key::Key;
 use crate::slot::Slot;

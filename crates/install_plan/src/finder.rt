@@ -3,7 +3,8 @@ ghost use Rattle.std.specs.Prelude.{◌≡◌, ◌<◌, ◌^◌, [], false, flat
 ghost use Rattle.std.specs.BTreeMap.{is_at};
 ghost use Rattle.of10_match.specs.Ranges.{IsMatch};
 ghost use Rattle.of10_match.specs.Wildcards.{match_bytes};
-ghost use Rattle.install_plan.specs.InsideFinder.{AreHeld, key_if_small, key_under as key_under_of, keys_under, number_at};
+ghost use Rattle.install_plan.specs.InsideFinder.{AreHeld, key_if_small, key_under as key_under_of, keys_under};
+ghost use Rattle.install_plan.specs.InsideFinder.{number_at};
 ghost use Rattle.install_plan.specs.InsideSlots.{order};
 ghost use Rattle.install_plan.specs.declared.key.Key.{Key as KeyOf};
 
@@ -78,7 +79,8 @@ fn rank(priority: u16) -> u32
 /// Takes out the number of a key, if it has one.
 fn take(numbers: &mut BTreeMap<Key, u64>, key: &Key) -> Option<u64>
     ensures value { result ≡ number_at key.now numbers.old.entries }
-    ensures others { (q : KeyOf) → number_at q numbers.new.entries ≡ (if is_at (order key.now) q then None else number_at q numbers.old.entries) }
+    ensures others { (q : KeyOf) → number_at q numbers.new.entries
+        ≡ (if is_at (order key.now) q then None else number_at q numbers.old.entries) }
 {
     numbers.remove(key)
 }
@@ -118,7 +120,8 @@ impl Finder {
     /// Takes a key's number back, where it has one.
     pub fn remove(&mut self, key: &Key)
         ensures gone { number_at key.now self.new ≡ None }
-        ensures others { (q : KeyOf) → is_at (order key.now) q ≡ false → IsSome (number_at q self.old) → IsSome (number_at q self.new) }
+        ensures others { (q : KeyOf) → is_at (order key.now) q ≡ false → IsSome (number_at q self.old)
+            → IsSome (number_at q self.new) }
     {
         // The proof learns that no two matches stand under one number.
         let _ = self.index.len();

@@ -36,7 +36,10 @@ impl Model for Installed {
 
     ghost Value = { InstalledOf };
 
-    ghost view = { λ a. record { now = table_by as_is a.slots.entries; before = table_by (as_saved a.saved.entries) a.slots.entries } };
+    ghost view = { λ a. record {
+      now = table_by as_is a.slots.entries;
+      before = table_by (as_saved a.saved.entries) a.slots.entries;
+    } };
 
     ghost invariant = { λ a. AreKept a.slots.entries a.saved.entries × AreKnown a.finder a.slots.entries };
 }
@@ -102,7 +105,8 @@ impl Installed {
 
     /// Takes an entry out, where it is there.
     fn take_out(&mut self, gone: &PhysEntry) -> Result<(), Memory>
-        ensures taken { Contains self.old.now.entries gone.now → OnOk result (Adds gone.now self.new.now.entries self.old.now.entries) }
+        ensures taken { Contains self.old.now.entries gone.now
+            → OnOk result (Adds gone.now self.new.now.entries self.old.now.entries) }
         ensures before { self.new.before ≡ self.old.before }
     {
         let key = Key::of(gone);
@@ -113,7 +117,8 @@ impl Installed {
 
     /// Puts an entry in, or in the place of one that has its key and ancestry.
     fn put_in(&mut self, come: &PhysEntry) -> Result<(), Memory>
-        ensures added { list_any (same_place come.now) self.old.now.entries ≡ false → OnOk result (Adds come.now self.old.now.entries self.new.now.entries) }
+        ensures added { list_any (same_place come.now) self.old.now.entries ≡ false
+            → OnOk result (Adds come.now self.old.now.entries self.new.now.entries) }
         ensures before { self.new.before ≡ self.old.before }
     {
         let key = Key::of(come);

@@ -1,10 +1,13 @@
 //! The batch of the slots that changed.
-ghost use Rattle.std.specs.Prelude.{◌≡◌, ◌∷◌, ◌++◌, [], None, Some, IsSome, IfOk, OnOk, OnErr, map, option_map, option_to_list};
+ghost use Rattle.std.specs.Prelude.{◌≡◌, ◌∷◌, ◌++◌, [], None, Some, IsSome, IfOk, OnOk, OnErr, map, option_map};
+ghost use Rattle.std.specs.Prelude.{option_to_list};
 ghost use Rattle.std.specs.BTreeMap.{is_at};
 ghost use Rattle.std.specs.Map.{set_value};
 ghost use Rattle.std.specs.Option.{option_copied};
-ghost use Rattle.install_plan.specs.InsideSlots.{AreKept, Slots, as_is, as_saved, key_of, order, slot_at, table_by, top};
-ghost use Rattle.install_plan.specs.InsideNumbering.{IsNumberedAt, come, cookie_for, entries_at, gone, head, is_same_head, numbered_at, past};
+ghost use Rattle.install_plan.specs.InsideSlots.{AreKept, Slots, as_is, as_saved, key_of, order, slot_at, table_by};
+ghost use Rattle.install_plan.specs.InsideSlots.{top};
+ghost use Rattle.install_plan.specs.InsideNumbering.{IsNumberedAt, come, cookie_for, entries_at, gone, head};
+ghost use Rattle.install_plan.specs.InsideNumbering.{is_same_head, numbered_at, past};
 ghost use Rattle.install_plan.specs.Tables.{IsBatch, entry_of, numbered};
 ghost use Rattle.install_plan.specs.declared.key.Key.{Key as KeyOf};
 
@@ -61,8 +64,10 @@ fn push_numbered(
 
 /// Adds the change of one slot to a batch, and gives the next cookie.
 fn number_slot(slot: &mut Slot, old: &Slot, next: u64, batch: &mut Batch) -> Result<u64, Memory>
-    ensures deletes { OnOk result (batch.new.deletes ≡ batch.old.deletes ++ option_to_list (gone old.now slot.old.entries)) }
-    ensures adds { OnOk result (batch.new.adds ≡ batch.old.adds ++ numbered next (option_to_list (come old.now slot.old.entries))) }
+    ensures deletes { OnOk result (batch.new.deletes ≡ batch.old.deletes
+        ++ option_to_list (gone old.now slot.old.entries)) }
+    ensures adds { OnOk result (batch.new.adds ≡ batch.old.adds
+        ++ numbered next (option_to_list (come old.now slot.old.entries))) }
     ensures next { IfOk result (λ after. after ≡ past (come old.now slot.old.entries) next) }
     ensures cookie { OnOk result (slot.new.cookie ≡ cookie_for old.now slot.old.entries next) }
     ensures entries { slot.new.entries ≡ slot.old.entries }
@@ -85,10 +90,13 @@ fn number_at(
     batch: &mut Batch,
 ) -> Result<u64, Memory>
     requires { IsSome (slot_at key.now slots.old.entries) }
-    ensures deletes { OnOk result (batch.new.deletes ≡ batch.old.deletes ++ option_to_list (gone old.now (entries_at slots.old.entries key.now))) }
-    ensures adds { OnOk result (batch.new.adds ≡ batch.old.adds ++ numbered next (option_to_list (come old.now (entries_at slots.old.entries key.now)))) }
+    ensures deletes { OnOk result (batch.new.deletes ≡ batch.old.deletes
+        ++ option_to_list (gone old.now (entries_at slots.old.entries key.now))) }
+    ensures adds { OnOk result (batch.new.adds ≡ batch.old.adds
+        ++ numbered next (option_to_list (come old.now (entries_at slots.old.entries key.now)))) }
     ensures next { IfOk result (λ after. after ≡ past (come old.now (entries_at slots.old.entries key.now)) next) }
-    ensures slot { OnOk result (slots.new.entries ≡ numbered_at key.now (cookie_for old.now (entries_at slots.old.entries key.now) next) slots.old.entries) }
+    ensures slot { OnOk result (slots.new.entries
+        ≡ numbered_at key.now (cookie_for old.now (entries_at slots.old.entries key.now) next) slots.old.entries) }
     ensures entries { IsNumberedAt key.now slots.old.entries slots.new.entries }
 {
     match slots.get_mut(key) {
@@ -108,8 +116,10 @@ pub fn number_all(
     ensures only { (q : KeyOf) → IsSome (slot_at q slots.new.entries) → IsSome (slot_at q slots.old.entries) }
     ensures kept { AreKept slots.new.entries saved.now.entries }
     ensures entries { (table_by as_is slots.new.entries).entries ≡ (table_by as_is slots.old.entries).entries }
-    ensures before { table_by (as_saved saved.now.entries) slots.new.entries ≡ table_by (as_saved saved.now.entries) slots.old.entries }
-    ensures batch { IfOk result (IsBatch (table_by (as_saved saved.now.entries) slots.old.entries) (table_by as_is slots.new.entries) next) }
+    ensures before { table_by (as_saved saved.now.entries) slots.new.entries
+        ≡ table_by (as_saved saved.now.entries) slots.old.entries }
+    ensures batch { IfOk result
+        (IsBatch (table_by (as_saved saved.now.entries) slots.old.entries) (table_by as_is slots.new.entries) next) }
 {
     let mut batch = Batch {
         deletes: List::new(alloc),
@@ -145,8 +155,10 @@ pub fn number_whole(
     ensures only { (q : KeyOf) → IsSome (slot_at q slots.new.entries) → IsSome (slot_at q slots.old.entries) }
     ensures kept { AreKept slots.new.entries saved.new.entries }
     ensures entries { (table_by as_is slots.new.entries).entries ≡ (table_by as_is slots.old.entries).entries }
-    ensures before { table_by (as_saved saved.new.entries) slots.new.entries ≡ table_by (as_saved saved.old.entries) slots.old.entries }
-    ensures adds { IfOk result (λ adds. adds ≡ numbered next (map entry_of (table_by as_is slots.old.entries).standing)) }
+    ensures before { table_by (as_saved saved.new.entries) slots.new.entries
+        ≡ table_by (as_saved saved.old.entries) slots.old.entries }
+    ensures adds { IfOk result
+        (λ adds. adds ≡ numbered next (map entry_of (table_by as_is slots.old.entries).standing)) }
     ensures standing { IfOk result (λ adds. (table_by as_is slots.new.entries).standing ≡ adds) }
     ensures memory { OnErr result (table_by as_is slots.new.entries ≡ table_by as_is slots.old.entries) }
 {

@@ -28,8 +28,10 @@ pub struct Slot {
 fn place_of(entries: &[PhysEntry], ancestry: &List<Leaf>) -> usize
     requires { IsStrictlySortedBy by_ancestry entries.now }
     ensures bound { result ≤ length entries.now }
-    ensures before { AllByRecursion (λ (d : EntryOf). is_lt (ancestry_cmp d.ancestry ancestry.now) ≡ true) (take result entries.now) }
-    ensures after { AllByRecursion (λ (d : EntryOf). is_lt (ancestry_cmp d.ancestry ancestry.now) ≡ false) (drop result entries.now) }
+    ensures before { AllByRecursion (λ (d : EntryOf). is_lt (ancestry_cmp d.ancestry ancestry.now) ≡ true)
+        (take result entries.now) }
+    ensures after { AllByRecursion (λ (d : EntryOf). is_lt (ancestry_cmp d.ancestry ancestry.now) ≡ false)
+        (drop result entries.now) }
 {
     entries.partition_point(|entry| { entry.ancestry.as_slice().cmp(ancestry.as_slice()).is_lt() })
 }
@@ -46,7 +48,8 @@ fn is_at(entries: &List<PhysEntry>, place: usize, entry: &PhysEntry) -> bool
 
 /// Whether an entry with the ancestry stands at the place.
 fn has_ancestry(entries: &List<PhysEntry>, place: usize, ancestry: &List<Leaf>) -> bool
-    ensures { result ≡ option_map_or (λ (d : EntryOf). is_eq (ancestry_cmp d.ancestry ancestry.now)) (slice_get entries.now place) false }
+    ensures { result ≡ option_map_or (λ (d : EntryOf). is_eq (ancestry_cmp d.ancestry ancestry.now))
+        (slice_get entries.now place) false }
 {
     match entries.get(place) {
         Some(other) => other.ancestry.as_slice().cmp(ancestry.as_slice()).is_eq(),
@@ -87,7 +90,8 @@ impl Slot {
     pub fn put_in(&mut self, entry: PhysEntry) -> Result<(), Memory>
         requires fits { Fits (key_of entry, self.old) }
         requires in_range { IsMatch entry.m }
-        ensures added { list_any (λ (d : EntryOf). is_eq (by_ancestry entry d)) self.old.entries ≡ false → OnOk result (Adds entry self.old.entries self.new.entries) }
+        ensures added { list_any (λ (d : EntryOf). is_eq (by_ancestry entry d)) self.old.entries ≡ false
+            → OnOk result (Adds entry self.old.entries self.new.entries) }
         ensures fits { Fits (key_of entry, self.new) }
         ensures memory { OnErr result (self.new ≡ self.old) }
     {

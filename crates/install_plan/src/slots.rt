@@ -5,7 +5,8 @@ ghost use Rattle.of10_match.specs.Ranges.{IsMatch};
 ghost use Rattle.of10_match.specs.Wildcards.{match_bytes};
 ghost use Rattle.std.specs.BTreeMap.{is_at};
 ghost use Rattle.std.specs.Map.{set_value};
-ghost use Rattle.install_plan.specs.InsideSlots.{AreKept, Fits, IsPutInto, IsTakenFrom, Slots, as_is, as_saved, key_of, order, restored, slot_at, table_by, without_empty};
+ghost use Rattle.install_plan.specs.InsideSlots.{AreKept, Fits, IsPutInto, IsTakenFrom, Slots, as_is, as_saved, key_of};
+ghost use Rattle.install_plan.specs.InsideSlots.{order, restored, slot_at, table_by, without_empty};
 ghost use Rattle.install_plan.specs.InsideFinder.{AreKnown};
 ghost use Rattle.install_plan.specs.InsideNumbering.{AreAllSaved};
 ghost use Rattle.install_plan.specs.declared.key.Key.{Key as KeyOf};
@@ -23,9 +24,11 @@ use switch_meaning::PhysEntry;
 fn open(alloc: Global, slots: &mut BTreeMap<Key, Slot>, key: &Key) -> Result<(), Memory>
     ensures there { OnOk result (IsSome (slot_at key.now slots.new.entries)) }
     ensures kept { (saved : Slots) → AreKept slots.old.entries saved → AreKept slots.new.entries saved }
-    ensures only { (q : KeyOf) → is_at (order key.now) q ≡ false → IsSome (slot_at q slots.new.entries) → IsSome (slot_at q slots.old.entries) }
+    ensures only { (q : KeyOf) → is_at (order key.now) q ≡ false → IsSome (slot_at q slots.new.entries)
+        → IsSome (slot_at q slots.old.entries) }
     ensures now { table_by as_is slots.new.entries ≡ table_by as_is slots.old.entries }
-    ensures before { (saved : Slots) → AreKept slots.old.entries saved → table_by (as_saved saved) slots.new.entries ≡ table_by (as_saved saved) slots.old.entries }
+    ensures before { (saved : Slots) → AreKept slots.old.entries saved
+        → table_by (as_saved saved) slots.new.entries ≡ table_by (as_saved saved) slots.old.entries }
 {
     if !slots.contains_key(key) {
         slots.insert(*key, Slot::new(alloc))?;
@@ -47,7 +50,8 @@ pub fn admit(
     ensures kept { (saved : Slots) → AreKept slots.old.entries saved → AreKept slots.new.entries saved }
     ensures known { AreKnown finder.old slots.old.entries → AreKnown finder.new slots.new.entries }
     ensures now { table_by as_is slots.new.entries ≡ table_by as_is slots.old.entries }
-    ensures before { (saved : Slots) → AreKept slots.old.entries saved → table_by (as_saved saved) slots.new.entries ≡ table_by (as_saved saved) slots.old.entries }
+    ensures before { (saved : Slots) → AreKept slots.old.entries saved
+        → table_by (as_saved saved) slots.new.entries ≡ table_by (as_saved saved) slots.old.entries }
 {
     if slots.contains_key(key) {
         return Ok(());
@@ -60,8 +64,10 @@ pub fn admit(
 fn save_slot(saved: &mut BTreeMap<Key, Slot>, key: &Key, slot: &Slot) -> Result<(), Memory>
     ensures there { OnOk result (IsSome (slot_at key.now saved.new.entries)) }
     ensures still { (q : KeyOf) → IsSome (slot_at q saved.old.entries) → IsSome (slot_at q saved.new.entries) }
-    ensures kept { (slots : Slots) → slot_at key.now slots ≡ Some slot.now → AreKept slots saved.old.entries → AreKept slots saved.new.entries }
-    ensures before { (slots : Slots) → slot_at key.now slots ≡ Some slot.now → AreKept slots saved.old.entries → table_by (as_saved saved.new.entries) slots ≡ table_by (as_saved saved.old.entries) slots }
+    ensures kept { (slots : Slots) → slot_at key.now slots ≡ Some slot.now → AreKept slots saved.old.entries
+        → AreKept slots saved.new.entries }
+    ensures before { (slots : Slots) → slot_at key.now slots ≡ Some slot.now → AreKept slots saved.old.entries
+        → table_by (as_saved saved.new.entries) slots ≡ table_by (as_saved saved.old.entries) slots }
 {
     if !saved.contains_key(key) {
         saved.insert(*key, slot.copy()?)?;
@@ -75,10 +81,13 @@ pub fn save(
     saved: &mut BTreeMap<Key, Slot>,
     key: &Key,
 ) -> Result<(), Memory>
-    ensures there { IsSome (slot_at key.now slots.now.entries) → OnOk result (IsSome (slot_at key.now saved.new.entries)) }
+    ensures there { IsSome (slot_at key.now slots.now.entries)
+        → OnOk result (IsSome (slot_at key.now saved.new.entries)) }
     ensures still { (q : KeyOf) → IsSome (slot_at q saved.old.entries) → IsSome (slot_at q saved.new.entries) }
     ensures kept { AreKept slots.now.entries saved.old.entries → AreKept slots.now.entries saved.new.entries }
-    ensures before { AreKept slots.now.entries saved.old.entries → table_by (as_saved saved.new.entries) slots.now.entries ≡ table_by (as_saved saved.old.entries) slots.now.entries }
+    ensures before { AreKept slots.now.entries saved.old.entries
+        → table_by (as_saved saved.new.entries) slots.now.entries
+        ≡ table_by (as_saved saved.old.entries) slots.now.entries }
 {
     if saved.contains_key(key) {
         return Ok(());
@@ -94,7 +103,8 @@ pub fn save_all(slots: &BTreeMap<Key, Slot>, saved: &mut BTreeMap<Key, Slot>) ->
     requires { AreKept slots.now.entries saved.old.entries }
     ensures there { OnOk result (AreAllSaved saved.new.entries slots.now.entries) }
     ensures kept { AreKept slots.now.entries saved.new.entries }
-    ensures before { table_by (as_saved saved.new.entries) slots.now.entries ≡ table_by (as_saved saved.old.entries) slots.now.entries }
+    ensures before { table_by (as_saved saved.new.entries) slots.now.entries
+        ≡ table_by (as_saved saved.old.entries) slots.now.entries }
 {
     for (key, slot) in slots.iter() {
         save_slot(saved, key, slot)?;
@@ -180,7 +190,8 @@ pub fn keep_all(
 pub fn take_from(slots: &mut BTreeMap<Key, Slot>, key: &Key, entry: &PhysEntry)
     requires key { key.now ≡ key_of entry.now }
     requires fit { AllByRecursion Fits slots.old.entries }
-    ensures { MatchOption (slot_at key.now slots.old.entries) (slots.new.entries ≡ slots.old.entries) (IsTakenFrom entry.now slots.old.entries slots.new.entries) }
+    ensures { MatchOption (slot_at key.now slots.old.entries) (slots.new.entries ≡ slots.old.entries)
+        (IsTakenFrom entry.now slots.old.entries slots.new.entries) }
 {
     if let Some(slot) = slots.get_mut(key) {
         slot.take_out(entry);
@@ -193,7 +204,8 @@ pub fn put_into(slots: &mut BTreeMap<Key, Slot>, key: &Key, entry: PhysEntry) ->
     requires key { key.now ≡ key_of entry }
     requires in_range { IsMatch entry.m }
     requires fit { AllByRecursion Fits slots.old.entries }
-    ensures { IfSome (slot_at key.now slots.old.entries) (IsPutInto (is_ok result) entry slots.old.entries slots.new.entries) }
+    ensures { IfSome (slot_at key.now slots.old.entries)
+        (IsPutInto (is_ok result) entry slots.old.entries slots.new.entries) }
 {
     match slots.get_mut(key) {
         Some(slot) => slot.put_in(entry),

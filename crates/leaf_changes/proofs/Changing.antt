@@ -1,15 +1,19 @@
 -- What stays and what comes of the entries of a table that changes.
-use Rattle.std.proofs.Common.{◌≡◌, ◌∙◌, ℕ, ◌==◌, Bool, true, false, not, ◌&&◌, ◌||◌, List, [], ◌∷◌, ◌++◌, map, filter, find, Option, Some, None, option_map, refl, sym, ap, ap₂, subst, eq-eqb, eqb-true, true≢false}
+use Rattle.std.proofs.Common.{◌≡◌, ◌∙◌, ℕ, ◌==◌, Bool, true, false, not, ◌&&◌, ◌||◌, List, [], ◌∷◌, ◌++◌, map, filter}
+use Rattle.std.proofs.Common.{find, Option, Some, None, option_map, refl, sym, ap, ap₂, subst, eq-eqb, eqb-true}
+use Rattle.std.proofs.Common.{true≢false}
 use Rattle.std.specs.Prelude.{IsPermutation, filter_map, if◌then◌else◌, option_to_list}
 use Rattle.std.specs.List.{AllByRecursion, IsDistinct, cons_option}
 use Rattle.std.proofs.lemmas.List.Sorted.{IsPermutation-append_comm, IsPermutation-append_right, IsPermutation-cons}
-use Rattle.std.proofs.lemmas.List.Sorted.{IsPermutation-middle, IsPermutation-refl, IsPermutation-sym, IsPermutation-trans}
+use Rattle.std.proofs.lemmas.List.Sorted.{IsPermutation-middle, IsPermutation-refl, IsPermutation-sym}
+use Rattle.std.proofs.lemmas.List.Sorted.{IsPermutation-trans}
 use Rattle.member_table.specs.Changes.{changed_by, is_among, is_number, replaced, stays, with_added}
 use Rattle.member_table.specs.Entries.{has_serial, identity_of, is_at, put, same_identity}
 use Rattle.member_table.specs.Tables.{with_actions}
 use Rattle.member_table.specs.declared.change.Modified.{Modified}
 use Rattle.member_table.specs.declared.entry.Entry.{Entry}
-use Rattle.leaf_changes.proofs.Lists.{all_among, all_passing, by-equation, filter_mapped, filter_no, filter_yes, left_out}
+use Rattle.leaf_changes.proofs.Lists.{all_among, all_passing, by-equation, filter_mapped, filter_no, filter_yes}
+use Rattle.leaf_changes.proofs.Lists.{left_out}
 use Rattle.leaf_changes.proofs.Lists.{map_unchanged, to_front, weaker}
 
 -- tests -------------------------------------------------------------------------------------------------------------
@@ -290,13 +294,16 @@ module _ (goes : ℕ → Bool) where
       -- another one does
       skipped : (o : Option Entry)
           → IsPermutation (filter_map (changed_at (e ∷ es)) ms) (alone ms e ++ (filter_map (changed_at es) ms))
-          → IsPermutation (cons_option o (filter_map (changed_at (e ∷ es)) ms)) (alone ms e ++ cons_option o (filter_map (changed_at es) ms))
+          → IsPermutation (cons_option o (filter_map (changed_at (e ∷ es)) ms))
+          (alone ms e ++ cons_option o (filter_map (changed_at es) ms))
       skipped None p = p
       skipped (Some y) p =
-          IsPermutation-trans (y ∷ filter_map (changed_at (e ∷ es)) ms) (y ∷ (alone ms e ++ (filter_map (changed_at es) ms)))
+          IsPermutation-trans (y ∷ filter_map (changed_at (e ∷ es)) ms)
+          (y ∷ (alone ms e ++ (filter_map (changed_at es) ms)))
           (alone ms e ++ y ∷ (filter_map (changed_at es) ms))
           (IsPermutation-cons y (filter_map (changed_at (e ∷ es)) ms) (alone ms e ++ (filter_map (changed_at es) ms)) p)
-          (IsPermutation-sym (alone ms e ++ y ∷ (filter_map (changed_at es) ms)) (y ∷ (alone ms e ++ (filter_map (changed_at es) ms)))
+          (IsPermutation-sym (alone ms e ++ y ∷ (filter_map (changed_at es) ms))
+          (y ∷ (alone ms e ++ (filter_map (changed_at es) ms)))
           (IsPermutation-middle (alone ms e) y (filter_map (changed_at es) ms)))
 
       by : (seen : Bool) → (m.serial == e.serial) ≡ seen
@@ -391,7 +398,8 @@ module _ (removed dropped : List ℕ) (mods : List Modified) (added : Option Ent
   apart_same covers =
       filter_twice (is_left dropped) is_apart put_in
       ∙ (ap (filter (λ e. is_left dropped e && is_apart e)) within.is
-      ∙ (left_out (λ e. is_left dropped e && is_apart e) within.front (option_to_list added) within.back (none added comes)
+      ∙ (left_out (λ e. is_left dropped e && is_apart e) within.front (option_to_list added) within.back
+      (none added comes)
       ∙ (ap (filter (λ e. is_left dropped e && is_apart e)) within.rest
       ∙ (unseen (λ n. not (q n))
       ∙ (ap (map (changed_by mods))
@@ -415,7 +423,8 @@ module _ (removed dropped : List ℕ) (mods : List Modified) (added : Option Ent
           by : (b : Bool) → (b ≡ false → IsUntouched removed dropped mods e.serial)
               → (is_left removed e && (is_left dropped e && not b)) ≡ not b
           by true g =
-              ap (λ c. is_left removed e && c) (and_false_right (is_left dropped e)) ∙ and_false_right (is_left removed e)
+              ap (λ c. is_left removed e && c) (and_false_right (is_left dropped e))
+              ∙ and_false_right (is_left removed e)
           by false g =
               ap₂ (λ a b. not a && (not b && true)) (g refl).stays (g refl).left
 
@@ -436,7 +445,8 @@ module _ (removed dropped : List ℕ) (mods : List Modified) (added : Option Ent
       → IsPermutation (filter_map (changed_at is_out es) mods ++ option_to_list (staying_of dropped added))
       (filter is_met then_there)
   met_come single exact =
-      subst (λ ys. IsPermutation (filter_map (changed_at is_out es) mods ++ option_to_list (staying_of dropped added)) ys)
+      subst (λ ys. IsPermutation (filter_map (changed_at is_out es) mods ++ option_to_list (staying_of dropped added))
+      ys)
       (sym (filter_twice (is_left dropped) is_met put_in ∙ ap (filter (λ e. is_left dropped e && is_met e)) within.is))
       (IsPermutation-trans _ _ _
       (IsPermutation-append_comm (filter_map (changed_at is_out es) mods) (option_to_list (staying_of dropped added)))
@@ -453,7 +463,8 @@ module _ (removed dropped : List ℕ) (mods : List Modified) (added : Option Ent
           → filter (λ e. is_left dropped e && is_met e) (option_to_list o) ≡ option_to_list (staying_of dropped o)
       some None c = refl
       some (Some e) c =
-          ap (λ b. if b then e ∷ [] else []) (ap (λ b. is_left dropped e && b) (c e refl) ∙ and_true_right (is_left dropped e))
+          ap (λ b. if b then e ∷ [] else []) (ap (λ b. is_left dropped e && b) (c e refl)
+          ∙ and_true_right (is_left dropped e))
           ∙ by (is_among dropped e.serial)
         where
           by : (b : Bool) → (if not b then e ∷ [] else []) ≡ option_to_list (if b then None else Some e)

@@ -9,7 +9,8 @@ use Rattle.cv_io.specs.declared.leaf.Leaf.{Leaf}
 use Rattle.incr_compile.specs.Compiling.{is_apart_from, rules_after, same_leaf}
 use Rattle.member_table.specs.Changes.{is_among}
 use Rattle.of10_match.specs.Fields.{MatchOf}
-use Rattle.policy_meaning.specs.LeafRules.{cells, entry_rule, has_outside, in_cells, leaf_rules, miss_rule, outside_rule}
+use Rattle.policy_meaning.specs.LeafRules.{cells, entry_rule, has_outside, in_cells, leaf_rules, miss_rule}
+use Rattle.policy_meaning.specs.LeafRules.{outside_rule}
 use Rattle.policy_meaning.specs.declared.leaf.LeafEntry.{LeafEntry}
 use Rattle.policy_meaning.specs.declared.leaf.LeafTable.{LeafTable}
 use Rattle.policy_meaning.specs.declared.rule.Rule.{Rule}
@@ -154,7 +155,8 @@ module _ (ports serials : List ℕ) (t : LeafTable) where
   -- what stays of the rules of a table with these entries
   stays : (es : List LeafEntry)
       → filter (is_apart_from goes)
-      ((if has_outside ports t then outside_rule t ∷ [] else []) ++ (in_cells boxes (miss_rule t) ++ entry_rules ports t es))
+      ((if has_outside ports t then outside_rule t ∷ [] else [])
+      ++ (in_cells boxes (miss_rule t) ++ entry_rules ports t es))
       ≡ (if has_outside ports t then outside_rule t ∷ [] else [])
       ++ (in_cells boxes (miss_rule t) ++ entry_rules ports t (entries_apart serials es))
   stays es =

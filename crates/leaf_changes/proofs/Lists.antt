@@ -1,6 +1,8 @@
 -- Lists that are filtered, mapped and put in another order.
-use Rattle.std.proofs.Common.{◌≡◌, ◌∙◌, ℕ, zero, suc, ◌+◌, ◌<◌, Bool, true, false, not, List, [], ◌∷◌, ◌++◌, map, filter}
-use Rattle.std.proofs.Common.{Option, Some, None, option_map, length, drop, get_or, add-one, drop-cons, arith, refl, sym, ap, ap₂, subst}
+use Rattle.std.proofs.Common.{◌≡◌, ◌∙◌, ℕ, zero, suc, ◌+◌, ◌<◌, Bool, true, false, not, List, [], ◌∷◌, ◌++◌, map}
+use Rattle.std.proofs.Common.{filter}
+use Rattle.std.proofs.Common.{Option, Some, None, option_map, length, drop, get_or, add-one, drop-cons, arith, refl}
+use Rattle.std.proofs.Common.{sym, ap, ap₂, subst}
 use Rattle.std.specs.Prelude.{IsPermutation, filter_map, if◌then◌else◌, option_to_list}
 use Rattle.std.specs.List.{AllByRecursion, cons_option}
 use Rattle.std.proofs.lemmas.List.Sorted.{IsPermutation-cons}

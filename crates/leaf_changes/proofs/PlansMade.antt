@@ -1,5 +1,6 @@
 -- What is planned is a plan whose changes can be told.
-use Rattle.std.proofs.Common.{◌≡◌, ◌∙◌, ℕ, ◌-◌, ◌==◌, Bool, true, false, not, ◌&&◌, ◌||◌, nat_le, List, [], ◌∷◌, ◌++◌, map, Option, Some, None, refl, sym, ap, subst, eq-eqb, Result, Ok, Err, OnOk, OnErr}
+use Rattle.std.proofs.Common.{◌≡◌, ◌∙◌, ℕ, ◌-◌, ◌==◌, Bool, true, false, not, ◌&&◌, ◌||◌, nat_le, List, [], ◌∷◌, ◌++◌}
+use Rattle.std.proofs.Common.{map, Option, Some, None, refl, sym, ap, subst, eq-eqb, Result, Ok, Err, OnOk, OnErr}
 use Rattle.std.specs.Prelude.{if◌then◌else◌, option_to_list}
 use Rattle.std.specs.List.{IsDistinct, list_any}
 use Rattle.std.proofs.lemmas.Bool.Decides.{Decides-eqb}
@@ -132,7 +133,8 @@ messages-are-plans x m p now sound change made =
 
 -- entries that go
 pub removals-are-plans : (x : MemberStateOf) (serials : List ℕ) → IsPlanOf x (removal_planned x serials)
-removals-are-plans x serials = record { named = λ n e. absurd (cc); once = none_twice; size = refl; placed = λ rank t. refl }
+removals-are-plans x serials =
+    record { named = λ n e. absurd (cc); once = none_twice; size = refl; placed = λ rank t. refl }
 
 -- one more goes afterwards
 pub drops-are-plans : (x : MemberStateOf) (p : Planned) (s : ℕ) (ranks : List ℕ) → IsPlanOf x p
@@ -149,8 +151,10 @@ drops-are-plans x p s ranks plan = record {
       (dropped_more p.dropped s (committed x.table p.change))) ∙ t)));
 }
 
-pub drop-is-plan : {A B : Type 0} (answer : Result A B) (x : MemberStateOf) (old new : Planned) (s : ℕ) (rank : Option ℕ)
-    → OnOk answer (new ≡ drop_planned s rank old) → OnErr answer (HasMoreRanks old new) → IsPlanOf x old → IsPlanOf x new
+pub drop-is-plan : {A B : Type 0} (answer : Result A B) (x : MemberStateOf) (old new : Planned) (s : ℕ)
+    (rank : Option ℕ)
+    → OnOk answer (new ≡ drop_planned s rank old) → OnErr answer (HasMoreRanks old new) → IsPlanOf x old
+    → IsPlanOf x new
 drop-is-plan (Ok a) x old new s rank made more plan =
     subst (IsPlanOf x) (sym made)
     (drops-are-plans x old s

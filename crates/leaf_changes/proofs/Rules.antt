@@ -1,5 +1,6 @@
 -- The rules of entries among those of a table.
-use Rattle.std.proofs.Common.{◌≡◌, ◌∙◌, ℕ, ◌+◌, ◌<◌, Bool, true, false, List, [], ◌∷◌, ◌++◌, map, filter, Option, Some, None, arith, refl, ap, ap₂, subst, slice_get}
+use Rattle.std.proofs.Common.{◌≡◌, ◌∙◌, ℕ, ◌+◌, ◌<◌, Bool, true, false, List, [], ◌∷◌, ◌++◌, map, filter, Option, Some}
+use Rattle.std.proofs.Common.{None, arith, refl, ap, ap₂, subst, slice_get}
 use Rattle.std.specs.Prelude.{if◌then◌else◌, option_map}
 use Rattle.std.specs.List.{AllByRecursion, cons_option}
 use Rattle.std.proofs.lemmas.Bool.{le-leb}
@@ -7,7 +8,8 @@ use Rattle.of10_match.specs.Fields.{MatchOf}
 use Rattle.of10_match.specs.Matching.{meet}
 use Rattle.of10_match.specs.Normal.{IsNormal}
 use Rattle.of10_match.proofs.NormalMeet.{IsNormal-both}
-use Rattle.policy_meaning.specs.LeafRules.{cells, entry_rule, has_outside, in_cells, leaf_rules, miss_rule, outside_rule, rule_met}
+use Rattle.policy_meaning.specs.LeafRules.{cells, entry_rule, has_outside, in_cells, leaf_rules, miss_rule}
+use Rattle.policy_meaning.specs.LeafRules.{outside_rule, rule_met}
 use Rattle.policy_meaning.specs.declared.leaf.LeafEntry.{LeafEntry}
 use Rattle.policy_meaning.specs.declared.leaf.LeafTable.{LeafTable}
 use Rattle.policy_meaning.specs.declared.rule.Rule.{Rule}
@@ -19,17 +21,20 @@ use Rattle.leaf_changes.specs.Told.{IsFitting, is_entry_leaf, is_of_entry}
 use Rattle.leaf_changes.proofs.Lists.{all_pass, filter_joined, none_pass, weaker}
 
 -- a rule in each cell keeps its leaves
-met_next : (a : Rule) (o : Option MatchOf) (rest : List Rule) → AllByRecursion (λ (r : Rule). r.ancestry ≡ a.ancestry) rest
+met_next : (a : Rule) (o : Option MatchOf) (rest : List Rule)
+    → AllByRecursion (λ (r : Rule). r.ancestry ≡ a.ancestry) rest
     → AllByRecursion (λ (r : Rule). r.ancestry ≡ a.ancestry) (cons_option (option_map (λ m. record a { m = m }) o) rest)
 met_next a None rest h = h
 met_next a (Some m) rest h = (refl, h)
 
-pub all_met : (boxes : List MatchOf) (a : Rule) → AllByRecursion (λ (r : Rule). r.ancestry ≡ a.ancestry) (in_cells boxes a)
+pub all_met : (boxes : List MatchOf) (a : Rule)
+    → AllByRecursion (λ (r : Rule). r.ancestry ≡ a.ancestry) (in_cells boxes a)
 all_met [] a = tt
 all_met (n ∷ ns) a = met_next a (meet a.m n) (in_cells ns a) (all_met ns a)
 
 -- which of them are of entries
-entry_kept : (boxes : List MatchOf) (a : Rule) → is_of_entry a ≡ true → filter is_of_entry (in_cells boxes a) ≡ in_cells boxes a
+entry_kept : (boxes : List MatchOf) (a : Rule) → is_of_entry a ≡ true
+    → filter is_of_entry (in_cells boxes a) ≡ in_cells boxes a
 entry_kept boxes a t =
     all_pass is_of_entry (in_cells boxes a)
     (weaker (λ (r : Rule). r.ancestry ≡ a.ancestry) (λ (r : Rule). is_of_entry r ≡ true)

@@ -17,7 +17,8 @@ use Rattle.leaf_changes.specs.Touched.{has_kind}
 use Rattle.leaf_changes.proofs.Leaves.{leaves-change}
 use Rattle.leaf_changes.proofs.Lists.{all_pass}
 
-pub told_changes : (ports : List ℕ) (t u : LeafTable) (serials : List ℕ) (come : List LeafEntry) → IsTold t u serials come
+pub told_changes : (ports : List ℕ) (t u : LeafTable) (serials : List ℕ) (come : List LeafEntry)
+    → IsTold t u serials come
     → IsPermutation
     (rules_after (record {
       member = u.member;

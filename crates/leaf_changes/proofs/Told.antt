@@ -1,5 +1,7 @@
 -- What is told of a member's table that changes with what is planned.
-use Rattle.std.proofs.Common.{◌≡◌, ◌∙◌, ℕ, ◌+◌, ◌<◌, ◌≤◌, ◌^◌, ◌==◌, Bool, true, false, not, ◌||◌, List, [], ◌∷◌, ◌++◌, map, filter, find, Option, Some, None, IfSome, option_map, arith, refl, sym, ap, subst, eq-eqb, eqb-true, true≢false}
+use Rattle.std.proofs.Common.{◌≡◌, ◌∙◌, ℕ, ◌+◌, ◌<◌, ◌≤◌, ◌^◌, ◌==◌, Bool, true, false, not, ◌||◌, List, [], ◌∷◌, ◌++◌}
+use Rattle.std.proofs.Common.{map, filter, find, Option, Some, None, IfSome, option_map, arith, refl, sym, ap, subst}
+use Rattle.std.proofs.Common.{eq-eqb, eqb-true, true≢false}
 use Rattle.std.specs.Prelude.{IsPermutation, filter_map, if◌then◌else◌, option_to_list}
 use Rattle.std.specs.List.{AllByRecursion, list_any}
 use Rattle.std.proofs.lemmas.Bool.{lt-ltb, ne_eqb}
@@ -52,9 +54,11 @@ in_both : (xs ys : List ℕ) (n : ℕ) → is_among (xs ++ ys) n ≡ (is_among x
 in_both xs ys n = list_any-append (λ k. k == n) xs ys
 
 among_touched : (p : Planned) (n : ℕ) → is_among (touched_in p) n
-    ≡ ((goes p n || is_among (numbers_of p.change.modified) n) || is_among (option_to_list (number_of p.change.added)) n)
+    ≡ ((goes p n || is_among (numbers_of p.change.modified) n) || is_among (option_to_list (number_of p.change.added))
+    n)
 among_touched p n =
-    in_both ((p.change.removed ++ p.dropped) ++ numbers_of p.change.modified) (option_to_list (number_of p.change.added)) n
+    in_both ((p.change.removed ++ p.dropped) ++ numbers_of p.change.modified)
+    (option_to_list (number_of p.change.added)) n
     ∙ ap (λ b. b || is_among (option_to_list (number_of p.change.added)) n)
     (in_both (p.change.removed ++ p.dropped) (numbers_of p.change.modified) n
     ∙ ap (λ b. b || is_among (numbers_of p.change.modified) n) (in_both p.change.removed p.dropped n))
@@ -260,9 +264,11 @@ module _ (i : ℕ) (g : Grant) (h : HeldState) (p : Planned) (now : ℕ) (sound 
       ≡ (goes p e.serial || is_among (numbers_of p.change.modified) e.serial))
       (λ e both. among_kept (touched_in p) e.serial both.0
       ∙ (among_touched p e.serial
-      ∙ (ap (λ b. (goes p e.serial || is_among (numbers_of p.change.modified) e.serial) || b) (not_new e.serial both.1.1)
+      ∙ (ap (λ b. (goes p e.serial || is_among (numbers_of p.change.modified) e.serial) || b)
+      (not_new e.serial both.1.1)
       ∙ or_none (goes p e.serial || is_among (numbers_of p.change.modified) e.serial)))) es
-      (all-zip (λ (e : Entry). has_kind e.serial ≡ true) (λ (e : Entry). (0 < e.serial) × (e.serial < h.state.table.next))
+      (all-zip (λ (e : Entry). has_kind e.serial ≡ true) (λ (e : Entry). (0 < e.serial)
+      × (e.serial < h.state.table.next))
       es has_room sound.table.given)
 
   touched_comes : (e : Entry) → p.change.added ≡ Some e → is_among (filter has_kind (touched_in p)) e.serial ≡ true
@@ -325,7 +331,8 @@ module _ (i : ℕ) (g : Grant) (h : HeldState) (p : Planned) (now : ℕ) (sound 
                 let same : with_actions m.actions e ≡ y = cc in
                 subst IsGood same (found_has IsGood (has_serial m.serial) es e (state_good h sound) f)
 
-        added_good : (o : Option Entry) → p.change.added ≡ o → AllByRecursion IsGood (option_to_list (staying p.dropped o))
+        added_good : (o : Option Entry) → p.change.added ≡ o
+            → AllByRecursion IsGood (option_to_list (staying p.dropped o))
         added_good None s = tt
         added_good (Some e) s = by (is_among p.dropped e.serial)
           where

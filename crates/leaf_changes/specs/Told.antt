@@ -1,5 +1,6 @@
 -- What is told of a member's table that changes.
-use Rattle.std.specs.Prelude.{ℕ, ◌+◌, ◌<◌, ◌^◌, ◌++◌, Bool, false, nat_le, Option, Some, None, List, IsPermutation, filter, slice_get}
+use Rattle.std.specs.Prelude.{ℕ, ◌+◌, ◌<◌, ◌^◌, ◌++◌, Bool, false, nat_le, Option, Some, None, List, IsPermutation}
+use Rattle.std.specs.Prelude.{filter, slice_get}
 use Rattle.std.specs.List.{AllByRecursion}
 use Rattle.cv_io.specs.declared.leaf.Leaf.{Leaf}
 use Rattle.grants.specs.declared.grant.Grant.{Grant}

@@ -1,5 +1,6 @@
 -- The entries that change with what is planned.
-use Rattle.std.specs.Prelude.{ℕ, ◌+◌, ◌^◌, ◌||◌, Bool, nat_lt, List, ◌++◌, filter_map, find, map, Option, Some, None, option_map, option_to_list, if◌then◌else◌}
+use Rattle.std.specs.Prelude.{ℕ, ◌+◌, ◌^◌, ◌||◌, Bool, nat_lt, List, ◌++◌, filter_map, find, map, Option, Some, None}
+use Rattle.std.specs.Prelude.{option_map, option_to_list, if◌then◌else◌}
 use Rattle.member_table.specs.Changes.{is_among}
 use Rattle.member_table.specs.Entries.{has_serial}
 use Rattle.member_table.specs.Tables.{with_actions}

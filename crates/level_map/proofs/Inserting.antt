@@ -41,8 +41,13 @@ pub rising_between :
 rising_between r l size [] pair [] rising low high above below from_rank from_level = (from_rank, from_level, below, tt)
 rising_between r l size [] pair (p ∷ back) rising low high above below from_rank from_level =
     (from_rank, from_level, omega (arith, rising.2), (omega (arith, high.0), omega arith, rising.2, rising.3))
-rising_between r l size (p ∷ front) pair back rising low high above below from_rank from_level =
-    (rising.0, rising.1, rising.2, rising_between (p.rank + 1) (p.level + 1) size front pair back rising.3 low.1 high (omega arith) below (omega (arith, low.0)) (omega arith))
+rising_between r l size (p ∷ front) pair back rising low high above below from_rank from_level = (
+  rising.0,
+  rising.1,
+  rising.2,
+  rising_between (p.rank + 1) (p.level + 1) size front pair back rising.3 low.1 high
+      (omega arith) below (omega (arith, low.0)) (omega arith),
+)
 
 -- and ranks rising, whatever its level
 pub ranks_between :

@@ -1,5 +1,6 @@
 -- Pairs whose ranks and levels rise.
-use Rattle.std.proofs.Common.{◌≡◌, ◌≢◌, ℕ, zero, suc, ◌+◌, ◌<◌, ◌≤◌, List, [], ◌∷◌, length, take, drop, get_or, Some, None, Result, Ok, Err, IfOk, IfErr, refl, sym, ap, arith}
+use Rattle.std.proofs.Common.{◌≡◌, ◌≢◌, ℕ, zero, suc, ◌+◌, ◌<◌, ◌≤◌, List, [], ◌∷◌, length, take, drop, get_or, Some}
+use Rattle.std.proofs.Common.{None, Result, Ok, Err, IfOk, IfErr, refl, sym, ap, arith}
 use Rattle.std.specs.List.Sorted.{IsSearchInRange, IsBinarySearchResult, IsNonDecreasingBy}
 use Rattle.std.specs.Ordering.{nat_cmp, ordering_index}
 use Rattle.std.proofs.lemmas.Cmp.{ranked}
@@ -30,7 +31,8 @@ rank_at_least rank (r ∷ rs) rising (suc i) in_range =
     omega (arith, rising.0, rank_at_least (r.rank + 1) rs rising.1 i (omega arith))
 
 -- ranks rise along the pairs
-pub ranks_rise : (rank : ℕ) (rs : List Ranked) → RanksRise rank rs → (i j : ℕ) → i < j → j < length rs → rank_at rs i < rank_at rs j
+pub ranks_rise : (rank : ℕ) (rs : List Ranked) → RanksRise rank rs → (i j : ℕ) → i < j → j < length rs
+    → rank_at rs i < rank_at rs j
 ranks_rise rank [] rising i j less in_range = absurd (omega arith)
 ranks_rise rank (r ∷ rs) rising i zero less in_range = absurd (omega arith)
 ranks_rise rank (r ∷ rs) rising zero (suc j) less in_range =
@@ -45,9 +47,21 @@ pub lower_taken :
 lower_taken [] rank zero before from = refl
 lower_taken [] rank (suc at) before from = refl
 lower_taken (r ∷ rs) rank zero before from =
-    grind (arith, nat_tests, from 0 (omega arith) (omega arith), lower_taken rs rank 0 (λ j less in_range. absurd (omega arith)) (λ j le in_range. from (suc j) (omega arith) (omega arith)))
+    grind (
+      arith,
+      nat_tests,
+      from 0 (omega arith) (omega arith),
+      lower_taken rs rank 0 (λ j less in_range. absurd (omega arith))
+          (λ j le in_range. from (suc j) (omega arith) (omega arith)),
+    )
 lower_taken (r ∷ rs) rank (suc at) before from =
-    grind (arith, nat_tests, before 0 (omega arith) (omega arith), lower_taken rs rank at (λ j less in_range. before (suc j) (omega arith) (omega arith)) (λ j le in_range. from (suc j) (omega arith) (omega arith)))
+    grind (
+      arith,
+      nat_tests,
+      before 0 (omega arith) (omega arith),
+      lower_taken rs rank at (λ j less in_range. before (suc j) (omega arith) (omega arith))
+          (λ j le in_range. from (suc j) (omega arith) (omega arith)),
+    )
 
 -- where the pairs before a place are not higher and those from it on are, the higher pairs are those from it on
 pub higher_dropped :
@@ -56,12 +70,25 @@ pub higher_dropped :
 higher_dropped [] rank zero before from = refl
 higher_dropped [] rank (suc at) before from = refl
 higher_dropped (r ∷ rs) rank zero before from =
-    grind (arith, nat_tests, from 0 (omega arith) (omega arith), higher_dropped rs rank 0 (λ j less in_range. absurd (omega arith)) (λ j le in_range. from (suc j) (omega arith) (omega arith)))
+    grind (
+      arith,
+      nat_tests,
+      from 0 (omega arith) (omega arith),
+      higher_dropped rs rank 0 (λ j less in_range. absurd (omega arith))
+          (λ j le in_range. from (suc j) (omega arith) (omega arith)),
+    )
 higher_dropped (r ∷ rs) rank (suc at) before from =
-    grind (arith, nat_tests, before 0 (omega arith) (omega arith), higher_dropped rs rank at (λ j less in_range. before (suc j) (omega arith) (omega arith)) (λ j le in_range. from (suc j) (omega arith) (omega arith)))
+    grind (
+      arith,
+      nat_tests,
+      before 0 (omega arith) (omega arith),
+      higher_dropped rs rank at (λ j less in_range. before (suc j) (omega arith) (omega arith))
+          (λ j le in_range. from (suc j) (omega arith) (omega arith)),
+    )
 
 -- a rank that no pair has
-pub level_absent : (rs : List Ranked) (rank : ℕ) → ((j : ℕ) → j < length rs → rank_at rs j ≢ rank) → level_among rs rank ≡ None
+pub level_absent : (rs : List Ranked) (rank : ℕ) → ((j : ℕ) → j < length rs → rank_at rs j ≢ rank)
+    → level_among rs rank ≡ None
 level_absent [] rank other = refl
 level_absent (r ∷ rs) rank other =
     grind (arith, nat_tests, other 0 (omega arith), level_absent rs rank (λ j in_range. other (suc j) (omega arith)))
@@ -73,12 +100,19 @@ pub level_present :
 level_present [] rank at d in_range same other = absurd (omega arith)
 level_present (r ∷ rs) rank zero d in_range same other = grind (arith, nat_tests)
 level_present (r ∷ rs) rank (suc at) d in_range same other =
-    grind (arith, nat_tests, other 0 (omega arith), level_present rs rank at d (omega arith) same (λ j less. other (suc j) (omega arith)))
+    grind (
+      arith,
+      nat_tests,
+      other 0 (omega arith),
+      level_present rs rank at d (omega arith) same
+          (λ j less. other (suc j) (omega arith)),
+    )
 
 module _ (rs : List Ranked) (rising : RanksRise 0 rs) (rank : ℕ) where
   -- the comparisons with the rank rise along the pairs, as a binary search asks
   comparisons_rise : IsNonDecreasingBy (λ r. ordering_index (nat_cmp r.rank rank)) rs
-  comparisons_rise = IsNonDecreasingBy-from_default (λ r. ordering_index (nat_cmp r.rank rank)) rs no_pair (λ i j le in_range.
+  comparisons_rise = IsNonDecreasingBy-from_default (λ r. ordering_index (nat_cmp r.rank rank)) rs no_pair
+      (λ i j le in_range.
       let rises : rank_at rs i ≤ rank_at rs j =
       grind (arith, ranks_rise 0 rs rising i j, λ (same : i ≡ j). ap (rank_at rs) same) in
       grind (arith, nat_tests))
@@ -91,9 +125,12 @@ module _ (rs : List Ranked) (rising : RanksRise 0 rs) (rank : ℕ) where
       λ j le within. omega (arith, same, ranks_rise 0 rs rising at j (omega arith) within) in
       record {
         in_range = in_range;
-        lower_before = lower_taken rs rank at below (λ j le within. grind (arith, same, above j, λ (here : at ≡ j). ap (rank_at rs) here));
-        higher_after = higher_dropped rs rank (at + 1) (λ j le within. grind (arith, same, below j, λ (here : at ≡ j). ap (rank_at rs) here)) above;
-        level_there = λ d. level_present rs rank at d in_range same (λ j less equal. omega (arith, below j less (omega arith)));
+        lower_before = lower_taken rs rank at below
+            (λ j le within. grind (arith, same, above j, λ (here : at ≡ j). ap (rank_at rs) here));
+        higher_after = higher_dropped rs rank (at + 1)
+            (λ j le within. grind (arith, same, below j, λ (here : at ≡ j). ap (rank_at rs) here)) above;
+        level_there = λ d. level_present rs rank at d in_range same
+            (λ j less equal. omega (arith, below j less (omega arith)));
       }
 
   place_free :
@@ -112,5 +149,8 @@ module _ (rs : List Ranked) (rising : RanksRise 0 rs) (rank : ℕ) where
       → IfOk r (IsPlaceOf rs rank) × IfErr r (IsGapFor rs rank)
   searched (Ok at) in_range equal = (place_found at in_range (ranked _ rank _ (sym (equal no_pair))), tt)
   searched (Err at) in_range parted =
-      let halves = parted comparisons_rise in
-      (tt, place_free at in_range (λ j less. ranked _ rank _ (sym (halves.0 j no_pair (omega arith) less))) (λ j le within. ranked _ rank _ (sym (halves.1 j no_pair le within))))
+      let halves = parted comparisons_rise in (
+        tt,
+        place_free at in_range (λ j less. ranked _ rank _ (sym (halves.0 j no_pair (omega arith) less)))
+            (λ j le within. ranked _ rank _ (sym (halves.1 j no_pair le within))),
+      )

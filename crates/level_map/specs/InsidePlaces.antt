@@ -26,4 +26,5 @@ pub record IsGapFor (rs : List Ranked) (rank at : ℕ) : Type 0 where
 -- the pairs with the levels of the i-th and following of `count` ranks
 abbrev pub numbered : ℕ → ℕ → ℕ → List Ranked → List Ranked
 numbered size count i [] = []
-numbered size count i (r ∷ rs) = record { rank = r.rank; level = even_level size count i } ∷ numbered size count (i + 1) rs
+numbered size count i (r ∷ rs) = record { rank = r.rank; level = even_level size count i }
+    ∷ numbered size count (i + 1) rs

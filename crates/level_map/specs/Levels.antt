@@ -1,5 +1,6 @@
 -- Levels of ranks: a finite map, as its pairs in the order of the ranks.
-use Rattle.std.specs.Prelude.{◌≡◌, ℕ, ◌+◌, ◌<◌, ◌≤◌, ◌^◌, ◌==◌, nat_lt, List, [], ◌∷◌, Option, None, Some, if◌then◌else◌, filter}
+use Rattle.std.specs.Prelude.{◌≡◌, ℕ, ◌+◌, ◌<◌, ◌≤◌, ◌^◌, ◌==◌, nat_lt, List, [], ◌∷◌, Option, None, Some}
+use Rattle.std.specs.Prelude.{if◌then◌else◌, filter}
 use Rattle.level_map.specs.declared.ranked.Ranked.{Ranked}
 
 -- how many levels there are, and the ranks that have one

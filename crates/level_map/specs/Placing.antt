@@ -1,5 +1,6 @@
 -- How a rank gets its level, and loses it.
-use Rattle.std.specs.Prelude.{◌≡◌, ◌≢◌, ℕ, ◌+◌, ◌-◌, ◌*◌, ◌/◌, nat_le, List, [], ◌∷◌, ◌++◌, Option, None, Some, IsNone, is_some, if◌then◌else◌, length, map, min, max}
+use Rattle.std.specs.Prelude.{◌≡◌, ◌≢◌, ℕ, ◌+◌, ◌-◌, ◌*◌, ◌/◌, nat_le, List, [], ◌∷◌, ◌++◌, Option, None, Some, IsNone}
+use Rattle.std.specs.Prelude.{is_some, if◌then◌else◌, length, map, min, max}
 use Rattle.level_map.specs.declared.ranked.Ranked.{Ranked}
 use Rattle.level_map.specs.declared.placed.Placed.{Placed}
 use Rattle.level_map.specs.declared.placed.Placed.TheVariants.{Kept, Renumbered}
@@ -50,7 +51,10 @@ placing_new m rank =
     let high = level_above m rank in
     if nat_le 2 (high - low)
     then (Kept (middle low high), record { size = m.size; ranked = with_rank rank (middle low high) m.ranked })
-    else (Renumbered (even_level m.size (length m.ranked + 1) (length (lower rank m.ranked) + 1)), record { size = m.size; ranked = spread m.size (with_rank rank 0 m.ranked) })
+    else (
+      Renumbered (even_level m.size (length m.ranked + 1) (length (lower rank m.ranked) + 1)),
+      record { size = m.size; ranked = spread m.size (with_rank rank 0 m.ranked) },
+    )
 
 abbrev pub placing_by : Option ℕ → Levels → ℕ → Placed × Levels
 placing_by None m rank = placing_new m rank

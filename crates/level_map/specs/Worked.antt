@@ -16,7 +16,8 @@ pub record ThreeBits : Type 0 where
   pub first : placing (eight []) 10 ≡ (Kept 4, eight (at 10 4 ∷ []))
   pub second : placing (eight (at 10 4 ∷ [])) 20 ≡ (Kept 6, eight (at 10 4 ∷ at 20 6 ∷ []))
   pub third : placing (eight (at 10 4 ∷ at 20 6 ∷ [])) 30 ≡ (Kept 7, eight (at 10 4 ∷ at 20 6 ∷ at 30 7 ∷ []))
-  pub spread : placing (eight (at 10 4 ∷ at 20 6 ∷ at 30 7 ∷ [])) 40 ≡ (Renumbered 6, eight (at 10 2 ∷ at 20 3 ∷ at 30 5 ∷ at 40 6 ∷ []))
+  pub spread : placing (eight (at 10 4 ∷ at 20 6 ∷ at 30 7 ∷ [])) 40
+      ≡ (Renumbered 6, eight (at 10 2 ∷ at 20 3 ∷ at 30 5 ∷ at 40 6 ∷ []))
 
 -- a rank that is dropped has no level, and the others keep theirs
 pub record Dropped : Type 0 where

@@ -59,7 +59,8 @@ impl LevelMap {
 
         // A rank that is there is found, and a new one wants room.
         ensures known { IsSome (level_of self.old rank) → IsOk result }
-        ensures full { HasNoRoom self.old rank → result ≡ Err (PlaceFault.Full (self.old.size - 2) (self.old.size - 2)) }
+        ensures full { HasNoRoom self.old rank
+            → result ≡ Err (PlaceFault.Full (self.old.size - 2) (self.old.size - 2)) }
         ensures fault { IfErr result (IsFaultOf self.old rank) }
         ensures err { OnErr result (self.new ≡ self.old) }
     {

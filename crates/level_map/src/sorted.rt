@@ -1,5 +1,6 @@
 //! The work on pairs that stand in the order of their ranks.
-ghost use Rattle.std.specs.Prelude.{◌≡◌, ◌<◌, ◌≤◌, ◌+◌, ◌-◌, ◌*◌, ◌/◌, ◌^◌, IfOk, IfErr, OnOk, OnErr, length, take, drop};
+ghost use Rattle.std.specs.Prelude.{◌≡◌, ◌<◌, ◌≤◌, ◌+◌, ◌-◌, ◌*◌, ◌/◌, ◌^◌, IfOk, IfErr, OnOk, OnErr, length, take};
+ghost use Rattle.std.specs.Prelude.{drop};
 ghost use Rattle.level_map.specs.Levels.{IsRising, level_among};
 ghost use Rattle.level_map.specs.Placing.{greatest_level, least_level, even_level, placing_new};
 ghost use Rattle.level_map.specs.InsidePlaces.{RanksRise, IsPlaceOf, IsGapFor, numbered};
@@ -65,7 +66,8 @@ pub fn place_new(
     requires gap { IsGapFor ranked.old.items rank at }
     requires room { length ranked.old.items + 3 ≤ size }
     requires size_in { size ≤ 2 ^ 15 }
-    ensures placed { IfOk result (λ placed. placing_new (record { size = size; ranked = ranked.old.items }) rank ≡ (placed, record { size = size; ranked = ranked.new.items })) }
+    ensures placed { IfOk result (λ placed. placing_new (record { size = size; ranked = ranked.old.items }) rank
+        ≡ (placed, record { size = size; ranked = ranked.new.items })) }
     ensures rising { IsRising 0 2 size ranked.new.items }
     ensures memory { IfErr result (λ fault. (fault ≡ PlaceFault.Memory) × (ranked.new.items ≡ ranked.old.items)) }
 {

@@ -2,7 +2,8 @@
 use Rattle.std.proofs.Common.{◌≡◌, Bool, true, false, List, [], ◌∷◌, ◌++◌, refl, ap, sym, subst, ◌∙◌, arith}
 use Rattle.std.specs.Prelude.{Contains, IsPermutation, if◌then◌else◌}
 use Rattle.std.proofs.lemmas.List.Elements.{Contains-append_right}
-use Rattle.std.proofs.lemmas.List.Sorted.{IsPermutation-refl, IsPermutation-trans, IsPermutation-append_comm, IsPermutation-append_left, IsPermutation-cons}
+use Rattle.std.proofs.lemmas.List.Sorted.{IsPermutation-refl, IsPermutation-trans, IsPermutation-append_comm}
+use Rattle.std.proofs.lemmas.List.Sorted.{IsPermutation-append_left, IsPermutation-cons}
 use Rattle.list_change.specs.Changes.{Apart, Changed}
 use Rattle.list_change.specs.Coming.{TellsEqual, came, without}
 use Rattle.list_change.proofs.Permute.{Perm, nil, skip, turn, next, same as unmoved, by-cases, by-equation}
@@ -12,7 +13,8 @@ module _ {X : Type 0} where
   pub permuted : {xs ys : List X} → Perm xs ys → IsPermutation xs ys
   permuted nil = IsPermutation-refl []
   permuted (skip {xs = xs} {ys = ys} x p) = IsPermutation-cons x xs ys (permuted p)
-  permuted (turn x y xs) = IsPermutation-append_left xs (x ∷ y ∷ []) (y ∷ x ∷ []) (IsPermutation-append_comm (x ∷ []) (y ∷ []))
+  permuted (turn x y xs) = IsPermutation-append_left xs (x ∷ y ∷ []) (y ∷ x ∷ [])
+      (IsPermutation-append_comm (x ∷ []) (y ∷ []))
   permuted (next {xs = xs} {ys = ys} {zs = zs} p q) = IsPermutation-trans xs ys zs (permuted p) (permuted q)
 
   along : (xs us ys vs : List X) → xs ≡ us → ys ≡ vs → Perm us vs → Perm xs ys
@@ -31,7 +33,8 @@ module _ {X : Type 0} (same : X → X → Bool) (tells : TellsEqual same) where
       without same x (without same y (z ∷ l)) ≡ without same y (without same x (z ∷ l))
   turned-at x y z l true true d e h =
       ap (without same x) (pass y z l d)
-      ∙ (ap (λ (w : X). without same w l) ((tells x z).0 e ∙ sym ((tells y z).0 d)) ∙ sym (ap (without same y) (pass x z l e)))
+      ∙ (ap (λ (w : X). without same w l) ((tells x z).0 e ∙ sym ((tells y z).0 d))
+      ∙ sym (ap (without same y) (pass x z l e)))
   turned-at x y z l true false d e h =
       ap (without same x) (pass y z l d) ∙ sym (ap (without same y) (stay x z l e) ∙ pass y z (without same x l) d)
   turned-at x y z l false true d e h =
@@ -45,7 +48,8 @@ module _ {X : Type 0} (same : X → X → Bool) (tells : TellsEqual same) where
   turned x y (z ∷ l) = turned-at x y z l (same y z) (same x z) refl refl (turned x y l)
 
   -- without an item of lists that are the same up to order
-  skip-at : (x z : X) (xs ys : List X) (t : Bool) → same x z ≡ t → Perm xs ys → Perm (without same x xs) (without same x ys) →
+  skip-at : (x z : X) (xs ys : List X) (t : Bool) → same x z ≡ t → Perm xs ys
+      → Perm (without same x xs) (without same x ys) →
       Perm (without same x (z ∷ xs)) (without same x (z ∷ ys))
   skip-at x z xs ys true e p h = along _ _ _ _ (pass x z xs e) (pass x z ys e) p
   skip-at x z xs ys false e p h = along _ _ _ _ (stay x z xs e) (stay x z ys e) (skip z h)
@@ -60,7 +64,8 @@ module _ {X : Type 0} (same : X → X → Bool) (tells : TellsEqual same) where
   turn-at x y z l false true d e =
       along _ _ _ _ (stay x y (z ∷ l) d ∙ ap (λ r. y ∷ r) (pass x z l e)) (pass x z (y ∷ l) e) (unmoved (y ∷ l))
   turn-at x y z l false false d e =
-      along _ _ _ _ (stay x y (z ∷ l) d ∙ ap (λ r. y ∷ r) (stay x z l e)) (stay x z (y ∷ l) e ∙ ap (λ r. z ∷ r) (stay x y l d))
+      along _ _ _ _ (stay x y (z ∷ l) d ∙ ap (λ r. y ∷ r) (stay x z l e))
+      (stay x z (y ∷ l) e ∙ ap (λ r. z ∷ r) (stay x y l d))
       (turn y z (without same x l))
 
   without-perm : (x : X) {xs ys : List X} → Perm xs ys → Perm (without same x xs) (without same x ys)
@@ -76,11 +81,13 @@ module _ {X : Type 0} (same : X → X → Bool) (tells : TellsEqual same) where
   before-perm : {xs ys : List X} → Perm xs ys → (after : List X) → Perm (came same xs after) (came same ys after)
   before-perm nil after = unmoved after
   before-perm (skip {xs = xs} {ys = ys} x p) after = before-perm p (without same x after)
-  before-perm (turn x y xs) after = along _ _ _ _ (ap (came same xs) (turned y x after)) refl (unmoved (came same xs (without same x (without same y after))))
+  before-perm (turn x y xs) after = along _ _ _ _ (ap (came same xs) (turned y x after)) refl
+      (unmoved (came same xs (without same x (without same y after))))
   before-perm (next {xs = xs} {ys = ys} {zs = zs} p q) after = next (before-perm p after) (before-perm q after)
 
   -- what came is the same in any order
-  pub came-ordered : (before before' after after' : List X) → IsPermutation before before' → IsPermutation after after' →
+  pub came-ordered : (before before' after after' : List X) → IsPermutation before before' → IsPermutation after after'
+      →
       IsPermutation (came same before after) (came same before' after')
   came-ordered before before' after after' b a =
       permuted (next (before-perm (by-cases before before' b) after) (after-perm before' (by-cases after after' a)))
@@ -88,14 +95,16 @@ module _ {X : Type 0} (same : X → X → Bool) (tells : TellsEqual same) where
   -- what is in both doesn't come
   kept-stays : (kept gone come : List X) → came same (kept ++ gone) (kept ++ come) ≡ came same gone come
   kept-stays [] gone come = refl
-  kept-stays (k ∷ kept) gone come = ap (came same (kept ++ gone)) (pass k k (kept ++ come) ((tells k k).1 refl)) ∙ kept-stays kept gone come
+  kept-stays (k ∷ kept) gone come = ap (came same (kept ++ gone)) (pass k k (kept ++ come) ((tells k k).1 refl))
+      ∙ kept-stays kept gone come
 
   -- nothing comes where nothing changes
   pub none-came : (xs : List X) → came same xs xs ≡ []
   none-came [] = refl
   none-came (x ∷ xs) = ap (came same xs) (pass x x xs ((tells x x).1 refl)) ∙ none-came xs
 
-  absent-at : (x y : X) (l : List X) (t : Bool) → same x y ≡ t → (Contains (y ∷ l) x → ⊥) → without same x l ≡ l → without same x (y ∷ l) ≡ y ∷ l
+  absent-at : (x y : X) (l : List X) (t : Bool) → same x y ≡ t → (Contains (y ∷ l) x → ⊥) → without same x l ≡ l
+      → without same x (y ∷ l) ≡ y ∷ l
   absent-at x y l true e h i = absurd (h (0, omega arith, sym ((tells x y).0 e)))
   absent-at x y l false e h i = stay x y l e ∙ ap (λ r. y ∷ r) i
 

@@ -16,7 +16,8 @@ module _ {A C : Type 0} where
   none-of g h [] = refl
   none-of g h (x ∷ xs) = ap (λ o. cons_option o (filter_map g xs)) (h x) ∙ none-of g h xs
 
-  pub flat-both : (f g : A → List C) (xs : List A) → IsPermutation (flat_map f xs ++ flat_map g xs) (flat_map (λ a. f a ++ g a) xs)
+  pub flat-both : (f g : A → List C) (xs : List A)
+      → IsPermutation (flat_map f xs ++ flat_map g xs) (flat_map (λ a. f a ++ g a) xs)
   flat-both f g [] = IsPermutation-refl []
   flat-both f g (x ∷ xs) =
       IsPermutation-trans _ ((f x ++ g x) ++ (flat_map f xs ++ flat_map g xs)) _
@@ -29,7 +30,8 @@ module _ {A C : Type 0} where
 
   pub filter-flat : (f : A → Option C) (xs : List A) → filter_map f xs ≡ flat_map (λ a. cons_option (f a) []) xs
   filter-flat f [] = refl
-  filter-flat f (x ∷ xs) = ap (cons_option (f x)) (filter-flat f xs) ∙ opened (f x) (flat_map (λ a. cons_option (f a) []) xs)
+  filter-flat f (x ∷ xs) = ap (cons_option (f x)) (filter-flat f xs)
+      ∙ opened (f x) (flat_map (λ a. cons_option (f a) []) xs)
 
 -- what each of some makes is what they make
 pub each-made : {A B C : Type 0} (w : Way A B C) (ys : List B) (xs : List A) →

@@ -32,7 +32,8 @@ pub struct Netted<T> {
 fn order_of_last<T: Ord>(gone: &[Place<T>], come: &[Place<T>]) -> Ordering
     requires gone { 0 < length gone.now }
     requires come { 0 < length come.now }
-    ensures { (x y : _) → result ≡ T.cmp (get_or gone.now (length gone.now - 1) x).item (get_or come.now (length come.now - 1) y).item }
+    ensures { (x y : _)
+        → result ≡ T.cmp (get_or gone.now (length gone.now - 1) x).item (get_or come.now (length come.now - 1) y).item }
 {
     gone[gone.len() - 1].item.cmp(&come[come.len() - 1].item)
 }
@@ -45,7 +46,11 @@ fn part_one<T: Ord + Drop>(
 ) -> Result<(), Memory>
     requires gone { 0 < length gone.old.items }
     requires come { 0 < length come.old.items }
-    ensures parted { (all others : List _) → IsParted T.cmp all others gone.old.items come.old.items net.old.gone.items net.old.come.items net.old.both.items → OnOk result (IsParted T.cmp all others gone.new.items come.new.items net.new.gone.items net.new.come.items net.new.both.items) }
+    ensures parted { (all others : List _)
+        → IsParted T.cmp all others gone.old.items come.old.items net.old.gone.items net.old.come.items
+        net.old.both.items
+        → OnOk result (IsParted T.cmp all others gone.new.items come.new.items net.new.gone.items net.new.come.items
+        net.new.both.items) }
     ensures fewer { length gone.new.items + length come.new.items < length gone.old.items + length come.old.items }
 {
     match order_of_last(gone, come) {

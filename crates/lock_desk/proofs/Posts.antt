@@ -1,5 +1,6 @@
 -- Posts to the lock are posts to the desk.
-use Rattle.std.proofs.Common.{◌≡◌, ◌⊎◌, ℕ, ◌≤◌, Bool, true, false, List, [], ◌∷◌, ◌++◌, length, map, take, Some, refl, sym, ap, ◌∙◌, subst, arith, inl, inr, append_assoc}
+use Rattle.std.proofs.Common.{◌≡◌, ◌⊎◌, ℕ, ◌≤◌, Bool, true, false, List, [], ◌∷◌, ◌++◌, length, map, take, Some, refl}
+use Rattle.std.proofs.Common.{sym, ap, ◌∙◌, subst, arith, inl, inr, append_assoc}
 use mathlib.Core.List.{IsPrefix}
 use Rattle.std.proofs.lemmas.List.{append-nil, map-append, take_all}
 use Rattle.cv_io.specs.declared.leaf.Session.{Session}
@@ -31,7 +32,8 @@ posts-more : (number : List ℕ) (before seen log : List (Entry Event Reply)) (e
     → posts_by number log ≡ posts_by number seen ++ answered e r ∷ []
 posts-more number before seen log e r same is =
     ap (posts_by number) is
-    ∙ (ap (map post_of) (calls-append number before (entry number e r ∷ []) ∙ (λ i. same i ++ calls-mine number number e r refl i))
+    ∙ (ap (map post_of) (calls-append number before (entry number e r ∷ [])
+    ∙ (λ i. same i ++ calls-mine number number e r refl i))
     ∙ map-append post_of (calls_by number seen) (entry number e r ∷ []))
 
 prefix_still : {A : Type 0} (xs ys zs : List A) → IsPrefix xs ys → IsPrefix ys zs → IsPrefix xs zs
@@ -65,11 +67,13 @@ known_after g knows stays who s [] h = h
 known_after g knows stays who s (x ∷ xs) h = known_after g knows stays who (g.next s x.event) xs (stays s x.event who h)
 
 -- a seat that made no call has the posts that it had
-pub posts-later : {S : Type 0} (v w : Pass Event Reply S) → w.number ≡ v.number → IsLater v w → own_posts w ≡ own_posts v
+pub posts-later : {S : Type 0} (v w : Pass Event Reply S) → w.number ≡ v.number → IsLater v w
+    → own_posts w ≡ own_posts v
 posts-later v w same later = ap (λ n. posts_by n w.seen) same ∙ ap (map post_of) later.1
 
 -- a post leaves what was seen
-pub seen_posted : {M E R S : Type 0} (g : Ghosts M E R S) (start : S) (v w : Pass E R S) (e : E) (place : ℕ) (r : R) (a b : ℕ)
+pub seen_posted : {M E R S : Type 0} (g : Ghosts M E R S) (start : S) (v w : Pass E R S) (e : E) (place : ℕ) (r : R)
+    (a b : ℕ)
     → IsPosted g start v w e place r a b → IsPrefix v.seen w.seen
 seen_posted g start v w e place r a b p = by (g.idle (after g start p.before) e) refl
   where
@@ -78,7 +82,8 @@ seen_posted g start v w e place r a b p = by (g.idle (after g start p.before) e)
     by false i =
         subst (IsPrefix v.seen) (sym (p.entered i)) (prefix_more p.before v.seen (entry v.number e r ∷ []) p.later)
 
-module _ {M S : Type 0} (g : Ghosts M Event Reply S) (start : S) (v w : Pass Event Reply S) (e : Event) (place : ℕ) (r : Reply) (a b : ℕ)
+module _ {M S : Type 0} (g : Ghosts M Event Reply S) (start : S) (v w : Pass Event Reply S) (e : Event) (place : ℕ)
+    (r : Reply) (a b : ℕ)
     (p : IsPosted g start v w e place r a b) (same : w.number ≡ v.number) (starts : w.start ≡ Some start) where
   -- what the machine meant as the event came
   abbrev pub met : S
@@ -102,7 +107,8 @@ module _ {M S : Type 0} (g : Ghosts M Event Reply S) (start : S) (v w : Pass Eve
       }
 
 -- an event that is done is one post more
-module _ {M S : Type 0} (g : Ghosts M Event Reply S) (start : S) (v w : Pass Event Reply S) (e : Event) (place : ℕ) (r : Reply) (a b : ℕ)
+module _ {M S : Type 0} (g : Ghosts M Event Reply S) (start : S) (v w : Pass Event Reply S) (e : Event) (place : ℕ)
+    (r : Reply) (a b : ℕ)
     (p : IsPosted g start v w e place r a b) (same : w.number ≡ v.number) (starts : w.start ≡ Some start) where
   abbrev s : S
   s = after g start p.before
@@ -111,8 +117,12 @@ module _ {M S : Type 0} (g : Ghosts M Event Reply S) (start : S) (v w : Pass Eve
       → (round : ℕ) × (r ≡ Opened round) × (own_posts w ≡ own_posts v ++ answered e (Opened round) ∷ [])
   opened_by who arp is o =
       let busy : g.idle s e ≡ false = ap (g.idle s) is ∙ o.0 in
-      let answer : r ≡ Opened o.1.0 = p.replied ∙ (ap (g.reply s) is ∙ o.1.1) in
-      (o.1.0, answer, adds g start v w e place r a b p same starts busy ∙ ap (λ q. own_posts v ++ answered e q ∷ []) answer)
+      let answer : r ≡ Opened o.1.0 = p.replied ∙ (ap (g.reply s) is ∙ o.1.1) in (
+        o.1.0,
+        answer,
+        adds g start v w e place r a b p same starts busy
+            ∙ ap (λ q. own_posts v ++ answered e q ∷ []) answer,
+      )
 
   abbrev Over : Session → S → Type 0
   Over session t = IsOver g.reply t session
@@ -131,8 +141,10 @@ module _ {M S : Type 0} (g : Ghosts M Event Reply S) (start : S) (v w : Pass Eve
       by true i =
           let t = h.1 i in
           subst (λ q. AddsHeard (own_posts v) (own_posts w) (answered e Done) (hearing_of place q)
-          × IsRefusedWhere (Ended session) (hearing_of place q)) (sym (p.replied ∙ t.0))
-          (stays g start v w e place r a b p same starts i, there g start v w e place r a b p same starts (Over session) i t.1)
+          × IsRefusedWhere (Ended session) (hearing_of place q)) (sym (p.replied ∙ t.0)) (
+            stays g start v w e place r a b p same starts i,
+            there g start v w e place r a b p same starts (Over session) i t.1,
+          )
       by false i =
           let is = p.replied ∙ h.0 i in
           subst (λ q. AddsHeard (own_posts v) (own_posts w) (answered e Done) (hearing_of place q)
@@ -144,7 +156,8 @@ module _ {M S : Type 0} (g : Ghosts M Event Reply S) (start : S) (v w : Pass Eve
     where
       by : (i : Bool) → g.idle s e ≡ i → MayAdd (own_posts v) (own_posts w) (answered e Done)
       by true i = inl (stays g start v w e place r a b p same starts i)
-      by false i = inr (adds g start v w e place r a b p same starts i ∙ ap (λ q. own_posts v ++ answered e q ∷ []) (p.replied ∙ h i))
+      by false i = inr (adds g start v w e place r a b p same starts i
+          ∙ ap (λ q. own_posts v ++ answered e q ∷ []) (p.replied ∙ h i))
 
   abbrev Waits : Session → ℕ → Type 0
   Waits session at = HoldsAfter g w at (λ t. NothingWaits g.reply t session)
@@ -161,7 +174,8 @@ module _ {M S : Type 0} (g : Ghosts M Event Reply S) (start : S) (v w : Pass Eve
       said : r ≡ g.reply s (Take session)
       said = p.replied ∙ ap (g.reply s) is
 
-      idly : (i : g.idle s e ≡ true) → NothingWaits g.reply s session ⊎ ((g.reply s (Take session) ≡ Closed) × IsOver g.reply s session)
+      idly : (i : g.idle s e ≡ true) → NothingWaits g.reply s session
+          ⊎ ((g.reply s (Take session) ≡ Closed) × IsOver g.reply s session)
           → Took session r
       idly i (inl none) =
           subst (Took session) (sym (said ∙ none)) (

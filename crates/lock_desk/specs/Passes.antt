@@ -33,7 +33,8 @@ module _ {S : Type 0} where
   own_posts p = posts_by p.number p.seen
 
 module _ {M E R S : Type 0} (g : Ghosts M E R S) where
-  -- so many entries of the history that a seat has seen have all its own calls, and this holds of the machine after them
+  -- so many entries of the history that a seat has seen have all its own calls, and this holds of the machine after
+  -- them
   pub record HoldsAfter (p : Pass E R S) (at : ℕ) (P : S → Type 0) : Type 0 where
     pub long : at ≤ length p.seen
     pub own : calls_by p.number (take at p.seen) ≡ calls_by p.number p.seen

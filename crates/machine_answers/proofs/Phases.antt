@@ -170,7 +170,8 @@ module _ (m k : ℕ) (a : List (List ℕ)) (r : Reply) where
   comes_holds p total bytes None d h = h
   comes_holds p total bytes (Some (v, port)) d h = h
 
-  answered_holds : (n : ℕ) (x : SwitchOf) (xid : ℕ) (o : Option ℕ) (d : Draft) → Holds d → Holds (barrier_answered n xid o d)
+  answered_holds : (n : ℕ) (x : SwitchOf) (xid : ℕ) (o : Option ℕ) (d : Draft) → Holds d
+      → Holds (barrier_answered n xid o d)
   answered_holds n x xid None d h = h
   answered_holds n x xid (Some number) d h =
       switch n (with_known (barrier_reply xid)) d h

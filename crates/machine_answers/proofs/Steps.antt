@@ -40,7 +40,8 @@ use Rattle.machine_meaning.proofs.Readied.{long_changed}
 use Rattle.events.specs.declared.event.PolicyRefusal.{PolicyRefusal}
 use Rattle.events.specs.declared.event.PolicyRefusal.TheVariants.{Expr}
 use Rattle.lock_desk.specs.Hosts.{IsOver}
-use Rattle.machine_answers.specs.Answers.{GoingsAreHeard, HasSession, MessagesAreHeard, OpeningHasSessions, SecondsAreDone}
+use Rattle.machine_answers.specs.Answers.{GoingsAreHeard, HasSession, MessagesAreHeard, OpeningHasSessions}
+use Rattle.machine_answers.specs.Answers.{SecondsAreDone}
 use Rattle.machine_answers.specs.Answers.{SessionsOpen, SessionsStay, is_idle, reply_in}
 use Rattle.machine_answers.proofs.Phases.{Holds, drafted_holds, first_holds, gone_holds, sends_holds, tick_holds}
 
@@ -127,7 +128,8 @@ put_many m k p d h = (
   length-map (enumerate_from 0 d.state.switches) (put_to_switch d) ∙ (length-enumerate_from 0 d.state.switches ∙ h.1),
 )
 
-went_on : (m k : ℕ) (p : PolicyOf) (s : State) (e : Event) → AreMany m k s → AreMany m k (put p (drafted p (heard s e) e))
+went_on : (m k : ℕ) (p : PolicyOf) (s : State) (e : Event) → AreMany m k s
+    → AreMany m k (put p (drafted p (heard s e) e))
 went_on m k p s e many =
     let o = acted m k p (heard s e) e (many.0, many.1) in
     let t = drafted_holds m k s.audit o.0 p (heard s e) e (slow p (heard s e) e) o.1 in

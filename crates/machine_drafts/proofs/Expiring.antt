@@ -1,6 +1,6 @@
 -- Members whose entries expire one after the other, by their numbers.
 use Rattle.std.proofs.Common.{◌≡◌, ◌∙◌, ℕ, zero, suc, ◌+◌, ◌<◌, ◌≤◌, List, [], ◌∷◌, ◌++◌, drop, get_or, length, map}
-use Rattle.std.proofs.Common.{Option, Some, None, refl, sym, ap, append-nil, append_assoc, arith}
+use Rattle.std.proofs.Common.{Option, Some, refl, sym, ap, append-nil, append_assoc, arith}
 use Rattle.std.specs.Prelude.{filter, flat_map, slice_get}
 use Rattle.std.proofs.lemmas.List.{drop_all}
 use Rattle.std.specs.List.{AllByRecursion, enumerate_from}

@@ -1,6 +1,5 @@
 -- What holds of the ports of members.
-use Rattle.std.proofs.Common.{◌≡◌, ℕ, zero, suc, ◌<◌, List, [], ◌∷◌, All, IfSome, length, slice_get, arith}
-use Rattle.std.specs.List.{AllByRecursion}
+use Rattle.std.proofs.Common.{ℕ, zero, suc, ◌<◌, List, [], ◌∷◌, All, IfSome, length, slice_get, arith}
 use Rattle.std.proofs.lemmas.List.Elements.{All-from_recursion, All-weaker}
 use Rattle.of10_actions.specs.Ports.{AreRising}
 use Rattle.policy_file.specs.Policies.{PolicyOf}

@@ -1,5 +1,5 @@
 -- How polls and packets are sent: over the switches, what waits, and the letters, whatever else a draft has.
-use Rattle.std.specs.Prelude.{ℕ, ◌<◌, List, [], length}
+use Rattle.std.specs.Prelude.{◌<◌, List, [], length}
 use Rattle.std.specs.List.{AllByRecursion}
 use Rattle.of10_msgs.specs.declared.message.Body.{Body}
 use Rattle.switch_state.specs.Known.{KnownOf}

@@ -1,5 +1,5 @@
 -- How entries expire and come into doubt, member by member.
-use Rattle.std.specs.Prelude.{◌≡◌, ℕ, ◌==◌, List, [], ◌∷◌, Option, if◌then◌else◌, map, zip, slice_get}
+use Rattle.std.specs.Prelude.{◌≡◌, ℕ, ◌==◌, List, [], if◌then◌else◌, map, slice_get}
 use Rattle.std.specs.Option.{option_map_or}
 use Rattle.policy_file.specs.declared.policy.MemberItem.{MemberItem}
 use Rattle.machine_drafts.specs.MemberDrafts.{MemberDraftOf}

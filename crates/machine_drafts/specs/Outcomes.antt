@@ -1,5 +1,5 @@
 -- A draft of the program is a draft of the definitions, beside what stands.
-use Rattle.std.specs.Prelude.{◌≡◌, ℕ, List, map}
+use Rattle.std.specs.Prelude.{◌≡◌, ℕ, ◌<◌, ◌^◌, List, length, map}
 use Rattle.std.specs.List.{AllByRecursion}
 use Rattle.install_plan.specs.declared.written.Written.{Written}
 use Rattle.policy_expr.specs.Policy.{Policy}
@@ -110,3 +110,8 @@ pub record IsBefore (b : Bases) (before : State) : Type 0 where
   pub standing : before.standing ≡ map standing_of b.switches
   pub counts : before.counts ≡ told b.counts
   pub owed : before.owed ≡ b.owed
+
+-- members and switches have numbers
+pub record HaveNumbers (b : Bases) : Type 0 where
+  pub members : length b.members < 2 ^ 32
+  pub switches : length b.switches < 2 ^ 32

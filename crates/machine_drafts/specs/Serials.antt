@@ -1,5 +1,5 @@
 -- Whether a serial number is left for an entry of each member.
-use Rattle.std.specs.Prelude.{ℕ, ◌+◌, ◌<◌, ◌^◌, List}
+use Rattle.std.specs.Prelude.{◌+◌, ◌<◌, ◌^◌, List}
 use Rattle.std.specs.List.{AllByRecursion}
 use Rattle.machine_meaning.specs.States.{MemberOf}
 use Rattle.machine_drafts.specs.MemberDrafts.{MemberDraftOf}

@@ -105,7 +105,7 @@ impl<'a> Kept<'a> {
 
 /// One of the entries of a table has this serial number.
 #[tactic(auto, using(member_table::proofs::Lists::any_find))]
-pub(crate) fn is_there(table: &Table, serial: u64) -> bool
+pub fn is_there(table: &Table, serial: u64) -> bool
     ensures { result ≡ list_any (has_serial serial) table.now.table.entries }
 {
     table.get(serial).is_some()

@@ -21,10 +21,10 @@ fn table(n: u32, item: &MemberItem, member: &MemberDraft<'_>) -> Result<LeafTabl
     requires { AreRising item.now.grant.ports }
     ensures { IfOk result (λ table. table ≡ table_of (n, (item.now, member.now.now))) }
 {
-    let drafted = member.kept()?;
-    let now = drafted.state();
-    let table = now.leaf_table(n, &item.grant)?;
-    Ok(table)
+    let kept = member.kept()?;
+    let table = kept.state().leaf_table(n, &item.grant);
+    drop(kept);
+    table
 }
 
 /// The tables of all members.

@@ -144,20 +144,43 @@ struct WorkedOut {
     switches: List<List<u32>>,
 }
 
+/// The paths of a policy, and what is worked out of its topology and of them.
+fn derive_all(
+    alloc: Global,
+    policy: &Policy,
+    topology: &Topology,
+) -> Result<(Paths, Derived), Memory>
+    requires { topology.now ≡ plan policy.now }
+    ensures { IfOk result (λ w. IsSetUp policy.now topology.now w.0 w.1.ports w.1.seen w.1.switches) }
+{
+    let paths = policy.paths(alloc)?;
+    match derive(alloc, topology, &paths, policy.members.as_slice()) {
+        Ok(derived) => Ok((paths, derived)),
+        Err(memory) => {
+            drop(paths);
+            Err(memory)
+        }
+    }
+}
+
 /// What is worked out of a policy.
 fn work_out(alloc: Global, policy: &Policy) -> Result<WorkedOut, Memory>
     ensures { IfOk result (λ w. IsSetUp policy.now w.topology w.paths w.ports w.seen w.switches) }
 {
     let topology = policy.topology(alloc)?;
-    let paths = policy.paths(alloc)?;
-    let derived = derive(alloc, &topology, &paths, policy.members.as_slice())?;
-    Ok(WorkedOut {
-        topology,
-        paths,
-        ports: derived.ports,
-        seen: derived.seen,
-        switches: derived.switches,
-    })
+    match derive_all(alloc, policy, &topology) {
+        Ok((paths, derived)) => Ok(WorkedOut {
+            topology,
+            paths,
+            ports: derived.ports,
+            seen: derived.seen,
+            switches: derived.switches,
+        }),
+        Err(memory) => {
+            drop(topology);
+            Err(memory)
+        }
+    }
 }
 
 /// The member of a number.

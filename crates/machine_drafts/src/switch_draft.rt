@@ -165,9 +165,9 @@ impl<'a> SwitchDraft<'a> {
         ensures known { OnOk result (self.new ≡ with_known (barrier_reply_of xid self.old.now.known) self.old) }
     {
         let mut known = known_so_far(&mut self.known, &self.base.known)?;
-        let number = known.barrier_reply(xid)?;
+        let number = known.barrier_reply(xid);
         self.known = Some(known);
-        Ok(number)
+        number
     }
 
     /// The switch reports the removal of a cookie.
@@ -176,9 +176,9 @@ impl<'a> SwitchDraft<'a> {
         ensures known { OnOk result (self.new ≡ with_known (flow_removed_of cookie self.old.now.known) self.old) }
     {
         let mut known = known_so_far(&mut self.known, &self.base.known)?;
-        let removal = known.flow_removed(cookie)?;
+        let removal = known.flow_removed(cookie);
         self.known = Some(known);
-        Ok(removal)
+        removal
     }
 
     /// The switch reports the state of a port.
@@ -186,9 +186,9 @@ impl<'a> SwitchDraft<'a> {
         ensures { OnOk result (self.new ≡ with_known (port_status_of reason port.now self.old.now.known) self.old) }
     {
         let mut known = known_so_far(&mut self.known, &self.base.known)?;
-        known.port_status(reason, port)?;
+        let noted = known.port_status(reason, port);
         self.known = Some(known);
-        Ok(())
+        noted
     }
 
     /// The switch is written a batch, and before it the installation where its round begins. These entries stand
@@ -209,10 +209,10 @@ impl<'a> SwitchDraft<'a> {
             ≡ (send_all (switch_messages begins batch) (sending_of self.old.now.known messages.old)).messages) }
     {
         let mut known = known_so_far(&mut self.known, &self.base.known)?;
-        known.write(alloc, begins, batch, messages)?;
+        let written = known.write(alloc, begins, batch, messages);
         self.known = Some(known);
         self.standing = Some(standing);
-        Ok(())
+        written
     }
 
     /// The switch is asked for the numbers of all entries.
@@ -223,9 +223,9 @@ impl<'a> SwitchDraft<'a> {
             ≡ (send (sending_of self.old.now.known messages.old) flow_request).messages) }
     {
         let mut known = known_so_far(&mut self.known, &self.base.known)?;
-        known.poll_flows(alloc, messages)?;
+        let sent = known.poll_flows(alloc, messages);
         self.known = Some(known);
-        Ok(())
+        sent
     }
 
     /// The switch is asked for the numbers of all ports.
@@ -236,9 +236,9 @@ impl<'a> SwitchDraft<'a> {
             ≡ (send (sending_of self.old.now.known messages.old) port_request).messages) }
     {
         let mut known = known_so_far(&mut self.known, &self.base.known)?;
-        known.poll_ports(alloc, messages)?;
+        let sent = known.poll_ports(alloc, messages);
         self.known = Some(known);
-        Ok(())
+        sent
     }
 
     /// The switch is sent a packet that is to leave by a port.
@@ -256,9 +256,9 @@ impl<'a> SwitchDraft<'a> {
             ≡ (send (sending_of self.old.now.known messages.old) (packet_out port bytes)).messages) }
     {
         let mut known = known_so_far(&mut self.known, &self.base.known)?;
-        known.send_packet(alloc, port, bytes, messages)?;
+        let sent = known.send_packet(alloc, port, bytes, messages);
         self.known = Some(known);
-        Ok(())
+        sent
     }
 
     /// What is moved in, with what the switch is put. There is a place for that on any machine.

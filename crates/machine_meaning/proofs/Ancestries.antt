@@ -50,7 +50,8 @@ module _ (P : Leaf → Type 0) where
       (λ m c e _. subst (OfLeaves P) (some_met (narrowed a) a.m m c e).1 w)
       (all-each (λ m. Unit {0}) (cells ports t) (λ m. tt))) (
         (h.miss, tt),
-        all-mapped (λ (e : LeafEntry). P (record { member = t.member; kind = 2 + e.serial })) (OfLeaves P) (entry_rule t)
+        all-mapped (λ (e : LeafEntry). P (record { member = t.member; kind = 2 + e.serial })) (OfLeaves P)
+            (entry_rule t)
             t.entries (λ e w. (w, tt)) h.entries,
       ))
 

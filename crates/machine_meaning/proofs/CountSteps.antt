@@ -1,5 +1,6 @@
 -- What an event does to counts.
-use Rattle.std.proofs.Common.{◌≡◌, ◌∙◌, ℕ, Bool, true, false, List, [], ◌∷◌, ◌++◌, length, map, filter, Option, Some, None}
+use Rattle.std.proofs.Common.{◌≡◌, ◌∙◌, ℕ, Bool, true, false, List, [], ◌∷◌, ◌++◌, length, map, filter, Option, Some}
+use Rattle.std.proofs.Common.{None}
 use Rattle.std.proofs.Common.{Result, Ok, Err, refl, sym, ap, ap₂}
 use Rattle.std.specs.Prelude.{find, fold, if◌then◌else◌, nat_lt, slice_get}
 use Rattle.std.specs.List.{list_any}
@@ -50,7 +51,8 @@ use Rattle.machine_meaning.specs.Coming.{comes_up, goes, noting}
 use Rattle.machine_meaning.specs.Composing.{compose, compose_at, compose_on, write}
 use Rattle.machine_meaning.specs.Counted.{count_of, dropped_between}
 use Rattle.machine_meaning.specs.Drafts.{Draft, untouched}
-use Rattle.machine_meaning.specs.Ever.{counted_from, counted_through, down_by, last_by, told_by, wrote, wrote_at, wrote_by}
+use Rattle.machine_meaning.specs.Ever.{counted_from, counted_through, down_by, last_by, told_by, wrote, wrote_at}
+use Rattle.machine_meaning.specs.Ever.{wrote_by}
 use Rattle.machine_meaning.specs.Ever.{wrote_from, wrote_on}
 use Rattle.machine_meaning.specs.Glances.{glance_of}
 use Rattle.machine_meaning.specs.Hearing.{Report, counts_told, flow_report, heard, reports_in, reports_in_body}
@@ -59,7 +61,8 @@ use Rattle.machine_meaning.specs.Hearing.{reports_from, reports_in_part, reports
 use Rattle.machine_meaning.specs.Hearing.{reports_in_reply}
 use Rattle.machine_meaning.specs.Laws.{CountsAreCounted}
 use Rattle.machine_meaning.specs.Lists.{places}
-use Rattle.machine_meaning.specs.MemberMessages.{denial_of, hears_from as hears_from_member, hears_member, judged, serve}
+use Rattle.machine_meaning.specs.MemberMessages.{denial_of, hears_from as hears_from_member, hears_member, judged}
+use Rattle.machine_meaning.specs.MemberMessages.{serve}
 use Rattle.machine_meaning.specs.MemberMessages.{serve_read}
 use Rattle.machine_meaning.specs.Names.{virtual_of}
 use Rattle.machine_meaning.specs.Packets.{comes_by}

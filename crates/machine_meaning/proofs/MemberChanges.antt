@@ -122,7 +122,8 @@ module _ {Good : FlowMod → Type 0} {R : MemberStateOf → MemberStateOf → Ty
       → GoesOn R s (record s { members = changed_at n f s.members })
   one s n f h = (follow-changed n f h s.members, λ lt. (omega arith, lt))
 
-  pub folded : {X : Type 0} (f : Draft → X → Draft) → ((d : Draft) (x : X) → Moves R d (f d x)) → (xs : List X) (d : Draft)
+  pub folded : {X : Type 0} (f : Draft → X → Draft) → ((d : Draft) (x : X) → Moves R d (f d x))
+      → (xs : List X) (d : Draft)
       → Moves R d (fold f d xs)
   folded f h [] d = still d.state
   folded f h (x ∷ xs) d = on d.state (f d x).state (fold f (f d x) xs).state (h d x) (folded f h xs (f d x))

@@ -1,15 +1,18 @@
 -- Items of lists by their places, and lists that are changed at one place.
-use Rattle.std.proofs.Common.{◌≡◌, ℕ, zero, suc, ◌<◌, ◌≤◌, List, [], ◌∷◌, length, get_or, set, map, slice_get, Some, None, refl, ap, subst, arith}
+use Rattle.std.proofs.Common.{◌≡◌, ℕ, zero, suc, ◌<◌, ◌≤◌, List, [], ◌∷◌, length, get_or, set, map, slice_get, Some}
+use Rattle.std.proofs.Common.{None, refl, ap, subst, arith}
 use Rattle.std.specs.List.{AllByRecursion}
 use Rattle.machine_meaning.specs.Lists.{changed_at}
 
 -- a new item at a place is the change there
-pub map-set_changed : {A B : Type 0} (f : A → B) (g : B → B) (xs : List A) (n : ℕ) (y d : A) → n < length xs → f y ≡ g (f (get_or xs n d)) → map f (set xs n y) ≡ changed_at n g (map f xs)
+pub map-set_changed : {A B : Type 0} (f : A → B) (g : B → B) (xs : List A) (n : ℕ) (y d : A) → n < length xs
+    → f y ≡ g (f (get_or xs n d)) → map f (set xs n y) ≡ changed_at n g (map f xs)
 map-set_changed f g [] n y d h e = absurd (omega arith)
 map-set_changed f g (x ∷ xs) zero y d h e = ap (λ z. z ∷ map f xs) e
 map-set_changed f g (x ∷ xs) (suc n) y d h e = ap (λ zs. f x ∷ zs) (map-set_changed f g xs n y d (omega arith) e)
 
-pub set_changed : {A : Type 0} (g : A → A) (xs : List A) (n : ℕ) (y d : A) → n < length xs → y ≡ g (get_or xs n d) → set xs n y ≡ changed_at n g xs
+pub set_changed : {A : Type 0} (g : A → A) (xs : List A) (n : ℕ) (y d : A) → n < length xs → y ≡ g (get_or xs n d)
+    → set xs n y ≡ changed_at n g xs
 set_changed g [] n y d h e = absurd (omega arith)
 set_changed g (x ∷ xs) zero y d h e = ap (λ z. z ∷ xs) e
 set_changed g (x ∷ xs) (suc n) y d h e = ap (λ zs. x ∷ zs) (set_changed g xs n y d (omega arith) e)
@@ -21,7 +24,8 @@ changed_past g (x ∷ xs) zero h = absurd (omega arith)
 changed_past g (x ∷ xs) (suc n) h = ap (λ zs. x ∷ zs) (changed_past g xs n (omega arith))
 
 -- what is looked up among what was made of items
-pub slice_get-map : {A B : Type 0} (f : A → B) (xs : List A) (n : ℕ) (d : A) → n < length xs → slice_get (map f xs) n ≡ Some (f (get_or xs n d))
+pub slice_get-map : {A B : Type 0} (f : A → B) (xs : List A) (n : ℕ) (d : A) → n < length xs
+    → slice_get (map f xs) n ≡ Some (f (get_or xs n d))
 slice_get-map f [] n d h = absurd (omega arith)
 slice_get-map f (x ∷ xs) zero d h = refl
 slice_get-map f (x ∷ xs) (suc n) d h = slice_get-map f xs n d (omega arith)

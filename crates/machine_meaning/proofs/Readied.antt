@@ -55,7 +55,8 @@ use Rattle.machine_meaning.specs.Counted.{count_of}
 use Rattle.machine_meaning.specs.Drafts.{Draft, letter, message, untouched}
 use Rattle.machine_meaning.specs.Hearing.{heard}
 use Rattle.machine_meaning.specs.Lists.{changed_at, places}
-use Rattle.machine_meaning.specs.MemberMessages.{denial_of, hears_from as hears_from_member, hears_member, judged, serve}
+use Rattle.machine_meaning.specs.MemberMessages.{denial_of, hears_from as hears_from_member, hears_member, judged}
+use Rattle.machine_meaning.specs.MemberMessages.{serve}
 use Rattle.machine_meaning.specs.MemberMessages.{serve_read}
 use Rattle.machine_meaning.specs.Names.{virtual_of}
 use Rattle.machine_meaning.specs.Packets.{comes_by}

@@ -20,7 +20,8 @@ use Rattle.machine_meaning.specs.Glances.{closed_unless, glance_of, is_frame, is
 use Rattle.machine_meaning.specs.Laws.{DenialsChangeNothing, IsDenied, line_of, with_message}
 use Rattle.machine_meaning.specs.Lists.{changed_at, places}
 use Rattle.machine_meaning.specs.MemberMessages.{hears_from, judged, refuse}
-use Rattle.machine_meaning.specs.Phases.{draft_of, drafted, is_any, nobody, overfilled, overfills_member, overfills_switch}
+use Rattle.machine_meaning.specs.Phases.{draft_of, drafted, is_any, nobody, overfilled, overfills_member}
+use Rattle.machine_meaning.specs.Phases.{overfills_switch}
 use Rattle.machine_meaning.specs.Phases.{slow, slow_from, slow_with, was_full}
 use Rattle.machine_meaning.specs.Putting.{down_lines, for_member, put, put_to, put_to_member, put_to_switch, slow_lines}
 use Rattle.machine_meaning.specs.Rounds.{Closing, close_member, ended_member, without_member}
@@ -37,7 +38,8 @@ use Rattle.events.specs.declared.event.Reply.{Reply}
 use Rattle.events.specs.declared.event.Reply.TheVariants.{Done}
 use Rattle.machine_meaning.specs.declared.said.Letter.{Letter}
 use Rattle.waitings.specs.declared.state.Waiting.{Waiting}
-use Rattle.machine_meaning.proofs.Numbered.{at_changed, changed_unseen, flat_none, from_zero, no_place, numbered_changed}
+use Rattle.machine_meaning.proofs.Numbered.{at_changed, changed_unseen, flat_none, from_zero, no_place}
+use Rattle.machine_meaning.proofs.Numbered.{numbered_changed}
 use Rattle.machine_meaning.proofs.Numbered.{numbered_none, numbered_one, numbered_same, one_place}
 use Rattle.machine_meaning.proofs.Quiet.{StillWaits, kept_of, nothing_more}
 use Rattle.machine_meaning.proofs.Unchanged.{all_weaker, nothing_after}

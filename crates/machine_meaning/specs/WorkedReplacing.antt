@@ -15,7 +15,8 @@ use Rattle.machine_meaning.specs.Runs.{run_of}
 use Rattle.machine_meaning.specs.States.{State, opening}
 use Rattle.machine_meaning.specs.Steps.{step_of}
 use Rattle.machine_meaning.specs.WorkedPolicies.{monitored}
-use Rattle.machine_meaning.specs.WorkedSteps.{added, deleted, flow_mod, from_net, member_up, of_member, switch_up, to_net}
+use Rattle.machine_meaning.specs.WorkedSteps.{added, deleted, flow_mod, from_net, member_up, of_member, switch_up}
+use Rattle.machine_meaning.specs.WorkedSteps.{to_net}
 use Rattle.machine_meaning.specs.WorkedSteps.{waiting_for}
 use Rattle.events.specs.declared.event.Event.{Event}
 use Rattle.events.specs.declared.event.Event.TheVariants.{Policy}

@@ -33,8 +33,8 @@ pub fn standing_is_installed()
     ensures { StandingIsInstalled }
 {}
 
-/// What the setting of a sound state gives can be written to switches: one entry for each key, each with a match that is
-/// normal and in range, a priority of 16 bits, and actions that are in range and fit a message.
+/// What the setting of a sound state gives can be written to switches: one entry for each key, each with a match that
+/// is normal and in range, a priority of 16 bits, and actions that are in range and fit a message.
 pub fn states_are_writable()
     ensures { StatesAreWritable }
 {

@@ -3,7 +3,8 @@ ghost use Rattle.machine_meaning.specs.WorkedBarriers.{ThreeSwitches, ABarrierWa
 ghost use Rattle.machine_meaning.specs.WorkedCounts.{AnEntryIsReplaced, TwoCookiesAreCounted};
 ghost use Rattle.machine_meaning.specs.WorkedEntries.{ASwitchComesUp, AnEntryIsAdded};
 ghost use Rattle.machine_meaning.specs.WorkedPackets.{TwoAreTold, APacketLeaves};
-ghost use Rattle.machine_meaning.specs.WorkedRefusals.{AnOverlapIsRefused, AHiddenPortIsRefused, IllFormedFramesAreRefused};
+ghost use Rattle.machine_meaning.specs.WorkedRefusals.{AnOverlapIsRefused, AHiddenPortIsRefused};
+ghost use Rattle.machine_meaning.specs.WorkedRefusals.{IllFormedFramesAreRefused};
 ghost use Rattle.machine_meaning.specs.WorkedReplacing.{AnExpressionIsReplaced, AnExpressionIsRefused};
 ghost use Rattle.machine_meaning.specs.WorkedRounds.{RoundsAreAnswered, AnEchoIsTaken, ASlowMemberIsClosed};
 ghost use Rattle.machine_meaning.specs.WorkedTimeouts.{AnIdleEntryIsPolled, AnIdleEntryGoes, AUsedEntryGoesLater};

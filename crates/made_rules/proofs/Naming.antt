@@ -1,5 +1,6 @@
 -- The rules that are made of some origins.
-use Rattle.std.proofs.Common.{◌≡◌, ◌==◌, ◌||◌, ◌&&◌, ◌⊎◌, inl, inr, ℕ, Bool, true, false, cond, List, [], ◌∷◌, ◌++◌, length, get_or, take, map, refl, sym, ap, subst, ◌∙◌, eqb-true, arith, ◌<◌, ◌+◌}
+use Rattle.std.proofs.Common.{◌≡◌, ◌==◌, ◌||◌, ◌&&◌, ◌⊎◌, inl, inr, ℕ, Bool, true, false, cond, List, [], ◌∷◌, ◌++◌}
+use Rattle.std.proofs.Common.{length, get_or, take, map, refl, sym, ap, subst, ◌∙◌, eqb-true, arith, ◌<◌, ◌+◌}
 use Rattle.std.specs.Prelude.{Contains, IsPermutation, IsSorted, filter}
 use Rattle.std.specs.List.{AllByRecursion, dedup, list_any}
 use Rattle.std.specs.List.Sorted.{IsStrictlySortedBy}
@@ -31,9 +32,11 @@ is_in k ids = list_any (λ j. k == j) ids
 
 -- ---- one origin more
 module _ {X : Type 0} where
-  either-any : (p q r : X → Bool) → ((x : X) → r x ≡ (p x || q x)) → (xs : List X) → list_any r xs ≡ (list_any p xs || list_any q xs)
+  either-any : (p q r : X → Bool) → ((x : X) → r x ≡ (p x || q x)) → (xs : List X)
+      → list_any r xs ≡ (list_any p xs || list_any q xs)
   either-any p q r h [] = refl
-  either-any p q r h (x ∷ xs) = ap (λ b. b || list_any r xs) (h x) ∙ ap (λ b. (p x || q x) || b) (either-any p q r h xs) ∙ turned (p x) (q x) (list_any p xs) (list_any q xs)
+  either-any p q r h (x ∷ xs) = ap (λ b. b || list_any r xs) (h x) ∙ ap (λ b. (p x || q x) || b) (either-any p q r h xs)
+      ∙ turned (p x) (q x) (list_any p xs) (list_any q xs)
     where
       turned : (a b c d : Bool) → ((a || b) || (c || d)) ≡ ((a || c) || (b || d))
       turned true b c d = refl
@@ -41,11 +44,15 @@ module _ {X : Type 0} where
       turned false true false d = refl
       turned false false c d = refl
 
-more-origins : (origins : List Origin) (i : ℕ) (d : Origin) (h : Held Made) → i < length origins → is_held_of (take (i + 1) origins) h ≡ (is_held_of (take i origins) h || list_any (λ o. same_origin o (get_or origins i d)) h.item.origins)
-more-origins origins i d h lt = either-any (is_one_of (take i origins)) (λ o. same_origin o (get_or origins i d)) (is_one_of (take (i + 1) origins)) (λ o. list_any_more (same_origin o) origins i d lt) h.item.origins
+more-origins : (origins : List Origin) (i : ℕ) (d : Origin) (h : Held Made) → i < length origins
+    → is_held_of (take (i + 1) origins) h
+    ≡ (is_held_of (take i origins) h || list_any (λ o. same_origin o (get_or origins i d)) h.item.origins)
+more-origins origins i d h lt = either-any (is_one_of (take i origins)) (λ o. same_origin o (get_or origins i d))
+    (is_one_of (take (i + 1) origins)) (λ o. list_any_more (same_origin o) origins i d lt) h.item.origins
 
 module _ {R : Type 0} (p q r : Held R → Bool) (k : ℕ) where
-  head : (a b : Bool) (id : ℕ) (ps qs rs : List ℕ) → (is_in k ps || is_in k qs) ≡ is_in k rs → (is_in k (cond a (id ∷ ps) ps) || is_in k (cond b (id ∷ qs) qs)) ≡ is_in k (cond (a || b) (id ∷ rs) rs)
+  head : (a b : Bool) (id : ℕ) (ps qs rs : List ℕ) → (is_in k ps || is_in k qs) ≡ is_in k rs
+      → (is_in k (cond a (id ∷ ps) ps) || is_in k (cond b (id ∷ qs) qs)) ≡ is_in k (cond (a || b) (id ∷ rs) rs)
   head true true id ps qs rs e = spread (k == id) (is_in k ps) (is_in k qs) ∙ ap (λ z. (k == id) || z) e
     where
       spread : (a b c : Bool) → ((a || b) || (a || c)) ≡ (a || (b || c))
@@ -64,18 +71,23 @@ module _ {R : Type 0} (p q r : Held R → Bool) (k : ℕ) where
       swap false b c = refl
   head false false id ps qs rs e = e
 
-  in-map : (b : Bool) (h : Held R) (hs : List (Held R)) → map id_of (cond b (h ∷ hs) hs) ≡ cond b (h.id ∷ map id_of hs) (map id_of hs)
+  in-map : (b : Bool) (h : Held R) (hs : List (Held R))
+      → map id_of (cond b (h ∷ hs) hs) ≡ cond b (h.id ∷ map id_of hs) (map id_of hs)
   in-map true h hs = refl
   in-map false h hs = refl
 
   -- the ids of what passes either test
-  either-ids : ((h : Held R) → r h ≡ (p h || q h)) → (hs : List (Held R)) → (is_in k (map id_of (filter p hs)) || is_in k (map id_of (filter q hs))) ≡ is_in k (map id_of (filter r hs))
+  either-ids : ((h : Held R) → r h ≡ (p h || q h)) → (hs : List (Held R))
+      → (is_in k (map id_of (filter p hs)) || is_in k (map id_of (filter q hs))) ≡ is_in k (map id_of (filter r hs))
   either-ids e [] = refl
   either-ids e (h ∷ hs) =
       ap (λ z. is_in k z || is_in k (map id_of (filter q (h ∷ hs)))) (in-map (p h) h (filter p hs))
-      ∙ ap (λ z. is_in k (cond (p h) (h.id ∷ map id_of (filter p hs)) (map id_of (filter p hs))) || is_in k z) (in-map (q h) h (filter q hs))
-      ∙ head (p h) (q h) h.id (map id_of (filter p hs)) (map id_of (filter q hs)) (map id_of (filter r hs)) (either-ids e hs)
-      ∙ sym (ap (is_in k) (in-map (r h) h (filter r hs)) ∙ ap (λ b. is_in k (cond b (h.id ∷ map id_of (filter r hs)) (map id_of (filter r hs)))) (e h))
+      ∙ ap (λ z. is_in k (cond (p h) (h.id ∷ map id_of (filter p hs)) (map id_of (filter p hs))) || is_in k z)
+      (in-map (q h) h (filter q hs))
+      ∙ head (p h) (q h) h.id (map id_of (filter p hs)) (map id_of (filter q hs)) (map id_of (filter r hs))
+      (either-ids e hs)
+      ∙ sym (ap (is_in k) (in-map (r h) h (filter r hs))
+      ∙ ap (λ b. is_in k (cond b (h.id ∷ map id_of (filter r hs)) (map id_of (filter r hs)))) (e h))
 
 -- the ids so far are those of what is made of the origins so far
 abbrev pub AreMadeOf : List (Held Made) → List Origin → List ℕ → Type 0
@@ -83,7 +95,8 @@ AreMadeOf held origins ids = (k : ℕ) → is_in k ids ≡ is_in k (map id_of (f
 
 none-made : (held : List (Held Made)) → filter (is_held_of []) held ≡ []
 none-made [] = refl
-none-made (h ∷ held) = ap (λ b. cond b (h ∷ filter (is_held_of []) held) (filter (is_held_of []) held)) (never h.item.origins) ∙ none-made held
+none-made (h ∷ held) = ap (λ b. cond b (h ∷ filter (is_held_of []) held) (filter (is_held_of []) held))
+    (never h.item.origins) ∙ none-made held
   where
     never : (os : List Origin) → list_any (is_one_of []) os ≡ false
     never [] = refl
@@ -92,11 +105,15 @@ none-made (h ∷ held) = ap (λ b. cond b (h ∷ filter (is_held_of []) held) (f
 pub made-none : (held : List (Held Made)) (ids : List ℕ) → ids ≡ [] → AreMadeOf held [] ids
 made-none held ids e k = ap (is_in k) e ∙ sym (ap (λ z. is_in k (map id_of z)) (none-made held))
 
-pub made-more : (held : List (Held Made)) (origins : List Origin) (i : ℕ) (d : Origin) (ids more ids' : List ℕ) (bears : Held Made → Bool) → i < length origins → AreMadeOf held (take i origins) ids →
-    ((h : Held Made) → bears h ≡ list_any (λ o. same_origin o (get_or origins i d)) h.item.origins) → more ≡ map id_of (filter bears held) → ids' ≡ ids ++ more → AreMadeOf held (take (i + 1) origins) ids'
+pub made-more : (held : List (Held Made)) (origins : List Origin) (i : ℕ) (d : Origin) (ids more ids' : List ℕ)
+    (bears : Held Made → Bool) → i < length origins → AreMadeOf held (take i origins) ids →
+    ((h : Held Made) → bears h ≡ list_any (λ o. same_origin o (get_or origins i d)) h.item.origins)
+    → more ≡ map id_of (filter bears held) → ids' ≡ ids ++ more → AreMadeOf held (take (i + 1) origins) ids'
 made-more held origins i d ids more ids' bears lt far are m e k =
-    ap (is_in k) e ∙ list_any-append (λ j. k == j) ids more ∙ ap (λ b. b || is_in k more) (far k) ∙ ap (λ z. is_in k (map id_of (filter (is_held_of (take i origins)) held)) || is_in k z) m
-    ∙ either-ids (is_held_of (take i origins)) bears (is_held_of (take (i + 1) origins)) k (λ h. more-origins origins i d h lt ∙ ap (λ b. is_held_of (take i origins) h || b) (sym (are h))) held
+    ap (is_in k) e ∙ list_any-append (λ j. k == j) ids more ∙ ap (λ b. b || is_in k more) (far k)
+    ∙ ap (λ z. is_in k (map id_of (filter (is_held_of (take i origins)) held)) || is_in k z) m
+    ∙ either-ids (is_held_of (take i origins)) bears (is_held_of (take (i + 1) origins)) k
+    (λ h. more-origins origins i d h lt ∙ ap (λ b. is_held_of (take i origins) h || b) (sym (are h))) held
 
 -- ---- one list of rising ids
 module _ (P : ℕ → Type 0) where
@@ -108,9 +125,13 @@ module _ (P : ℕ → Type 0) where
   from-in k [] a e = absurd (cc)
   from-in k (x ∷ xs) a e = pick k x xs (λ t. from-in k xs a.1 t) a.0 (or_cases (k == x) (is_in k xs) e)
 
-  to-all : (ys : List ℕ) → ((k : ℕ) → is_in k ys ≡ true → P k) → (zs : List ℕ) → ((k : ℕ) → is_in k zs ≡ true → is_in k ys ≡ true) → AllByRecursion P zs
+  to-all : (ys : List ℕ) → ((k : ℕ) → is_in k ys ≡ true → P k) → (zs : List ℕ)
+      → ((k : ℕ) → is_in k zs ≡ true → is_in k ys ≡ true) → AllByRecursion P zs
   to-all ys h [] i = tt
-  to-all ys h (z ∷ zs) i = (h z (i z (ap (λ b. b || is_in z zs) (eq-same z z refl))), to-all ys h zs (λ k e. i k (or-later (k == z) (is_in k zs) e)))
+  to-all ys h (z ∷ zs) i = (
+    h z (i z (ap (λ b. b || is_in z zs) (eq-same z z refl))),
+    to-all ys h zs (λ k e. i k (or-later (k == z) (is_in k zs) e)),
+  )
     where
       or-later : (a b : Bool) → b ≡ true → (a || b) ≡ true
       or-later true b e = refl
@@ -125,15 +146,19 @@ each-pair [] up = tt
 each-pair (i ∷ ids) up = (up.0, each-pair ids up.1)
 
 module _ (p : Held Made → Bool) where
-  less-by : (i : ℕ) (b : Bool) (h : Held Made) (hs : List (Held Made)) → nat_cmp i h.id ≡ Less → AllByRecursion (λ j. nat_cmp i j ≡ Less) (map id_of hs) → AllByRecursion (λ j. nat_cmp i j ≡ Less) (map id_of (cond b (h ∷ hs) hs))
+  less-by : (i : ℕ) (b : Bool) (h : Held Made) (hs : List (Held Made)) → nat_cmp i h.id ≡ Less
+      → AllByRecursion (λ j. nat_cmp i j ≡ Less) (map id_of hs)
+      → AllByRecursion (λ j. nat_cmp i j ≡ Less) (map id_of (cond b (h ∷ hs) hs))
   less-by i true h hs l a = (l, a)
   less-by i false h hs l a = a
 
-  less-kept : (i : ℕ) (hs : List (Held Made)) → AllByRecursion (λ j. nat_cmp i j ≡ Less) (map id_of hs) → AllByRecursion (λ j. nat_cmp i j ≡ Less) (map id_of (filter p hs))
+  less-kept : (i : ℕ) (hs : List (Held Made)) → AllByRecursion (λ j. nat_cmp i j ≡ Less) (map id_of hs)
+      → AllByRecursion (λ j. nat_cmp i j ≡ Less) (map id_of (filter p hs))
   less-kept i [] a = tt
   less-kept i (h ∷ hs) a = less-by i (p h) h (filter p hs) a.0 (less-kept i hs a.1)
 
-  rising-by : (b : Bool) (h : Held Made) (hs : List (Held Made)) → AllByRecursion (λ j. nat_cmp h.id j ≡ Less) (map id_of hs) → Rising hs → Rising (cond b (h ∷ hs) hs)
+  rising-by : (b : Bool) (h : Held Made) (hs : List (Held Made))
+      → AllByRecursion (λ j. nat_cmp h.id j ≡ Less) (map id_of hs) → Rising hs → Rising (cond b (h ∷ hs) hs)
   unfolding IsStrictlySortedBy
   rising-by true h hs a up = (a, up)
   rising-by false h hs a up = up
@@ -155,18 +180,25 @@ ties x y = elim (cases_order x y) [
 module _ (P : ℕ → Type 0) (xs : List ℕ) where
   of-dedup : AllByRecursion P (dedup ◌==◌ xs) → AllByRecursion P xs
   of-dedup a =
-      all-map (Contains xs) P xs (λ x c. All-contains P (dedup ◌==◌ xs) x (All-from_recursion P (dedup ◌==◌ xs) a) (Contains-dedup_nat xs x c)) (recursion_from_All (Contains xs) xs (All-contains_itself xs))
+      all-map (Contains xs) P xs
+      (λ x c. All-contains P (dedup ◌==◌ xs) x (All-from_recursion P (dedup ◌==◌ xs) a) (Contains-dedup_nat xs x c))
+      (recursion_from_All (Contains xs) xs (All-contains_itself xs))
 
   to-dedup : AllByRecursion P xs → AllByRecursion P (dedup ◌==◌ xs)
   to-dedup a =
       let ds = dedup ◌==◌ xs in
-      all-map (Contains ds) P ds (λ x c. All-contains P xs x (All-from_recursion P xs a) (Contains-from_dedup ◌==◌ xs x c)) (recursion_from_All (Contains ds) ds (All-contains_itself ds))
+      all-map (Contains ds) P ds
+      (λ x c. All-contains P xs x (All-from_recursion P xs a) (Contains-from_dedup ◌==◌ xs x c))
+      (recursion_from_All (Contains ds) ds (All-contains_itself ds))
 
-pub named-all : (held : List (Held Made)) (origins : List Origin) (ids sorted ids' : List ℕ) → Rising held → AreMadeOf held origins ids → IsPermutation ids sorted → IsSorted nat_cmp sorted → ids' ≡ dedup ◌==◌ sorted →
+pub named-all : (held : List (Held Made)) (origins : List Origin) (ids sorted ids' : List ℕ) → Rising held
+    → AreMadeOf held origins ids → IsPermutation ids sorted → IsSorted nat_cmp sorted → ids' ≡ dedup ◌==◌ sorted →
     ids' ≡ map id_of (filter (is_held_of origins) held)
 named-all held origins ids sorted ids' up are p s e =
     let ys = map id_of (filter (is_held_of origins) held) in
-    e ∙ unique nat_cmp nat_cmp_total (dedup ◌==◌ sorted) ys (each-pair (dedup ◌==◌ sorted) (IsStrictlySortedBy-dedup nat_cmp_total ties sorted s)) (each-pair ys (rising-filter (is_held_of origins) held up))
+    e ∙ unique nat_cmp nat_cmp_total (dedup ◌==◌ sorted) ys
+    (each-pair (dedup ◌==◌ sorted) (IsStrictlySortedBy-dedup nat_cmp_total ties sorted s))
+    (each-pair ys (rising-filter (is_held_of origins) held up))
     (λ P a. moved-all P ids ys are (all-permuted sorted ids (IsPermutation-sym ids sorted p) P (of-dedup P sorted a)))
     (λ P a. to-dedup P sorted (all-permuted ids sorted p P (moved-all P ys ids (λ k. sym (are k)) a)))
 
@@ -180,11 +212,15 @@ number-same : (x y : ℕ) → is_eq (nat_cmp x y) ≡ (x == y)
 number-same x y = sym (ties x y)
 
 origin-same : (a b : Origin) → is_eq (derived_origin.cmp a b) ≡ same_origin a b
-origin-same (Leaf l) (Leaf m) = same-by (nat_cmp l.member m.member) (nat_cmp l.kind m.kind) (l.member == m.member) (l.kind == m.kind) (number-same l.member m.member) (number-same l.kind m.kind)
-origin-same (OfRule s i) (OfRule t j) = same-by (nat_cmp s t) (nat_cmp i j) (s == t) (i == j) (number-same s t) (number-same i j)
+origin-same (Leaf l) (Leaf m) = same-by (nat_cmp l.member m.member) (nat_cmp l.kind m.kind) (l.member == m.member)
+    (l.kind == m.kind) (number-same l.member m.member) (number-same l.kind m.kind)
+origin-same (OfRule s i) (OfRule t j) = same-by (nat_cmp s t) (nat_cmp i j) (s == t) (i == j) (number-same s t)
+    (number-same i j)
 origin-same (Leaf l) (OfRule t j) = refl
 origin-same (OfRule s i) (Leaf m) = refl
 
-pub bears-same : (o : Origin) (origins : List Origin) → list_any (λ n. is_eq (derived_origin.cmp n o)) origins ≡ list_any (λ n. same_origin n o) origins
+pub bears-same : (o : Origin) (origins : List Origin)
+    → list_any (λ n. is_eq (derived_origin.cmp n o)) origins ≡ list_any (λ n. same_origin n o) origins
 bears-same o [] = refl
-bears-same o (n ∷ origins) = ap (λ b. b || list_any (λ n. is_eq (derived_origin.cmp n o)) origins) (origin-same n o) ∙ ap (λ z. same_origin n o || z) (bears-same o origins)
+bears-same o (n ∷ origins) = ap (λ b. b || list_any (λ n. is_eq (derived_origin.cmp n o)) origins) (origin-same n o)
+    ∙ ap (λ z. same_origin n o || z) (bears-same o origins)

@@ -33,7 +33,8 @@ side_of back s = if back then was_of s else is_of s
 abbrev pub AreWide : List (Held Made) → List Stay → Type 0
 AreWide held stays = (rest : List (Held Made)) × IsPermutation held (rest ++ map wide_of stays)
 
--- From the rules before, whose ids rise, without the ids that are lost and with those that are made: nothing is lost but what
+-- From the rules before, whose ids rise, without the ids that are lost and with those that are made: nothing is lost
+-- but what
 -- goes, what stays keeps its id, and no rule both goes and comes.
 pub record IsReady (before now : List (Held Made)) (lost : List ℕ) (made : List Made) (change : ChangeOf) : Type 0 where
   pub kept : List (Held Made)
@@ -49,7 +50,8 @@ pub record IsReady (before now : List (Held Made)) (lost : List ℕ) (made : Lis
   pub apart : (g c : Held Made) → Contains going g → Contains coming c → g.item.rule ≡ c.item.rule → ⊥
 
 -- the rules once a change is settled
-abbrev pub settled : {before now : List (Held Made)} {lost : List ℕ} {made : List Made} {change : ChangeOf} → IsReady before now lost made change → List (Held Made)
+abbrev pub settled : {before now : List (Held Made)} {lost : List ℕ} {made : List Made} {change : ChangeOf}
+    → IsReady before now lost made change → List (Held Made)
 settled {change = change} r = (r.kept ++ r.coming) ++ map is_of change.stays
 
 -- these ids are of items that are held, each of another
@@ -78,25 +80,30 @@ abbrev pub anew : Both → Held Made
 anew b = record { id = b.id; item = b.made }
 
 -- it is held, made of both sides
-pub record IsWidened (rest : List (Held Made)) (was : Held Made) (both : Both) (held : List (Held Made)) (stay : Stay) : Type 0 where
+pub record IsWidened (rest : List (Held Made)) (was : Held Made) (both : Both) (held : List (Held Made))
+    (stay : Stay) : Type 0 where
   pub as_was : was_of stay ≡ was
   pub as_is : is_of stay ≡ anew both
   pub all : IsPermutation held (rest ++ wide_of stay ∷ [])
 
 -- it is noted
-pub record NotesOne (rest : List (Held Made)) (was : Held Made) (both : Both) (held : List (Held Made)) (stays stays' : List Stay) : Type 0 where
+pub record NotesOne (rest : List (Held Made)) (was : Held Made) (both : Both) (held : List (Held Made))
+    (stays stays' : List Stay) : Type 0 where
   pub stay : Stay
   pub widened : IsWidened rest was both held stay
   pub noted : stays' ≡ stays ++ stay ∷ []
 
 -- so are some
-pub record AreWidened (rest was : List (Held Made)) (both : List Both) (held : List (Held Made)) (stays : List Stay) : Type 0 where
+pub record AreWidened (rest was : List (Held Made)) (both : List Both) (held : List (Held Made))
+    (stays : List Stay) : Type 0 where
   pub as_was : map was_of stays ≡ was
   pub as_is : map is_of stays ≡ map anew both
   pub all : IsPermutation held (rest ++ map wide_of stays)
 
--- the rules that are held, told apart: what goes and what stays of those that are lost, what comes of those that are made
-pub record IsPlan (held : List (Held Made)) (lost : List ℕ) (made : List Made) (gone : List ℕ) (come : List Made) (both : List Both) : Type 0 where
+-- the rules that are held, told apart: what goes and what stays of those that are lost, what comes of those that are
+-- made
+pub record IsPlan (held : List (Held Made)) (lost : List ℕ) (made : List Made) (gone : List ℕ) (come : List Made)
+    (both : List Both) : Type 0 where
   pub kept : List (Held Made)
   pub going : List (Held Made)
   pub staying : List (Held Made)

@@ -23,7 +23,8 @@ abbrev pub AreApart : List (Held Rule) → List Made → Type 0
 AreApart olds mades = (h : Held Rule) (m : Made) → Contains olds h → Contains mades m → h.item ≡ m.rule → ⊥
 
 -- nothing is lost, and no rule both goes and comes
-pub record IsToldApart (gone : List (Held Rule)) (come : List Made) (rest : List (Held Rule)) (others : List Made) (both : List Both) : Type 0 where
+pub record IsToldApart (gone : List (Held Rule)) (come : List Made) (rest : List (Held Rule)) (others : List Made)
+    (both : List Both) : Type 0 where
   pub was : IsPermutation gone (rest ++ map was_of both)
   pub is : IsPermutation come (others ++ map is_of both)
   pub apart : AreApart rest others
@@ -36,7 +37,8 @@ abbrev pub MadesRise : List Made → Type 0
 MadesRise mades = IsSortedBy (λ x y. is_lt (by_ancestry x.rule y.rule)) mades
 
 -- the same where some of either list, in rising order, are still to be told apart
-pub record IsParted (gone : List (Held Rule)) (come : List Made) (left : List (Held Rule)) (right : List Made) (rest : List (Held Rule)) (others : List Made) (both : List Both) : Type 0 where
+pub record IsParted (gone : List (Held Rule)) (come : List Made) (left : List (Held Rule)) (right : List Made)
+    (rest : List (Held Rule)) (others : List Made) (both : List Both) : Type 0 where
   pub was : IsPermutation gone (left ++ (rest ++ map was_of both))
   pub is : IsPermutation come (right ++ (others ++ map is_of both))
   pub left_rises : OldsRise left

@@ -1,5 +1,6 @@
 //! A change of a node's rules in two steps.
-ghost use Rattle.std.specs.Prelude.{◌≡◌, ◌++◌, ◌≤◌, ◌+◌, ◌∷◌, [], IfOk, IsPermutation, List, OnErr, length, map, vec_capacity, vec_len};
+ghost use Rattle.std.specs.Prelude.{◌≡◌, ◌++◌, ◌≤◌, ◌+◌, ◌∷◌, [], IfOk, IsPermutation, List, OnErr, length, map};
+ghost use Rattle.std.specs.Prelude.{vec_capacity, vec_len};
 ghost use Rattle.rule_ancestry.specs.Holding.{Held, id_of, item_of};
 ghost use Rattle.made_rules.specs.Changing.{AreHeld, AreWide, IsReady, settled, side_of, wide_of};
 ghost use Rattle.made_rules.specs.declared.made.Made.{Made};
@@ -35,8 +36,11 @@ impl Model for Change {
 /// The rule of an id leaves the store.
 fn move_out(store: &mut Store<Made>, id: usize, left: &mut Vec<Made>)
     requires { vec_len left.old + 1 ≤ vec_capacity left.old }
-    ensures rest { (item : Made) → (rest : List (Held Made)) → IsPermutation store.old (record { id = id; item = item } ∷ rest) → IsPermutation store.new rest }
-    ensures left { (item : Made) → (rest : List (Held Made)) → IsPermutation store.old (record { id = id; item = item } ∷ rest) → left.new.items ≡ left.old.items ++ item ∷ [] }
+    ensures rest { (item : Made) → (rest : List (Held Made))
+        → IsPermutation store.old (record { id = id; item = item } ∷ rest) → IsPermutation store.new rest }
+    ensures left { (item : Made) → (rest : List (Held Made))
+        → IsPermutation store.old (record { id = id; item = item } ∷ rest)
+        → left.new.items ≡ left.old.items ++ item ∷ [] }
     ensures room { vec_capacity left.new ≡ vec_capacity left.old }
     ensures len { vec_len left.new ≤ vec_len left.old + 1 }
 {
@@ -50,8 +54,10 @@ fn move_out(store: &mut Store<Made>, id: usize, left: &mut Vec<Made>)
 /// The rules of these ids leave the store.
 fn move_all_out(store: &mut Store<Made>, gone: &[usize], left: &mut Vec<Made>)
     requires { vec_len left.old + length gone.now ≤ vec_capacity left.old }
-    ensures rest { (going rest : List (Held Made)) → map id_of going ≡ gone.now → IsPermutation store.old (going ++ rest) → IsPermutation store.new rest }
-    ensures left { (going rest : List (Held Made)) → map id_of going ≡ gone.now → IsPermutation store.old (going ++ rest) → left.new.items ≡ left.old.items ++ map item_of going }
+    ensures rest { (going rest : List (Held Made)) → map id_of going ≡ gone.now
+        → IsPermutation store.old (going ++ rest) → IsPermutation store.new rest }
+    ensures left { (going rest : List (Held Made)) → map id_of going ≡ gone.now
+        → IsPermutation store.old (going ++ rest) → left.new.items ≡ left.old.items ++ map item_of going }
 {
     for id in gone {
         move_out(store, *id, left);
@@ -107,8 +113,10 @@ impl Change {
     /// What goes leaves the store and is handed out. This takes no memory.
     pub fn settle(self, store: &mut Store<Made>) -> Vec<Made>
         requires { AreWide store.old self.stays }
-        ensures settled { (before : List (Held Made)) → (lost : _) → (made : List Made) → (r : IsReady before store.old lost made self) → IsPermutation store.new (settled r) }
-        ensures left { (before : List (Held Made)) → (lost : _) → (made : List Made) → (r : IsReady before store.old lost made self) → result.items ≡ map item_of r.going }
+        ensures settled { (before : List (Held Made)) → (lost : _) → (made : List Made)
+            → (r : IsReady before store.old lost made self) → IsPermutation store.new (settled r) }
+        ensures left { (before : List (Held Made)) → (lost : _) → (made : List Made)
+            → (r : IsReady before store.old lost made self) → result.items ≡ map item_of r.going }
     {
         let Change {
             gone,
@@ -125,7 +133,8 @@ impl Change {
     /// What came leaves the store, which is as before the change. This takes no memory.
     pub fn undo(self, store: &mut Store<Made>)
         requires { AreWide store.old self.stays }
-        ensures { (before : List (Held Made)) → (lost : _) → (made : List Made) → IsReady before store.old lost made self → store.new ≡ before }
+        ensures { (before : List (Held Made)) → (lost : _) → (made : List Made)
+            → IsReady before store.old lost made self → store.new ≡ before }
     {
         let Change { come, stays, .. } = self;
         narrow(store, stays, true);

@@ -56,7 +56,8 @@ pub fn olds<'a>(
     store: &'a Store<Made>,
     ids: &[usize],
 ) -> Result<Vec<Old<'a>>, Memory>
-    ensures { (items rest : List (Held Made)) → map id_of items ≡ ids.now → IsPermutation store.now (items ++ rest) → IfOk result (λ olds. olds.items ≡ rules_in items) }
+    ensures { (items rest : List (Held Made)) → map id_of items ≡ ids.now → IsPermutation store.now (items ++ rest)
+        → IfOk result (λ olds. olds.items ≡ rules_in items) }
 {
     // That no two are held under one id.
     let _count = store.len();

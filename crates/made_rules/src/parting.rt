@@ -33,7 +33,9 @@ pub(crate) struct Parted<'a> {
 fn order_of_last(gone: &[Old], come: &[Made]) -> Ordering
     requires gone { 0 < length gone.now }
     requires come { 0 < length come.now }
-    ensures { (x : Held Rule) → (y : Made) → result ≡ by_ancestry (get_or gone.now (length gone.now - 1) x).item (get_or come.now (length come.now - 1) y).rule }
+    ensures { (x : Held Rule) → (y : Made)
+        → result ≡ by_ancestry (get_or gone.now (length gone.now - 1) x).item
+        (get_or come.now (length come.now - 1) y).rule }
 {
     let old = &gone[gone.len() - 1];
     old.rule.cmp_listed(&come[come.len() - 1].rule)
@@ -64,7 +66,8 @@ fn compared(old: &Old, rule: &Rule) -> Ordering
 
 /// A place, in a rising list, of a rule that is the same.
 fn place_of(gone: &[Old], rule: &Rule) -> Option<usize>
-    ensures found { IfSome result (λ place. (place < length gone.now) × ((d : Held Rule) → (get_or gone.now place d).item ≡ rule.now)) }
+    ensures found { IfSome result (λ place. (place < length gone.now)
+        × ((d : Held Rule) → (get_or gone.now place d).item ≡ rule.now)) }
     ensures none { IfNone result (OldsRise gone.now → Differ gone.now rule.now) }
 {
     let mut end = gone.len();
@@ -86,7 +89,11 @@ fn take_come<'a>(
     parted: &mut Parted<'a>,
 ) -> Result<(), Memory>
     requires { 0 < length come.old.items }
-    ensures parted { (all : List (Held Rule)) → (others : List Made) → IsParted all others gone.old.items come.old.items parted.old.gone.items parted.old.come.items parted.old.both.items → OnOk result (IsParted all others gone.new.items come.new.items parted.new.gone.items parted.new.come.items parted.new.both.items) }
+    ensures parted { (all : List (Held Rule)) → (others : List Made)
+        → IsParted all others gone.old.items come.old.items parted.old.gone.items parted.old.come.items
+        parted.old.both.items
+        → OnOk result (IsParted all others gone.new.items come.new.items parted.new.gone.items parted.new.come.items
+        parted.new.both.items) }
     ensures fewer { length gone.new.items + length come.new.items < length gone.old.items + length come.old.items }
 {
     if let Some(made) = come.pop() {
@@ -110,7 +117,11 @@ fn part_one<'a>(
 ) -> Result<(), Memory>
     requires gone { 0 < length gone.old.items }
     requires come { 0 < length come.old.items }
-    ensures parted { (all : List (Held Rule)) → (others : List Made) → IsParted all others gone.old.items come.old.items parted.old.gone.items parted.old.come.items parted.old.both.items → OnOk result (IsParted all others gone.new.items come.new.items parted.new.gone.items parted.new.come.items parted.new.both.items) }
+    ensures parted { (all : List (Held Rule)) → (others : List Made)
+        → IsParted all others gone.old.items come.old.items parted.old.gone.items parted.old.come.items
+        parted.old.both.items
+        → OnOk result (IsParted all others gone.new.items come.new.items parted.new.gone.items parted.new.come.items
+        parted.new.both.items) }
     ensures fewer { length gone.new.items + length come.new.items < length gone.old.items + length come.old.items }
 {
     match order_of_last(gone, come) {
@@ -130,7 +141,8 @@ pub(crate) fn part<'a>(
     gone: Vec<Old<'a>>,
     come: Vec<Made>,
 ) -> Result<Parted<'a>, Memory>
-    ensures { IfOk result (λ parted. IsToldApart gone.entry.items come.items parted.gone.items parted.come.items parted.both.items) }
+    ensures { IfOk result (λ parted. IsToldApart gone.entry.items come.items parted.gone.items parted.come.items
+        parted.both.items) }
 {
     let mut gone = gone;
     let mut come = come;

@@ -37,7 +37,8 @@ pub(crate) fn plan_of(
     made: Vec<Made>,
 ) -> Result<Plan, Memory>
     requires { AreHeld lost.now store.now }
-    ensures { IfOk result (λ plan. IsPlan store.now lost.now made.items plan.gone.items plan.come.items plan.both.items) }
+    ensures { IfOk result (λ plan. IsPlan store.now lost.now made.items plan.gone.items plan.come.items
+        plan.both.items) }
 {
     let held = olds(alloc, store, lost)?;
     let parted = part(alloc, held, made)?;

@@ -34,7 +34,8 @@ fn made_on(stay: Stay, back: bool) -> Made
 /// A rule that stays is made of one side alone.
 fn narrow_one(store: &mut Store<Made>, stay: Stay, back: bool)
     requires { (rest : List (Held Made)) × IsPermutation store.old (rest ++ wide_of stay ∷ []) }
-    ensures { (rest : List (Held Made)) → IsPermutation store.old (rest ++ wide_of stay ∷ []) → IsPermutation store.new (rest ++ side_of back stay ∷ []) }
+    ensures { (rest : List (Held Made)) → IsPermutation store.old (rest ++ wide_of stay ∷ [])
+        → IsPermutation store.new (rest ++ side_of back stay ∷ []) }
 {
     // That no two are held under one id.
     let _count = store.len();
@@ -45,7 +46,8 @@ fn narrow_one(store: &mut Store<Made>, stay: Stay, back: bool)
 /// The rules that stay are made of one side alone. This takes no memory.
 pub(crate) fn narrow(store: &mut Store<Made>, stays: Vec<Stay>, back: bool)
     requires { AreWide store.old stays.items }
-    ensures { (rest : List (Held Made)) → IsPermutation store.old (rest ++ map wide_of stays.items) → IsPermutation store.new (rest ++ map (side_of back) stays.items) }
+    ensures { (rest : List (Held Made)) → IsPermutation store.old (rest ++ map wide_of stays.items)
+        → IsPermutation store.new (rest ++ map (side_of back) stays.items) }
 {
     let mut stays = stays;
     while let Some(stay) = stays.pop() {
@@ -66,7 +68,8 @@ fn origins_at(alloc: Global, store: &Store<Made>, id: usize) -> Result<List<Orig
 /// A rule that stays is made of both sides.
 fn widen_one(alloc: Global, store: &mut Store<Made>, both: Both) -> Result<Stay, Memory>
     requires { IsOld store.old both }
-    ensures widened { (rest : List (Held Made)) → (was : Held Made) → rule_held was ≡ old_of both → IsPermutation store.old (rest ++ was ∷ []) → IfOk result (IsWidened rest was both store.new) }
+    ensures widened { (rest : List (Held Made)) → (was : Held Made) → rule_held was ≡ old_of both
+        → IsPermutation store.old (rest ++ was ∷ []) → IfOk result (IsWidened rest was both store.new) }
     ensures memory { OnErr result (store.new ≡ store.old) }
 {
     // That no two are held under one id.
@@ -87,7 +90,9 @@ fn widen_noted(
     stays: &mut Vec<Stay>,
 ) -> Result<(), Memory>
     requires { IsOld store.old both }
-    ensures noted { (rest : List (Held Made)) → (was : Held Made) → rule_held was ≡ old_of both → IsPermutation store.old (rest ++ was ∷ []) → OnOk result (NotesOne rest was both store.new stays.old.items stays.new.items) }
+    ensures noted { (rest : List (Held Made)) → (was : Held Made) → rule_held was ≡ old_of both
+        → IsPermutation store.old (rest ++ was ∷ [])
+        → OnOk result (NotesOne rest was both store.new stays.old.items stays.new.items) }
     ensures memory { OnErr result (store.new ≡ store.old) }
     ensures unnoted { OnErr result (stays.new.items ≡ stays.old.items) }
 {
@@ -104,7 +109,9 @@ pub(crate) fn widen(
     both: Vec<Both>,
 ) -> Result<Vec<Stay>, Memory>
     requires { AreOld store.old both.items }
-    ensures widened { (rest wases : List (Held Made)) → rules_in wases ≡ map old_of both.items → IsPermutation store.old (rest ++ wases) → IfOk result (λ stays. AreWidened rest wases both.items store.new stays.items) }
+    ensures widened { (rest wases : List (Held Made)) → rules_in wases ≡ map old_of both.items
+        → IsPermutation store.old (rest ++ wases)
+        → IfOk result (λ stays. AreWidened rest wases both.items store.new stays.items) }
     ensures memory { OnErr result (store.new ≡ store.old) }
 {
     let _count = store.len();

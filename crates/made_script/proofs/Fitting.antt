@@ -1,5 +1,6 @@
 -- The messages of a script can be written.
-use Rattle.std.proofs.Common.{◌≡◌, ◌<◌, ◌^◌, ℕ, ◌+◌, Bool, true, false, List, [], ◌∷◌, length, refl, arith, length-append}
+use Rattle.std.proofs.Common.{◌≡◌, ◌<◌, ◌^◌, ℕ, ◌+◌, Bool, true, false, List, [], ◌∷◌, length, refl, arith}
+use Rattle.std.proofs.Common.{length-append}
 use Rattle.std.specs.Prelude.{if◌then◌else◌}
 use Rattle.std.proofs.lemmas.Bool.{le-leb}
 use Rattle.std.proofs.lemmas.List.Elements.{All-from_recursion}
@@ -11,7 +12,8 @@ use Rattle.of10_match.specs.Fields.{MatchOf}
 use Rattle.of10_match.specs.Wildcards.{match_bytes}
 use Rattle.of10_msgs.specs.Ranges.{CanWrite}
 use Rattle.of10_msgs.specs.Spelling.{body_bytes, flow_mod_fields}
-use Rattle.made_script.specs.Script.{addition, counts, from_net, is_monitor, message_of, net_of, port_of, routes, to_net}
+use Rattle.made_script.specs.Script.{addition, counts, from_net, is_monitor, message_of, net_of, port_of, routes}
+use Rattle.made_script.specs.Script.{to_net}
 
 match_long : (m : MatchOf) → length (match_bytes m) ≡ 40
 match_long m = refl
@@ -33,7 +35,8 @@ message_by : (monitors : Bool) (k d : ℕ) → CanWrite (if monitors then counts
 message_by true k d = addition_fits k (from_net (net_of d)) [] (All-from_recursion IsInRange [] tt) (omega arith)
 message_by false k d =
     let action = Output (port_of d) 0 in
-    addition_fits k (to_net (net_of d)) (action ∷ []) (All-from_recursion IsInRange (action ∷ []) (tt, tt)) (omega arith)
+    addition_fits k (to_net (net_of d)) (action ∷ []) (All-from_recursion IsInRange (action ∷ []) (tt, tt))
+    (omega arith)
 
 pub message_fits : (k d : ℕ) → CanWrite (message_of k d).body
 message_fits k d = message_by (is_monitor k) k d

@@ -4,7 +4,8 @@ use Rattle.of10_msgs.specs.Spelling.{body_bytes, flow_mod_fields, spelling}
 use Rattle.made_script.specs.Drawing.{after, drawn, start}
 use Rattle.made_script.specs.Script.{made, message_of, net_of, port_of, sending}
 
--- what is drawn of seed 1 for four messages: the nets 10.0.198.0, 10.0.126.0, 10.0.129.0 and 10.0.107.0, and for those of
+-- what is drawn of seed 1 for four messages: the nets 10.0.198.0, 10.0.126.0, 10.0.129.0 and 10.0.107.0, and for those
+-- of
 -- the router the ports 3 and 1
 pub record FourAreDrawn : Type 0 where
   pub first : drawn (after (start 1)) ≡ 16838

@@ -5,7 +5,8 @@ ghost use Rattle.hex.specs.Hex.{encode_lower};
 ghost use Rattle.of10_match.specs.Ranges.{IsPrefix};
 ghost use Rattle.of10_msgs.specs.Ranges.{CanWrite};
 ghost use Rattle.script_text.specs.Lines.{is_ascii};
-ghost use Rattle.made_script.specs.Script.{addition as addition_of, from_net as from_net_of, is_monitor as is_monitor_of};
+ghost use Rattle.made_script.specs.Script.{addition as addition_of, from_net as from_net_of};
+ghost use Rattle.made_script.specs.Script.{is_monitor as is_monitor_of};
 ghost use Rattle.made_script.specs.Script.{line_of, message_of, net_of, port_of, sender_of, sending as sending_of};
 ghost use Rattle.made_script.specs.Script.{to_net as to_net_of};
 

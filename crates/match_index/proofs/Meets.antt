@@ -1,8 +1,10 @@
 -- What is asked for meets the match that the question has.
-use Rattle.std.proofs.Common.{◌≡◌, ℕ, ◌-◌, ◌/◌, ◌^◌, Bool, true, false, ◌&&◌, Option, Some, None, refl, sym, subst, ◌∙◌, arith, leb-true, true≢false, if◌then◌else◌}
+use Rattle.std.proofs.Common.{◌≡◌, ℕ, ◌-◌, ◌/◌, ◌^◌, Bool, true, false, ◌&&◌, Option, Some, None, refl, sym, subst, ◌∙◌}
+use Rattle.std.proofs.Common.{arith, leb-true, true≢false, if◌then◌else◌}
 use Rattle.std.specs.Prelude.{◌==◌}
 use Rattle.of10_match.specs.Fields.{HeaderOf, MatchOf}
-use Rattle.of10_match.specs.Matching.{holds, fits, fits_prefix, covers, asks, asks_prefix, agree, agree_prefix, overlaps, is_longer, top_bits}
+use Rattle.of10_match.specs.Matching.{holds, fits, fits_prefix, covers, asks, asks_prefix, agree, agree_prefix}
+use Rattle.of10_match.specs.Matching.{overlaps, is_longer, top_bits}
 use Rattle.of10_match.specs.declared.header.Prefix.{Prefix}
 use Rattle.of10_match.proofs.FieldTests.{holds-fields, covers-fields, overlaps-intro}
 use Rattle.of10_match.proofs.Prefixes.{eqb-flip}
@@ -17,7 +19,8 @@ agree-fits : (x : Option ℕ) (v : ℕ) → fits x v ≡ true → agree (Some v)
 agree-fits None v e = refl
 agree-fits (Some w) v e = eqb-flip v w ∙ e
 
-agree_whole : (p : Prefix) (v : ℕ) (b : Bool) → is_longer p (record { addr = v; len = 32 }) ≡ b → (top_bits p.len p.addr == top_bits p.len v) ≡ true
+agree_whole : (p : Prefix) (v : ℕ) (b : Bool) → is_longer p (record { addr = v; len = 32 }) ≡ b
+    → (top_bits p.len p.addr == top_bits p.len v) ≡ true
     → (if b then (top_bits 32 v == top_bits 32 p.addr) else (top_bits p.len v == top_bits p.len p.addr)) ≡ true
 agree_whole p v true l e =
     let z : 32 - p.len ≡ 32 - 32 = let le = leb-true (32 - p.len) (32 - 32) l in omega arith in
@@ -25,7 +28,8 @@ agree_whole p v true l e =
     subst P z (eqb-flip (top_bits p.len v) (top_bits p.len p.addr) ∙ e)
 agree_whole p v false l e = eqb-flip (top_bits p.len v) (top_bits p.len p.addr) ∙ e
 
-agree_prefix-fits : (x : Option Prefix) (v : ℕ) → fits_prefix x v ≡ true → agree_prefix (Some (record { addr = v; len = 32 })) x ≡ true
+agree_prefix-fits : (x : Option Prefix) (v : ℕ) → fits_prefix x v ≡ true
+    → agree_prefix (Some (record { addr = v; len = 32 })) x ≡ true
 agree_prefix-fits None v e = refl
 agree_prefix-fits (Some p) v e = agree_whole p v (is_longer p (record { addr = v; len = 32 })) refl e
 
@@ -53,8 +57,10 @@ agree-asks None y e = refl
 agree-asks (Some v) None e = refl
 agree-asks (Some v) (Some w) e = e
 
-agree_longer : (p q : Prefix) (b : Bool) → is_longer q p ≡ b → (b && (top_bits p.len p.addr == top_bits p.len q.addr)) ≡ true
-    → (if b then (top_bits p.len p.addr == top_bits p.len q.addr) else (top_bits q.len p.addr == top_bits q.len q.addr)) ≡ true
+agree_longer : (p q : Prefix) (b : Bool) → is_longer q p ≡ b
+    → (b && (top_bits p.len p.addr == top_bits p.len q.addr)) ≡ true
+    → (if b then (top_bits p.len p.addr == top_bits p.len q.addr) else (top_bits q.len p.addr == top_bits q.len q.addr))
+    ≡ true
 agree_longer p q true l e = e
 agree_longer p q false l e = absurd (true≢false (sym e))
 

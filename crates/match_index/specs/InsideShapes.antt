@@ -38,7 +38,9 @@ shape_of m = record {
 -- the same fields, and as many bits
 abbrev pub same_shape : Shape → Shape → Bool
 same_shape s t =
-    each (beq s.in_port t.in_port) (beq s.dl_src t.dl_src) (beq s.dl_dst t.dl_dst) (beq s.dl_vlan t.dl_vlan) (beq s.dl_vlan_pcp t.dl_vlan_pcp) (beq s.dl_type t.dl_type) (beq s.nw_tos t.nw_tos) (beq s.nw_proto t.nw_proto) (s.nw_src == t.nw_src) (s.nw_dst == t.nw_dst) (beq s.tp_src t.tp_src) (beq s.tp_dst t.tp_dst)
+    each (beq s.in_port t.in_port) (beq s.dl_src t.dl_src) (beq s.dl_dst t.dl_dst) (beq s.dl_vlan t.dl_vlan)
+    (beq s.dl_vlan_pcp t.dl_vlan_pcp) (beq s.dl_type t.dl_type) (beq s.nw_tos t.nw_tos) (beq s.nw_proto t.nw_proto)
+    (s.nw_src == t.nw_src) (s.nw_dst == t.nw_dst) (beq s.tp_src t.tp_src) (beq s.tp_dst t.tp_dst)
 
 -- the second where the first
 abbrev pub implies : Bool → Bool → Bool
@@ -47,7 +49,12 @@ implies a b = not a || b
 -- the match names all that the shape names
 abbrev pub is_named_by : Shape → MatchOf → Bool
 is_named_by s m =
-    each (implies s.in_port (is_some m.in_port)) (implies s.dl_src (is_some m.dl_src)) (implies s.dl_dst (is_some m.dl_dst)) (implies s.dl_vlan (is_some m.dl_vlan)) (implies s.dl_vlan_pcp (is_some m.dl_vlan_pcp)) (implies s.dl_type (is_some m.dl_type)) (implies s.nw_tos (is_some m.nw_tos)) (implies s.nw_proto (is_some m.nw_proto)) (nat_le s.nw_src (length_of m.nw_src)) (nat_le s.nw_dst (length_of m.nw_dst)) (implies s.tp_src (is_some m.tp_src)) (implies s.tp_dst (is_some m.tp_dst))
+    each (implies s.in_port (is_some m.in_port)) (implies s.dl_src (is_some m.dl_src))
+    (implies s.dl_dst (is_some m.dl_dst)) (implies s.dl_vlan (is_some m.dl_vlan))
+    (implies s.dl_vlan_pcp (is_some m.dl_vlan_pcp)) (implies s.dl_type (is_some m.dl_type))
+    (implies s.nw_tos (is_some m.nw_tos)) (implies s.nw_proto (is_some m.nw_proto))
+    (nat_le s.nw_src (length_of m.nw_src)) (nat_le s.nw_dst (length_of m.nw_dst))
+    (implies s.tp_src (is_some m.tp_src)) (implies s.tp_dst (is_some m.tp_dst))
 
 -- the match without what the shape doesn't name
 abbrev pub kept_by : Shape → MatchOf → MatchOf

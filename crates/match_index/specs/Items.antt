@@ -1,5 +1,6 @@
 -- What an index holds, and what its answers are among that.
-use Rattle.std.specs.Prelude.{◌≡◌, ℕ, ◌+◌, ◌==◌, ◌&&◌, ◌||◌, nat_lt, Bool, true, false, List, map, filter, Option, Some, None, MatchOption, count_by, if◌then◌else◌}
+use Rattle.std.specs.Prelude.{◌≡◌, ℕ, ◌+◌, ◌==◌, ◌&&◌, ◌||◌, nat_lt, Bool, true, false, List, map, filter, Option, Some}
+use Rattle.std.specs.Prelude.{None, MatchOption, count_by, if◌then◌else◌}
 use Rattle.std.specs.List.{list_any}
 use Rattle.of10_match.specs.Same.{same_match}
 use Rattle.match_index.specs.declared.item.Item.{Item}

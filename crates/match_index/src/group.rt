@@ -54,7 +54,8 @@ fn list_all(
     question: &Question,
     ids: &mut Vec<u64>,
 ) -> Result<(), Memory>
-    ensures { OnOk result (ids.new.items ≡ ids.old.items ++ ids_of (asks question.now) (in_buckets buckets.now.entries)) }
+    ensures { OnOk result (ids.new.items ≡ ids.old.items ++ ids_of (asks question.now)
+        (in_buckets buckets.now.entries)) }
 {
     for bucket in buckets.values() {
         list_among(bucket.as_slice(), question, ids)?;
@@ -77,7 +78,8 @@ fn push_at(buckets: &mut IndexMap<Match, Bucket>, place: usize, item: Item) -> R
 fn remove_at(buckets: &mut IndexMap<Match, Bucket>, place: usize, item: &Item)
     requires within { place < index_map_len buckets.old }
     requires at { slice_get (values buckets.old) place ≡ get same_match buckets.old item.now.normal }
-    ensures taken { (shape : Shape) → AreBuckets shape buckets.old.entries → list_any (same_item item.now) (in_buckets buckets.old.entries) ≡ true
+    ensures taken { (shape : Shape) → AreBuckets shape buckets.old.entries
+        → list_any (same_item item.now) (in_buckets buckets.old.entries) ≡ true
         → AddsTo item.now (in_buckets buckets.new.entries) (in_buckets buckets.old.entries) }
     ensures buckets { (shape : Shape) → AreBuckets shape buckets.old.entries → AreBuckets shape buckets.new.entries }
     ensures len { index_map_len buckets.new ≡ index_map_len buckets.old }

@@ -65,7 +65,8 @@ pub fn remove_from(groups: &mut Vec<Group>, item: &Item)
 
 /// Moves the items that came late to their groups.
 pub fn settle(late: &mut Vec<Item>, groups: &mut Vec<Group>, alloc: Global) -> Result<(), Memory>
-    ensures same { SameItems (late.old.items ++ in_groups groups.old.items) (late.new.items ++ in_groups groups.new.items) }
+    ensures same { SameItems (late.old.items ++ in_groups groups.old.items)
+        (late.new.items ++ in_groups groups.new.items) }
     ensures room { vec_capacity late.old - vec_len late.old ≤ vec_capacity late.new - vec_len late.new }
 {
     while let Some(item) = late.pop() {
@@ -95,7 +96,8 @@ pub fn list_of(
     question: &Question,
     ids: &mut Vec<u64>,
 ) -> Result<(), Memory>
-    ensures { OnOk result (ids.new.items ≡ ids.old.items ++ ids_of (asks question.now) (late.now ++ in_groups groups.now)) }
+    ensures { OnOk result (ids.new.items ≡ ids.old.items ++ ids_of (asks question.now)
+        (late.now ++ in_groups groups.now)) }
 {
     list_among(late, question, ids)?;
     for group in groups {

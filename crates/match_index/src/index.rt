@@ -1,5 +1,6 @@
 //! The index.
-ghost use Rattle.std.specs.Prelude.{◌≡◌, ◌==◌, ◌<◌, ◌+◌, ◌-◌, ◌++◌, ◌∷◌, [], max, false, map, find, option_to_list, IfOk, OnOk, OnErr, IsPermutation, IsSorted, length};
+ghost use Rattle.std.specs.Prelude.{◌≡◌, ◌==◌, ◌<◌, ◌+◌, ◌-◌, ◌++◌, ◌∷◌, [], max, false, map, find, option_to_list};
+ghost use Rattle.std.specs.Prelude.{IfOk, OnOk, OnErr, IsPermutation, IsSorted, length};
 ghost use Rattle.std.specs.List.{IsDistinct, list_any};
 ghost use Rattle.std.specs.Option.{option_copied};
 ghost use Rattle.std.specs.Ordering.{nat_cmp};
@@ -37,7 +38,8 @@ impl Model for Index {
 
     ghost view = { λ a. record { items = values a.held; room = a.room } };
 
-    ghost invariant = { λ a. AreKept a.held.entries a.late.items a.groups.items × (a.room ≤ spare a.held) × (a.room ≤ vec_capacity a.late - vec_len a.late) };
+    ghost invariant = { λ a. AreKept a.held.entries a.late.items a.groups.items × (a.room ≤ spare a.held)
+        × (a.room ≤ vec_capacity a.late - vec_len a.late) };
 }
 
 impl Index {
@@ -115,7 +117,8 @@ impl Index {
     /// Inserts a match under a new id, with rank 0.
     pub fn insert(&mut self, id: u64, m: &Match) -> Result<(), Memory>
         requires { list_any (has_id id) self.old.items ≡ false }
-        ensures items { OnOk result (self.new.items ≡ self.old.items ++ record { id = id; rank = 0; normal = m.now } ∷ []) }
+        ensures items { OnOk result (self.new.items ≡ self.old.items
+            ++ record { id = id; rank = 0; normal = m.now } ∷ []) }
         ensures room { OnOk result (self.new.room ≡ self.old.room - 1) }
         ensures memory { OnErr result (self.new ≡ self.old) }
     {
@@ -125,7 +128,8 @@ impl Index {
     /// Inserts a match under a new id, with a rank.
     pub fn insert_ranked(&mut self, id: u64, rank: u32, m: &Match) -> Result<(), Memory>
         requires { list_any (has_id id) self.old.items ≡ false }
-        ensures items { OnOk result (self.new.items ≡ self.old.items ++ record { id = id; rank = rank; normal = m.now } ∷ []) }
+        ensures items { OnOk result (self.new.items ≡ self.old.items
+            ++ record { id = id; rank = rank; normal = m.now } ∷ []) }
         ensures room { OnOk result (self.new.room ≡ self.old.room - 1) }
         ensures memory { OnErr result (self.new ≡ self.old) }
     {
@@ -137,7 +141,8 @@ impl Index {
     /// Takes the item of an id out; false where there is none. It takes no memory.
     pub fn remove(&mut self, id: u64) -> bool
         ensures found { result ≡ list_any (has_id id) self.old.items }
-        ensures items { IsPermutation self.old.items (option_to_list (find (has_id id) self.old.items) ++ self.new.items) }
+        ensures items { IsPermutation self.old.items
+            (option_to_list (find (has_id id) self.old.items) ++ self.new.items) }
         ensures room { self.new.room ≡ self.old.room }
     {
         match self.held.swap_remove(&id) {

@@ -14,6 +14,7 @@ ghost use Rattle.match_index.specs.declared.question.Question.{Question};
 pub fn search_laws()
     ensures place { (q : Question) (e : Item) → IsMatch e.normal → asks q e ≡ true
         → is_named_by (shape_of e.normal) (probe q) ≡ true → kept_by (shape_of e.normal) (probe q) ≡ e.normal }
-    ensures first { (p : Item → Bool) (xs ys : List Item) (a : Option Item) → SameItems xs ys → IsTop p ys a → IsTop p xs a }
+    ensures first { (p : Item → Bool) (xs ys : List Item) (a : Option Item) → SameItems xs ys → IsTop p ys a
+        → IsTop p xs a }
     ensures ids { (p : Item → Bool) (xs ys : List Item) → SameItems xs ys → IsPermutation (ids_of p xs) (ids_of p ys) }
 {}

@@ -3,7 +3,8 @@ ghost use Rattle.std.specs.Prelude.{◌≡◌, IfSome, Option};
 ghost use Rattle.of10_match.specs.Normal.{kept as kept_of};
 ghost use Rattle.of10_match.specs.Ranges.{IsMatch, IsPrefix};
 ghost use Rattle.of10_match.specs.Wildcards.{prefix_by};
-ghost use Rattle.match_index.specs.InsideShapes.{implies as implies_of, is_named_by as is_named_by_of, kept_by, length_of, shape_of, shortened as shortened_of};
+ghost use Rattle.match_index.specs.InsideShapes.{implies as implies_of, is_named_by as is_named_by_of, kept_by};
+ghost use Rattle.match_index.specs.InsideShapes.{length_of, shape_of, shortened as shortened_of};
 
 use of10_match::{Match, Prefix};
 

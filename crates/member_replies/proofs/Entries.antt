@@ -1,5 +1,6 @@
 -- Entries that are gone through by their places.
-use Rattle.std.proofs.Common.{◌≡◌, ℕ, ◌+◌, ◌*◌, ◌≤◌, List, [], ◌∷◌, ◌++◌, length, map, take, ap, sym, refl, subst, suc, zero, suc-add, ◌∙◌, arith}
+use Rattle.std.proofs.Common.{◌≡◌, ℕ, ◌+◌, ◌*◌, ◌≤◌, List, [], ◌∷◌, ◌++◌, length, map, take, ap, sym, refl, subst, suc}
+use Rattle.std.proofs.Common.{zero, suc-add, ◌∙◌, arith}
 use Rattle.std.specs.Prelude.{Option, Some, None, option_to_list}
 use Rattle.std.specs.List.{AllByRecursion, slice_get}
 use Rattle.std.proofs.lemmas.List.{length-append, map-append}
@@ -20,18 +21,25 @@ take_with (x ∷ xs) zero = refl
 take_with (x ∷ xs) (suc n) = rw suc-add (ap (λ ys. x ∷ ys) (take_with xs n))
 
 -- what is true of each item is true of one by its place
-pub at_place : {X : Type 0} (P : X → Type 0) (xs : List X) (n : ℕ) (x : X) → AllByRecursion P xs → Some x ≡ slice_get xs n → P x
+pub at_place : {X : Type 0} (P : X → Type 0) (xs : List X) (n : ℕ) (x : X) → AllByRecursion P xs
+    → Some x ≡ slice_get xs n → P x
 at_place P [] n x all is = absurd (cc)
 at_place P (y ∷ ys) zero x all is = let e : y ≡ x = cc in subst P e all.0
 at_place P (y ∷ ys) (suc n) x all is = at_place P ys n x all.1 is
 
 -- one more place: what the filter lists, and what is made of it
-pub listed_more : (f : Filter) (es : List Entry) (n : ℕ) → listed f (take (n + 1) es) ≡ listed f (take n es) ++ listed f (option_to_list (slice_get es n))
+pub listed_more : (f : Filter) (es : List Entry) (n : ℕ)
+    → listed f (take (n + 1) es) ≡ listed f (take n es) ++ listed f (option_to_list (slice_get es n))
 listed_more f es n = ap (listed f) (take_with es n) ∙ filter-append _ (take n es) (option_to_list (slice_get es n))
 
-pub made_more : {X : Type 0} (make : Entry → X) (f : Filter) (es : List Entry) (n : ℕ) (made more : List X) → made ≡ map make (listed f (take n es)) → more ≡ map make (listed f (option_to_list (slice_get es n))) → made ++ more ≡ map make (listed f (take (n + 1) es))
+pub made_more : {X : Type 0} (make : Entry → X) (f : Filter) (es : List Entry) (n : ℕ) (made more : List X)
+    → made ≡ map make (listed f (take n es)) → more ≡ map make (listed f (option_to_list (slice_get es n)))
+    → made ++ more ≡ map make (listed f (take (n + 1) es))
 made_more make f es n made more so_far next =
-    ap (λ ys. ys ++ more) so_far ∙ (ap (λ ys. map make (listed f (take n es)) ++ ys) next ∙ (sym (map-append make (listed f (take n es)) (listed f (option_to_list (slice_get es n)))) ∙ ap (map make) (sym (listed_more f es n))))
+    ap (λ ys. ys ++ more) so_far
+    ∙ (ap (λ ys. map make (listed f (take n es)) ++ ys) next
+    ∙ (sym (map-append make (listed f (take n es)) (listed f (option_to_list (slice_get es n))))
+    ∙ ap (map make) (sym (listed_more f es n))))
 
 -- an action takes at most 16 bytes
 length_action : (a : Action) → length (spelling a) ≤ 16
@@ -51,4 +59,10 @@ length_action (actions.Enqueue port queue) = omega arith
 pub length_actions : (list : List Action) → length (spellings list) ≤ 16 * length list
 length_actions [] = omega arith
 length_actions (a ∷ list) =
-    omega (arith, ap length (flat_map-cons spelling a list), length-append (spelling a) (spellings list), length_action a, length_actions list)
+    omega (
+      arith,
+      ap length (flat_map-cons spelling a list),
+      length-append (spelling a) (spellings list),
+      length_action a,
+      length_actions list,
+    )

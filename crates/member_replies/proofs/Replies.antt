@@ -1,5 +1,6 @@
 -- Statistics of members can be written.
-use Rattle.std.proofs.Common.{◌≡◌, ℕ, ◌+◌, ◌*◌, ◌≤◌, false, List, [], ◌∷◌, ◌++◌, length, map, min, take, ap, sym, subst, refl, ◌∙◌, arith}
+use Rattle.std.proofs.Common.{◌≡◌, ℕ, ◌+◌, ◌*◌, ◌≤◌, false, List, [], ◌∷◌, ◌++◌, length, map, min, take, ap, sym, subst}
+use Rattle.std.proofs.Common.{refl, ◌∙◌, arith}
 use Rattle.std.specs.Prelude.{codes, count_by, filter}
 use Rattle.std.proofs.lemmas.List.{length-map, length-take}
 use Rattle.std.proofs.lemmas.List.Sums.{count_by-le-length, length-filter}
@@ -25,7 +26,8 @@ pub clear_written : (e : Entry) → length (written_match e) ≡ 40 → IsClear 
 clear_written e long = clear_twice e.raw (sym (length_clear e.raw) ∙ long)
 
 -- an entry's statistics, where it has few actions
-pub entry_writable : (e : Entry) (s : FlowStat) → s.m ≡ written_match e → length s.m ≡ 40 → s.actions ≡ spellings e.actions → length e.actions ≤ 64 → CanWriteEntry s
+pub entry_writable : (e : Entry) (s : FlowStat) → s.m ≡ written_match e → length s.m ≡ 40
+    → s.actions ≡ spellings e.actions → length e.actions ≤ 64 → CanWriteEntry s
 entry_writable e s m long actions short = record {
   clear = subst IsClear (sym m) (clear_written e (ap length (sym m) ∙ long));
   small = omega (arith, long, ap length actions, length_actions e.actions, short);
@@ -42,9 +44,15 @@ texts_fit dpid name =
     λ i. product i ∷ hardware i ∷ software i ∷ serial i ∷ title i ∷ []
 
 -- statistics of at most 64 ports
-pub ports_writable : (ps told : List PortStat) (number : ℕ) (xs : List ℕ) (n : ℕ) → ps ≡ map (told_of told) (filter (is_asked number) (take n xs)) → length xs ≤ 64
+pub ports_writable : (ps told : List PortStat) (number : ℕ) (xs : List ℕ) (n : ℕ)
+    → ps ≡ map (told_of told) (filter (is_asked number) (take n xs)) → length xs ≤ 64
     → CanWriteReply (record { more = false; body = Port ps })
 ports_writable ps told number xs n made few =
     let asked = filter (is_asked number) (take n xs) in
-    let many : length ps ≡ count_by (is_asked number) (take n xs) = ap length made ∙ (length-map asked (told_of told) ∙ length-filter (is_asked number) (take n xs)) in
-    record { whole = refl; body = omega (arith, length_ports ps, many, count_by-le-length (is_asked number) (take n xs), length-take n xs, few) }
+    let many : length ps ≡ count_by (is_asked number) (take n xs) = ap length made
+    ∙ (length-map asked (told_of told) ∙ length-filter (is_asked number) (take n xs)) in
+    record {
+      whole = refl;
+      body =
+          omega (arith, length_ports ps, many, count_by-le-length (is_asked number) (take n xs), length-take n xs, few);
+    }

@@ -13,7 +13,8 @@ use Rattle.grants.specs.declared.grant.Grant.{Grant}
 -- an action counts as one or more
 some_weight : (g : Grant) (a : Action) → 1 ≤ weight g a
 some_weight g (actions.Output port max_len) =
-    elim ((port == FLOOD) || (port == ALL)) as (λ b. 1 ≤ (if b then max 1 (length g.ports.outside) else 1)) [ true ↦ omega arith | false ↦ omega arith ]
+    elim ((port == FLOOD) || (port == ALL)) as (λ b. 1 ≤ (if b then max 1 (length g.ports.outside) else 1))
+    [ true ↦ omega arith | false ↦ omega arith ]
 some_weight g (actions.SetVlanVid vid) = omega arith
 some_weight g (actions.SetVlanPcp pcp) = omega arith
 some_weight g actions.StripVlan = omega arith
@@ -30,5 +31,6 @@ length_weights : (g : Grant) (list : List Action) → length list ≤ sum_by (we
 length_weights g [] = omega arith
 length_weights g (a ∷ list) = omega (arith, sum_by-cons (weight g) a list, some_weight g a, length_weights g list)
 
-pub granted_is_short : (in_flow : Bool) (g : Grant) (v : PortView) (list : List Action) → AreGranted in_flow g v list → length list ≤ 64
+pub granted_is_short : (in_flow : Bool) (g : Grant) (v : PortView) (list : List Action) → AreGranted in_flow g v list
+    → length list ≤ 64
 granted_is_short in_flow g v list granted = omega (arith, granted.few, length_weights g list)

@@ -5,4 +5,5 @@ use Rattle.member_replies.specs.Ports.{filled}
 
 pub length_filled : (width : ℕ) (text : List ℕ) → length (filled width text) ≡ width
 length_filled width text =
-    length-take-le width (text ++ replicate width 0) (omega (arith, length-append text (replicate width 0), length-replicate {A = ℕ} width 0))
+    length-take-le width (text ++ replicate width 0)
+    (omega (arith, length-append text (replicate width 0), length-replicate {A = ℕ} width 0))

@@ -1,5 +1,6 @@
 -- What members are sent can be written.
-use Rattle.std.proofs.Common.{◌≡◌, ℕ, ◌+◌, ◌-◌, ◌*◌, ◌%◌, ◌<◌, ◌≤◌, ◌^◌, Bool, true, false, List, [], ◌∷◌, ◌++◌, All, length, map, replicate, ap, refl, sym, ◌∙◌, arith}
+use Rattle.std.proofs.Common.{◌≡◌, ℕ, ◌+◌, ◌-◌, ◌*◌, ◌%◌, ◌<◌, ◌≤◌, ◌^◌, Bool, true, false, List, [], ◌∷◌, ◌++◌, All}
+use Rattle.std.proofs.Common.{length, map, replicate, ap, refl, sym, ◌∙◌, arith}
 use Rattle.std.specs.Prelude.{◌==◌, ◌&&◌, nat_le}
 use Rattle.std.specs.List.{flat_map}
 use Rattle.std.proofs.lemmas.Bool.{le-leb}
@@ -30,7 +31,8 @@ size_is : (b : Body) (n : ℕ) → length (body_with b (written b)) ≡ n → le
 size_is b n e = ap length (spelled b) ∙ e
 
 -- a body of which the length is known
-writable : (b : Body) (n : ℕ) → length (body_bytes b) ≡ n → is_among (lengths_of (kind_of b)) (8 + n) ≡ true → 8 + n < 2 ^ 16
+writable : (b : Body) (n : ℕ) → length (body_bytes b) ≡ n → is_among (lengths_of (kind_of b)) (8 + n) ≡ true
+    → 8 + n < 2 ^ 16
     → IsInRange b → CanWrite b
 writable b n size long fits in_range = record {
   long = ap (λ k. is_among (lengths_of (kind_of b)) (8 + k)) size ∙ long;
@@ -45,32 +47,46 @@ pub barrier_writable : CanWrite BarrierReply
 barrier_writable = writable BarrierReply 0 (size_is _ 0 refl) refl (omega arith) tt
 
 pub echo_writable : (bytes : List ℕ) → 8 + length bytes < 2 ^ 16 → CanWrite (echo bytes)
-echo_writable bytes fits = writable (echo bytes) (length bytes) (size_is _ _ refl) (le-leb 8 (8 + length bytes) (omega arith)) fits tt
+echo_writable bytes fits = writable (echo bytes) (length bytes) (size_is _ _ refl)
+    (le-leb 8 (8 + length bytes) (omega arith)) fits tt
 
-pub packet_writable : (total_len in_port reason : ℕ) (bytes : List ℕ) → 18 + length bytes < 2 ^ 16 → CanWrite (packet_in total_len in_port reason bytes)
+pub packet_writable : (total_len in_port reason : ℕ) (bytes : List ℕ) → 18 + length bytes < 2 ^ 16
+    → CanWrite (packet_in total_len in_port reason bytes)
 packet_writable total_len in_port reason bytes fits =
-    writable (packet_in total_len in_port reason bytes) (10 + length bytes) (size_is _ _ (omega arith)) (le-leb 18 (8 + (10 + length bytes)) (omega arith)) (omega (arith, fits)) tt
+    writable (packet_in total_len in_port reason bytes) (10 + length bytes) (size_is _ _ (omega arith))
+    (le-leb 18 (8 + (10 + length bytes)) (omega arith)) (omega (arith, fits)) tt
 
-pub removal_writable : (e : Entry) (reason moment : ℕ) (count : Numbers) → length (written_match e) ≡ 40 → CanWrite (flow_removed e reason moment count)
+pub removal_writable : (e : Entry) (reason moment : ℕ) (count : Numbers) → length (written_match e) ≡ 40
+    → CanWrite (flow_removed e reason moment count)
 removal_writable e reason moment count long =
     let b = flow_removed e reason moment count in
-    let behind = big_bytes 8 e.cookie ++ (big_bytes 2 e.priority ++ (reason ∷ 0 ∷ (big_bytes 4 (seconds_of e moment) ++ (big_bytes 4 0 ++ (big_bytes 2 e.idle ++ (0 ∷ 0 ∷ (big_bytes 8 count.packets ++ big_bytes 8 count.bytes))))))) in
+    let behind = big_bytes 8 e.cookie
+    ++ (big_bytes 2 e.priority
+    ++ (reason ∷ 0 ∷ (big_bytes 4 (seconds_of e moment)
+    ++ (big_bytes 4 0
+    ++ (big_bytes 2 e.idle ++ (0 ∷ 0 ∷ (big_bytes 8 count.packets ++ big_bytes 8 count.bytes))))))) in
     let size : length (body_with b (written b)) ≡ 80 = omega (arith, length-append (written_match e) behind, long) in
     writable b 80 (size_is b 80 size) refl (omega arith) (clear_written e long)
 
-pub port_writable : (v port : ℕ) (is_link is_dark : Bool) → HasAddress (port_of v port is_link is_dark) → CanWrite (port_changed v port is_link is_dark)
+pub port_writable : (v port : ℕ) (is_link is_dark : Bool) → HasAddress (port_of v port is_link is_dark)
+    → CanWrite (port_changed v port is_link is_dark)
 port_writable v port is_link is_dark fits =
-    writable (port_changed v port is_link is_dark) 56 (size_is _ _ (omega (arith, length_port_of v port is_link is_dark))) refl (omega arith) fits
+    writable (port_changed v port is_link is_dark) 56
+    (size_is _ _ (omega (arith, length_port_of v port is_link is_dark))) refl (omega arith) fits
 
 -- n ports behind 32 bytes are a length of a FEATURES_REPLY
 among_ports : (n : ℕ) → (nat_le 32 (8 + (24 + 48 * n)) && ((8 + (24 + 48 * n) - 32) % 48 == 0)) ≡ true
 among_ports n =
     let behind : 8 + (24 + 48 * n) - 32 ≡ 48 * n = omega arith in
     let whole : (8 + (24 + 48 * n) - 32) % 48 ≡ 0 = ap (λ k. k % 48) behind ∙ mul-mod_right 48 n in
-    ap (λ b. b && ((8 + (24 + 48 * n) - 32) % 48 == 0)) (le-leb 32 (8 + (24 + 48 * n)) (omega arith)) ∙ ap (λ k. k == 0) whole
+    ap (λ b. b && ((8 + (24 + 48 * n) - 32) % 48 == 0)) (le-leb 32 (8 + (24 + 48 * n)) (omega arith))
+    ∙ ap (λ k. k == 0) whole
 
-pub features_writable : (dpid : ℕ) (g : Grant) (v : ℕ) (dark : List ℕ) → HasFewPorts g.ports → All HasAddress (map (shown g v dark) (visible g.ports)) → CanWrite (features dpid g v dark)
+pub features_writable : (dpid : ℕ) (g : Grant) (v : ℕ) (dark : List ℕ) → HasFewPorts g.ports
+    → All HasAddress (map (shown g v dark) (visible g.ports)) → CanWrite (features dpid g v dark)
 features_writable dpid g v dark few fits =
     let n = length (visible g.ports) in
-    let size = size_is (features dpid g v dark) (24 + 48 * n) (omega (arith, length_shown g v dark (visible g.ports))) in
-    writable (features dpid g v dark) (24 + 48 * n) size (among_ports n) (omega (arith, few, length_visible g.ports)) fits
+    let size = size_is (features dpid g v dark) (24 + 48 * n)
+    (omega (arith, length_shown g v dark (visible g.ports))) in
+    writable (features dpid g v dark) (24 + 48 * n) size (among_ports n) (omega (arith, few, length_visible g.ports))
+    fits

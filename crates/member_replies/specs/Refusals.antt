@@ -68,4 +68,5 @@ detail_text (details.Budget ranks limit) = codes "ranks=" ++ (decimal ranks ++ (
 
 -- the audit's line of a denial: the controller, its virtual switch, and the transaction id of the refused message
 abbrev pub deny_line : List ℕ → List ℕ → ℕ → Denial → List ℕ
-deny_line controller vsw xid denial = audit_text (Deny controller vsw xid (rule_text denial.rule) (detail_text denial.detail))
+deny_line controller vsw xid denial =
+    audit_text (Deny controller vsw xid (rule_text denial.rule) (detail_text denial.detail))

@@ -1,5 +1,6 @@
 -- Statistics of a virtual switch, as a member sees it.
-use Rattle.std.specs.Prelude.{ℕ, ◌^◌, ◌-◌, ◌≤◌, ◌==◌, ◌||◌, Bool, List, [], ◌∷◌, codes, filter, fold, length, map, min, sum_by, if◌then◌else◌}
+use Rattle.std.specs.Prelude.{ℕ, ◌^◌, ◌-◌, ◌≤◌, ◌==◌, ◌||◌, Bool, List, [], ◌∷◌, codes, filter, fold, length, map, min}
+use Rattle.std.specs.Prelude.{sum_by, if◌then◌else◌}
 use Rattle.std.specs.List.{AllByRecursion}
 use Rattle.byteorder.specs.Endian.{big_bytes}
 use Rattle.hex.specs.Hex.{encode_lower}
@@ -26,7 +27,8 @@ messages xid body = map (reply_message xid) (replies_of body)
 -- what a virtual switch is, with its datapath id in 16 hexadecimal digits, and its name
 abbrev pub texts_of : ℕ → List ℕ → List (List ℕ)
 texts_of dpid name =
-    filled 256 (codes "CoVisor") ∷ filled 256 (codes "virtual switch") ∷ filled 256 (codes "of10 profile 1") ∷ filled 32 (encode_lower (big_bytes 8 dpid)) ∷ filled 256 name ∷ []
+    filled 256 (codes "CoVisor") ∷ filled 256 (codes "virtual switch") ∷ filled 256 (codes "of10 profile 1")
+    ∷ filled 32 (encode_lower (big_bytes 8 dpid)) ∷ filled 256 name ∷ []
 
 -- DESC: these texts
 abbrev pub description : ℕ → List ℕ → ReplyBody
@@ -63,7 +65,8 @@ how_many es = min (length es) 4294967295
 -- AGGREGATE: the sums of their counts, and how many there are
 abbrev pub aggregate : (ℕ → Numbers) → Filter → List Entry → ReplyBody
 aggregate count f es =
-    Aggregate (capped (sum_by (λ e. (count e.serial).packets) (listed f es))) (capped (sum_by (λ e. (count e.serial).bytes) (listed f es))) (how_many (listed f es))
+    Aggregate (capped (sum_by (λ e. (count e.serial).packets) (listed f es)))
+    (capped (sum_by (λ e. (count e.serial).bytes) (listed f es))) (how_many (listed f es))
 
 -- TABLE: the one table, how many entries it may have and has; all fields are wildcards
 abbrev pub tables : ℕ → List Entry → ReplyBody

@@ -8,7 +8,8 @@ use Rattle.grants.specs.Names.{has_bit, kind_bit}
 use Rattle.grants.specs.Ports.{is_one_of}
 use Rattle.grants.specs.declared.grant.Grant.{Grant}
 use Rattle.grants.specs.declared.kind.Kind.{Kind}
-use Rattle.grants.specs.declared.kind.Kind.TheVariants.{Output, Controller, Pass, Link, SetDlSrc, SetDlDst, SetNwSrc, SetNwDst, SetNwTos, SetTpSrc, SetTpDst}
+use Rattle.grants.specs.declared.kind.Kind.TheVariants.{Output, Controller, Pass, Link, SetDlSrc, SetDlDst, SetNwSrc}
+use Rattle.grants.specs.declared.kind.Kind.TheVariants.{SetNwDst, SetNwTos, SetTpSrc, SetTpDst}
 use Rattle.member_replies.specs.Ports.{port_of, visible}
 
 -- the kind of action is granted
@@ -26,8 +27,10 @@ bit_where granted kind = if granted then 2 ^ kind else 0
 -- the actions of a grant, each by its type on the wire: OUTPUT 0, then the seven sets from 4 on
 abbrev pub actions_of : Grant → ℕ
 actions_of g =
-    bit_where (may_output g) 0 + (bit_where (may g SetDlSrc) 4 + (bit_where (may g SetDlDst) 5 + (bit_where (may g SetNwSrc) 6
-    + (bit_where (may g SetNwDst) 7 + (bit_where (may g SetNwTos) 8 + (bit_where (may g SetTpSrc) 9 + bit_where (may g SetTpDst) 10))))))
+    bit_where (may_output g) 0 +
+    (bit_where (may g SetDlSrc) 4 + (bit_where (may g SetDlDst) 5 + (bit_where (may g SetNwSrc) 6
+    + (bit_where (may g SetNwDst) 7 +
+    (bit_where (may g SetNwTos) 8 + (bit_where (may g SetTpSrc) 9 + bit_where (may g SetTpDst) 10))))))
 
 -- what a virtual switch can do: statistics of flows, tables and ports, and matches of ARP addresses
 abbrev pub capabilities : ℕ

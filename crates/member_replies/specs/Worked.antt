@@ -31,7 +31,16 @@ linked = record { v = 1; outside = 1 ∷ 8 ∷ []; links = 3 ∷ 9 ∷ [] }
 
 -- outputs, and sets of the destination by IP
 abbrev pub grant : Grant
-grant = record { fields = 0xfff; src_max = 32; dst_max = 32; actions = 0x81; ports = linked; regions = everything ∷ []; misses = true; packet_out = false }
+grant = record {
+  fields = 0xfff;
+  src_max = 32;
+  dst_max = 32;
+  actions = 0x81;
+  ports = linked;
+  regions = everything ∷ [];
+  misses = true;
+  packet_out = false;
+}
 
 -- the FEATURES_REPLY has the visible ports by number; port 8 is dark; OUTPUT is bit 0 and SET_NW_DST is bit 7
 pub record FeaturesAreShown : Type 0 where
@@ -45,7 +54,8 @@ pub record FeaturesAreShown : Type 0 where
 -- a port that goes dark; what was configured; an echo; a barrier
 pub record AnswersAreGiven : Type 0 where
   pub dark : sent 0 (port_changed 0 12 false true)
-      ≡ codes "010c00400000000002000000000000" ++ (codes "00000c02000000000c703132000000000000000000000000000000000000000001" ++ replicate 32 48)
+      ≡ codes "010c00400000000002000000000000"
+      ++ (codes "00000c02000000000c703132000000000000000000000000000000000000000001" ++ replicate 32 48)
   pub config : sent 7 (config 0 128) ≡ codes "0108000c0000000700000080"
   pub echo : sent 0x01020304 (echo (0xab ∷ 0xcd ∷ [])) ≡ codes "0103000a01020304abcd"
   pub barrier : sent 0xffffffff BarrierReply ≡ codes "01130008ffffffff"
@@ -58,11 +68,13 @@ packet = 0 ∷ 0 ∷ 0 ∷ 0 ∷ 0 ∷ 2 ∷ 0 ∷ 0 ∷ 0 ∷ 0 ∷ 0 ∷ 1 ∷
 
 abbrev pub APacketIsTold : Type 0
 APacketIsTold = sent 0 (packet_in 42 1 0 packet)
-    ≡ codes "010a003c00000000ffffffff002a00010000" ++ codes "00000000000200000000000108004500001c0000000040116ed00a00000102000001138800350008e01f"
+    ≡ codes "010a003c00000000ffffffff002a00010000" ++ codes
+    "00000000000200000000000108004500001c0000000040116ed00a00000102000001138800350008e01f"
 
 -- IPv4 to 10.0.0.1 by port 1, as it was sent: its padding isn't zero
 abbrev pub raw : List ℕ
-raw = 0 ∷ 0x30 ∷ 0x20 ∷ 0xee ∷ 0 ∷ 1 ∷ (replicate 15 0 ++ (7 ∷ 8 ∷ 0 ∷ 0 ∷ 0 ∷ 9 ∷ 9 ∷ 0 ∷ 0 ∷ 0 ∷ 0 ∷ 10 ∷ 0 ∷ 0 ∷ 1 ∷ 0 ∷ 0 ∷ 0 ∷ 0 ∷ []))
+raw = 0 ∷ 0x30 ∷ 0x20 ∷ 0xee ∷ 0 ∷ 1
+    ∷ (replicate 15 0 ++ (7 ∷ 8 ∷ 0 ∷ 0 ∷ 0 ∷ 9 ∷ 9 ∷ 0 ∷ 0 ∷ 0 ∷ 0 ∷ 10 ∷ 0 ∷ 0 ∷ 1 ∷ 0 ∷ 0 ∷ 0 ∷ 0 ∷ []))
 
 -- its match in digits, with zeros for the padding
 abbrev pub raw_text : List ℕ
@@ -88,7 +100,8 @@ entry = record {
 -- it stood for 15 seconds; a duration stands still at the greatest number of 32 bits
 pub record ARemovalIsTold : Type 0 where
   pub message : sent 0 (flow_removed entry 2 25 (record { packets = 5; bytes = 300 }))
-      ≡ codes "010b005800000000" ++ (raw_text ++ codes "1122334455667788800002000000000f00000000003c00000000000000000005000000000000012c")
+      ≡ codes "010b005800000000"
+      ++ (raw_text ++ codes "1122334455667788800002000000000f00000000003c00000000000000000005000000000000012c")
   pub last : seconds_of entry 4294967305 ≡ 4294967295
   pub capped : seconds_of entry 4294967306 ≡ 4294967295
 
@@ -98,19 +111,29 @@ refused = 1 ∷ 14 ∷ 0 ∷ 66 ∷ 0 ∷ 0 ∷ 0 ∷ 33 ∷ (replicate 55 0 ++ 
 
 -- ERRORs
 pub record RefusalsAreSent : Type 0 where
-  pub long : encode_lower (refusal (denial_of (Overlap 1)) refused) ≡ codes "0101004c000000210003000101" ++ (codes "0e004200000021" ++ (replicate 110 48 ++ codes "64"))
-  pub short : encode_lower (refusal (denial_of (Form 1 6)) (1 ∷ 9 ∷ 0 ∷ 9 ∷ 0 ∷ 0 ∷ 0 ∷ 5 ∷ 0xee ∷ [])) ≡ codes "01010015000000050001000601090009" ++ codes "00000005ee"
+  pub long : encode_lower (refusal (denial_of (Overlap 1)) refused)
+      ≡ codes "0101004c000000210003000101" ++ (codes "0e004200000021" ++ (replicate 110 48 ++ codes "64"))
+  pub short : encode_lower (refusal (denial_of (Form 1 6)) (1 ∷ 9 ∷ 0 ∷ 9 ∷ 0 ∷ 0 ∷ 0 ∷ 5 ∷ 0xee ∷ []))
+      ≡ codes "01010015000000050001000601090009" ++ codes "00000005ee"
 
 -- lines of the audit
 pub record LinesAreTold : Type 0 where
-  pub form : deny_line (codes "app") (codes "v1") 7 (denial_of (Form 1 6)) ≡ codes "deny ctl=app vsw=v1 xid=7 rule=form error=1,6"
-  pub emergency : deny_line (codes "app") (codes "v1") 8 (denial_of G2Emerg) ≡ codes "deny ctl=app vsw=v1 xid=8 rule=G2 flag=emerg"
-  pub field : deny_line (codes "mon") (codes "v1") 9 (denial_of (G4 11)) ≡ codes "deny ctl=mon vsw=v1 xid=9 rule=G4 field=tp_dst"
-  pub region : deny_line (codes "mon") (codes "v1") 9 (denial_of G5) ≡ codes "deny ctl=mon vsw=v1 xid=9 rule=G5 region=out"
-  pub port : deny_line (codes "rt") (codes "v2") 10 (denial_of (G8 65534)) ≡ codes "deny ctl=rt vsw=v2 xid=10 rule=G8 port=65534"
-  pub packet : deny_line (codes "rt") (codes "v2") 0 (denial_of (G11 Region)) ≡ codes "deny ctl=rt vsw=v2 xid=0 rule=G11 why=region"
-  pub overlap : deny_line (codes "app") (codes "v1") 33 (denial_of (Overlap 1)) ≡ codes "deny ctl=app vsw=v1 xid=33 rule=overlap with=1"
-  pub budget : deny_line (codes "app") (codes "v1") 34 (denial_of (Budget 6 6)) ≡ codes "deny ctl=app vsw=v1 xid=34 rule=budget ranks=6 limit=6"
+  pub form : deny_line (codes "app") (codes "v1") 7 (denial_of (Form 1 6))
+      ≡ codes "deny ctl=app vsw=v1 xid=7 rule=form error=1,6"
+  pub emergency : deny_line (codes "app") (codes "v1") 8 (denial_of G2Emerg)
+      ≡ codes "deny ctl=app vsw=v1 xid=8 rule=G2 flag=emerg"
+  pub field : deny_line (codes "mon") (codes "v1") 9 (denial_of (G4 11))
+      ≡ codes "deny ctl=mon vsw=v1 xid=9 rule=G4 field=tp_dst"
+  pub region : deny_line (codes "mon") (codes "v1") 9 (denial_of G5)
+      ≡ codes "deny ctl=mon vsw=v1 xid=9 rule=G5 region=out"
+  pub port : deny_line (codes "rt") (codes "v2") 10 (denial_of (G8 65534))
+      ≡ codes "deny ctl=rt vsw=v2 xid=10 rule=G8 port=65534"
+  pub packet : deny_line (codes "rt") (codes "v2") 0 (denial_of (G11 Region))
+      ≡ codes "deny ctl=rt vsw=v2 xid=0 rule=G11 why=region"
+  pub overlap : deny_line (codes "app") (codes "v1") 33 (denial_of (Overlap 1))
+      ≡ codes "deny ctl=app vsw=v1 xid=33 rule=overlap with=1"
+  pub budget : deny_line (codes "app") (codes "v1") 34 (denial_of (Budget 6 6))
+      ≡ codes "deny ctl=app vsw=v1 xid=34 rule=budget ranks=6 limit=6"
   pub down : down_line (codes "s1") Removal ≡ codes "down s1 why=removal"
   pub slow : slow_line (codes "rt") (codes "v1") ≡ codes "slow rt@v1"
   pub note : note_line (codes "s1") ≡ codes "note s1 noarp"
@@ -139,4 +162,18 @@ refusals_are_sent = record { long = refl; short = refl }
 
 pub lines_are_told : LinesAreTold
 unfolding digits
-lines_are_told = record { form = refl; emergency = refl; field = refl; region = refl; port = refl; packet = refl; overlap = refl; budget = refl; down = refl; slow = refl; note = refl; taken = refl; not_taken = refl }
+lines_are_told = record {
+  form = refl;
+  emergency = refl;
+  field = refl;
+  region = refl;
+  port = refl;
+  packet = refl;
+  overlap = refl;
+  budget = refl;
+  down = refl;
+  slow = refl;
+  note = refl;
+  taken = refl;
+  not_taken = refl;
+}

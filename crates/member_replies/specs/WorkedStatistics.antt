@@ -46,7 +46,9 @@ pub record FlowsAreListed : Type 0 where
   pub table : listed of_another_table (entry ∷ other ∷ []) ≡ []
   pub narrow : listed (filter_of entry.raw 0 0xffff) (entry ∷ other ∷ []) ≡ entry ∷ other ∷ []
   pub message : replied 9 (flows 25 count by_port_2 (entry ∷ other ∷ []))
-      ≡ (codes "0111006c000000090001000000600000" ++ (raw_text ++ (codes "0000000f000000008000003c000000000000000011223344556677880000000000000005" ++ codes "000000000000012c0000000800020000"))) ∷ []
+      ≡ (codes "0111006c000000090001000000600000"
+      ++ (raw_text ++ (codes "0000000f000000008000003c000000000000000011223344556677880000000000000005"
+      ++ codes "000000000000012c0000000800020000"))) ∷ []
   pub none : replied 9 (flows 25 count of_another_table (entry ∷ other ∷ [])) ≡ codes "0111000c0000000900010000" ∷ []
 
 -- sums, one of which stands still; a table of two entries; ports of which nothing is known, and one that isn't visible
@@ -54,16 +56,23 @@ pub record TotalsAreTold : Type 0 where
   pub aggregate : replied 9 (aggregate count all_of_them (entry ∷ other ∷ []))
       ≡ codes "011100240000000900020000ffffffffffffffff00000000000001680000000200000000" ∷ []
   pub tables : replied 9 (tables 1024 (entry ∷ other ∷ []))
-      ≡ (codes "0111004c000000090003000000000000" ++ (codes "636f7669736f72" ++ (replicate 50 48 ++ (codes "003fffff0000040000000002" ++ replicate 32 48)))) ∷ []
-  pub port : replied 9 (ports 3 linked []) ≡ (codes "0111007400000009000400000003000000000000" ++ replicate 192 102) ∷ []
+      ≡ (codes "0111004c000000090003000000000000"
+      ++ (codes "636f7669736f72" ++ (replicate 50 48 ++ (codes "003fffff0000040000000002" ++ replicate 32 48))))
+      ∷ []
+  pub port : replied 9 (ports 3 linked []) ≡ (codes "0111007400000009000400000003000000000000" ++ replicate 192 102)
+      ∷ []
   pub hidden : replied 9 (ports 2 linked []) ≡ codes "0111000c0000000900040000" ∷ []
-  pub each : ports 0xffff linked (unknown 8 ∷ record (unknown 3) { rx_packets = 4 } ∷ record (unknown 3) { rx_packets = 5 } ∷ [])
+  pub each : ports 0xffff linked (unknown 8 ∷ record (unknown 3) { rx_packets = 4 }
+      ∷ record (unknown 3) { rx_packets = 5 } ∷ [])
       ≡ Port (unknown 1 ∷ record (unknown 3) { rx_packets = 5 } ∷ unknown 8 ∷ unknown 9 ∷ [])
 
 -- what a virtual switch is
 abbrev pub ASwitchIsDescribed : Type 0
 ASwitchIsDescribed = messages 9 (description 0xa1 (codes "v1"))
-    ≡ (1 ∷ 17 ∷ 4 ∷ 0x2c ∷ 0 ∷ 0 ∷ 0 ∷ 9 ∷ 0 ∷ 0 ∷ 0 ∷ 0 ∷ (codes "CoVisor" ++ (replicate 249 0 ++ (codes "virtual switch" ++ (replicate 242 0 ++ (codes "of10 profile 1" ++ (replicate 242 0
+    ≡ (1 ∷ 17 ∷ 4 ∷ 0x2c ∷ 0 ∷ 0 ∷ 0 ∷ 9 ∷ 0 ∷ 0 ∷ 0 ∷ 0
+    ∷ (codes "CoVisor"
+    ++ (replicate 249 0
+    ++ (codes "virtual switch" ++ (replicate 242 0 ++ (codes "of10 profile 1" ++ (replicate 242 0
     ++ (codes "00000000000000a1" ++ (replicate 16 0 ++ (codes "v1" ++ replicate 254 0)))))))))) ∷ []
 
 pub flows_are_listed : FlowsAreListed

@@ -1,7 +1,9 @@
 //! The audit's other lines.
 ghost use Rattle.std.specs.Prelude.{◌≡◌, IfOk};
 ghost use Rattle.script_text.specs.Lines.{audit_text};
-ghost use Rattle.member_replies.specs.Audit.{down_line as down_text, note_line as note_text, policy_line as policy_text, session_name as name_of, slow_line as slow_text};
+ghost use Rattle.member_replies.specs.Audit.{down_line as down_text, note_line as note_text};
+ghost use Rattle.member_replies.specs.Audit.{policy_line as policy_text, session_name as name_of};
+ghost use Rattle.member_replies.specs.Audit.{slow_line as slow_text};
 
 use cv_io::{Bytes, Duplicate, Memory, Text};
 use script_text::{Audit, DownCause, audit_line, say};

@@ -2,7 +2,8 @@
 ghost use Rattle.std.specs.Prelude.{◌≡◌, ◌≤◌, All, IfOk, map, if◌then◌else◌};
 ghost use Rattle.of10_msgs.specs.Ranges.{HasAddress};
 ghost use Rattle.member_replies.specs.Ports.{visible as visible_of};
-ghost use Rattle.member_replies.specs.Switches.{actions_of as actions_granted, may as may_do, may_output as may_output_of, shown as shown_of};
+ghost use Rattle.member_replies.specs.Switches.{actions_of as actions_granted, may as may_do};
+ghost use Rattle.member_replies.specs.Switches.{may_output as may_output_of, shown as shown_of};
 
 use crate::ports::{is_one_of, port_of, visible};
 use cv_io::{List, Memory};

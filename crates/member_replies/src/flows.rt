@@ -28,7 +28,8 @@ pub fn flow_reply<C: EntryCounts>(
     moment: u64,
 ) -> Result<List<Bytes>, Memory>
     requires { AreShort table.now.table.entries }
-    ensures { IfOk result (λ sent. sent ≡ messages xid (flows moment (C.numbers counts.now) filter.now table.now.table.entries)) }
+    ensures { IfOk result
+        (λ sent. sent ≡ messages xid (flows moment (C.numbers counts.now) filter.now table.now.table.entries)) }
 {
     let mut entries = List::new(alloc);
     for place in 0..table.len() {
@@ -52,7 +53,9 @@ fn stat_at<C: EntryCounts>(
 ) -> Result<Option<FlowStat>, Memory>
     requires sound { IsSound table.now.table }
     requires short { AreShort table.now.table.entries }
-    ensures stats { IfOk result (λ stat. option_to_list stat ≡ map (λ e. stat_of moment (C.numbers counts.now e.serial) e) (listed filter.now (option_to_list (slice_get table.now.table.entries place)))) }
+    ensures stats { IfOk result (λ stat. option_to_list stat
+        ≡ map (λ e. stat_of moment (C.numbers counts.now e.serial) e)
+        (listed filter.now (option_to_list (slice_get table.now.table.entries place)))) }
     ensures writable { IfOk result (λ stat. All CanWriteEntry (option_to_list stat)) }
 {
     let Some(entry) = table.at(place) else {
@@ -110,7 +113,8 @@ pub fn aggregate_reply<C: EntryCounts>(
     filter: &Filter,
     counts: &C,
 ) -> Result<List<Bytes>, Memory>
-    ensures { IfOk result (λ sent. sent ≡ messages xid (aggregate (C.numbers counts.now) filter.now table.now.table.entries)) }
+    ensures { IfOk result
+        (λ sent. sent ≡ messages xid (aggregate (C.numbers counts.now) filter.now table.now.table.entries)) }
 {
     let mut sums = Sums {
         packets: 0,
@@ -140,7 +144,8 @@ fn with_entry_at<C: EntryCounts>(
     counts: &C,
 ) -> Sums
     requires { IsSound table.now.table }
-    ensures { result ≡ sums_with (C.numbers counts.now) sums (listed filter.now (option_to_list (slice_get table.now.table.entries place))) }
+    ensures { result ≡ sums_with (C.numbers counts.now) sums
+        (listed filter.now (option_to_list (slice_get table.now.table.entries place))) }
 {
     let Some(entry) = table.at(place) else {
         return sums;

@@ -16,5 +16,6 @@ pub fn visible_ports_rise()
 
 /// A list of actions that is granted has at most 64.
 pub fn granted_lists_are_short()
-    ensures { (in_flow : Bool) (g : Grant) (v : PortView) (list : List Action) → AreGranted in_flow g v list → length list ≤ 64 }
+    ensures { (in_flow : Bool) (g : Grant) (v : PortView) (list : List Action) → AreGranted in_flow g v list
+        → length list ≤ 64 }
 {}

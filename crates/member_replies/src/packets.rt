@@ -1,7 +1,8 @@
 //! What members are told of packets and of entries that went (sections 5.4.1 and 5.4.2 of the standard).
 ghost use Rattle.std.specs.Prelude.{◌≡◌, ◌<◌, ◌+◌, ◌^◌, IfOk, length};
 ghost use Rattle.of10_msgs.specs.Spelling.{spelling};
-ghost use Rattle.member_replies.specs.Packets.{flow_removed as removal, packet_in as telling, seconds_of, written_match};
+ghost use Rattle.member_replies.specs.Packets.{flow_removed as removal, packet_in as telling, seconds_of};
+ghost use Rattle.member_replies.specs.Packets.{written_match};
 
 use cv_io::{Bytes, Memory};
 use member_table::Entry;
@@ -19,7 +20,8 @@ pub fn packet_in(
     bytes: Bytes,
 ) -> Result<Bytes, Memory>
     requires { 18 + length bytes < 2 ^ 16 }
-    ensures { IfOk result (λ message. message ≡ spelling (record { xid = 0; body = telling total_len in_port reason bytes })) }
+    ensures { IfOk result (λ message. message
+        ≡ spelling (record { xid = 0; body = telling total_len in_port reason bytes })) }
 {
     let body = Body::PacketIn {
         buffer_id: NO_BUFFER,
@@ -55,7 +57,9 @@ pub fn flow_removed(
     packets: u64,
     bytes: u64,
 ) -> Result<Bytes, Memory>
-    ensures { IfOk result (λ message. message ≡ spelling (record { xid = 0; body = removal entry.now reason moment (record { packets = packets; bytes = bytes }) })) }
+    ensures { IfOk result (λ message. message
+        ≡ spelling
+        (record { xid = 0; body = removal entry.now reason moment (record { packets = packets; bytes = bytes }) })) }
 {
     let body = Body::FlowRemoved {
         m: match_of(entry),

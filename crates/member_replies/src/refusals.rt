@@ -3,7 +3,8 @@ ghost use Rattle.std.specs.Prelude.{◌≡◌, ◌≤◌, ◌++◌, IfOk, IsTrue
 ghost use Rattle.std.specs.List.{list_all};
 ghost use Rattle.script_text.specs.Lines.{is_ascii};
 ghost use Rattle.grants.specs.Names.{field_at};
-ghost use Rattle.member_replies.specs.Refusals.{deny_line as deny_text, detail_text, name_of, reason_text, refusal, rule_text};
+ghost use Rattle.member_replies.specs.Refusals.{deny_line as deny_text, detail_text, name_of, reason_text, refusal};
+ghost use Rattle.member_replies.specs.Refusals.{rule_text};
 
 use cv_io::{Bytes, Duplicate, Memory, Text};
 use grants::{Denial, Detail, Field, Rule2, Why};

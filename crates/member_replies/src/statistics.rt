@@ -3,7 +3,8 @@ ghost use Rattle.std.specs.Prelude.{◌≡◌, ◌≤◌, ◌∷◌, [], IfOk, f
 ghost use Rattle.byteorder.specs.Endian.{big_bytes};
 ghost use Rattle.hex.specs.Hex.{encode_lower};
 ghost use Rattle.member_replies.specs.Ports.{HasFewPorts, filled as filled_to};
-ghost use Rattle.member_replies.specs.Statistics.{description, is_asked, later as later_of, messages, ports, tables, texts_of, told_of, unknown as unknown_of};
+ghost use Rattle.member_replies.specs.Statistics.{description, is_asked, later as later_of, messages, ports, tables};
+ghost use Rattle.member_replies.specs.Statistics.{texts_of, told_of, unknown as unknown_of};
 
 use crate::filling::filled;
 use crate::ports::visible;

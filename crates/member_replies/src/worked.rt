@@ -1,5 +1,6 @@
 //! Worked examples, computed by the checker.
-ghost use Rattle.member_replies.specs.Worked.{APacketIsTold, ARemovalIsTold, AnswersAreGiven, FeaturesAreShown, LinesAreTold, RefusalsAreSent};
+ghost use Rattle.member_replies.specs.Worked.{APacketIsTold, ARemovalIsTold, AnswersAreGiven, FeaturesAreShown};
+ghost use Rattle.member_replies.specs.Worked.{LinesAreTold, RefusalsAreSent};
 ghost use Rattle.member_replies.specs.WorkedStatistics.{ASwitchIsDescribed, FlowsAreListed, TotalsAreTold};
 
 /// A virtual switch with its ports, a port that goes dark, and short answers.

@@ -1,5 +1,7 @@
 -- Numbers in rising order: there is one list of them.
-use Rattle.std.proofs.Common.{◌≡◌, ◌∙◌, ℕ, suc, ◌+◌, ◌<◌, ◌≤◌, ◌==◌, Bool, true, false, ◌||◌, not, nat_le, List, [], ◌∷◌, map, filter, Some, None, if◌then◌else◌, cond, refl, sym, ap, ap₂, subst, inl, inr, arith, true≢false, eqb-true, eq-eqb, ne_eqb}
+use Rattle.std.proofs.Common.{◌≡◌, ◌∙◌, ℕ, suc, ◌+◌, ◌<◌, ◌≤◌, ◌==◌, Bool, true, false, ◌||◌, not, nat_le, List, []}
+use Rattle.std.proofs.Common.{◌∷◌, map, filter, Some, None, if◌then◌else◌, cond, refl, sym, ap, ap₂, subst, inl, inr}
+use Rattle.std.proofs.Common.{arith, true≢false, eqb-true, eq-eqb, ne_eqb}
 use Rattle.std.specs.List.{AllByRecursion, IsDistinct, list_any, slice_index_or}
 use Rattle.std.specs.Ordering.{is_lt, nat_cmp}
 use Rattle.std.specs.Prelude.{IsPermutation, IsSorted}

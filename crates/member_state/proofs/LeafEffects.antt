@@ -1,5 +1,7 @@
 -- What actions do, action by action: what holds of their outs and their tail.
-use Rattle.std.proofs.Common.{◌≡◌, ◌∙◌, ℕ, ◌<◌, ◌≤◌, ◌^◌, ◌/◌, ◌%◌, ◌==◌, Bool, true, false, ◌||◌, List, [], ◌∷◌, ◌++◌, map, Option, Some, None, IfSome, IsTrue, if◌then◌else◌, refl, sym, ap, arith, true≢false, eqb-true, eq-eqb, ne_eqb}
+use Rattle.std.proofs.Common.{◌≡◌, ◌∙◌, ℕ, ◌<◌, ◌≤◌, ◌^◌, ◌/◌, ◌%◌, ◌==◌, Bool, true, false, ◌||◌, List, [], ◌∷◌, ◌++◌}
+use Rattle.std.proofs.Common.{map, Option, Some, None, IfSome, IsTrue, if◌then◌else◌, refl, sym, ap, arith, true≢false}
+use Rattle.std.proofs.Common.{eqb-true, eq-eqb, ne_eqb}
 use Rattle.std.specs.List.{AllByRecursion, list_any}
 use Rattle.std.specs.Option.{option_or}
 use Rattle.of10_actions.specs.Actions.{IsInRange}
@@ -8,7 +10,9 @@ use Rattle.of10_actions.specs.Fields.{RewriteOf}
 use Rattle.of10_actions.specs.Numbers.{ACTION, ALL, CONTROLLER, FLOOD, IN_PORT, MAX, NORMAL}
 use Rattle.of10_actions.specs.Rewriting.{and_then, no_rewrite}
 use Rattle.of10_actions.specs.declared.action.Action.{Action}
-use Rattle.of10_actions.specs.declared.action.Action.TheVariants.{Output, SetVlanVid, SetVlanPcp, StripVlan, SetDlSrc, SetDlDst, SetNwSrc, SetNwDst, SetNwTos, SetTpSrc, SetTpDst, Enqueue}
+use Rattle.of10_actions.specs.declared.action.Action.TheVariants.{Output, SetVlanVid, SetVlanPcp, StripVlan, SetDlSrc}
+use Rattle.of10_actions.specs.declared.action.Action.TheVariants.{SetDlDst, SetNwSrc, SetNwDst, SetNwTos, SetTpSrc}
+use Rattle.of10_actions.specs.declared.action.Action.TheVariants.{SetTpDst, Enqueue}
 use Rattle.of10_actions.specs.declared.effects.Dest.{Dest}
 use Rattle.of10_actions.specs.declared.effects.Dest.TheVariants.{Port, Flood, Ingress, Tell}
 use Rattle.of10_actions.specs.declared.effects.Effects.{Effects}

@@ -1,5 +1,6 @@
 -- The entry at a place of a table, and what is made of entries one after the other.
-use Rattle.std.proofs.Common.{◌≡◌, ◌∙◌, ℕ, zero, suc, ◌+◌, ◌≤◌, List, [], ◌∷◌, ◌++◌, length, drop, map, slice_get, Option, Some, None, option_map, refl, sym, ap, subst, suc-add, append_assoc, arith}
+use Rattle.std.proofs.Common.{◌≡◌, ◌∙◌, ℕ, zero, suc, ◌+◌, ◌≤◌, List, [], ◌∷◌, ◌++◌, length, drop, map, slice_get}
+use Rattle.std.proofs.Common.{Option, Some, None, option_map, refl, sym, ap, subst, suc-add, append_assoc, arith}
 use Rattle.std.specs.Prelude.{option_to_list}
 use Rattle.std.specs.List.{AllByRecursion}
 use Rattle.of10_actions.specs.Actions.{AreInRange}

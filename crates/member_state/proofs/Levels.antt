@@ -1,16 +1,21 @@
 -- Levels of ranks that are kept, that go, and that come.
-use Rattle.std.proofs.Common.{◌≡◌, ◌≢◌, ◌∙◌, ℕ, ◌+◌, ◌-◌, ◌/◌, ◌<◌, ◌≤◌, ◌==◌, Bool, true, false, not, cond, ◌||◌, ◌&&◌, nat_le, List, [], ◌∷◌, ◌++◌, length, filter, Option, Some, None, is_some, if◌then◌else◌, refl, sym, ap, subst, inl, inr, arith, true≢false, eqb-true, eq-eqb, ne_eqb, length-append}
+use Rattle.std.proofs.Common.{◌≡◌, ◌≢◌, ◌∙◌, ℕ, ◌+◌, ◌-◌, ◌/◌, ◌<◌, ◌≤◌, ◌==◌, Bool, true, false, not, cond, ◌||◌, ◌&&◌}
+use Rattle.std.proofs.Common.{nat_le, List, [], ◌∷◌, ◌++◌, length, filter, Option, Some, None, is_some, if◌then◌else◌}
+use Rattle.std.proofs.Common.{refl, sym, ap, subst, inl, inr, arith, true≢false, eqb-true, eq-eqb, ne_eqb}
+use Rattle.std.proofs.Common.{length-append}
 use Rattle.std.specs.List.{AllByRecursion}
 use Rattle.std.specs.Option.{IsNone}
 use Rattle.std.proofs.lemmas.Bool.{cases_lt, lt-ltb, le-ltb, leb-true}
 use Rattle.std.proofs.lemmas.Bool.Decides.{nat_tests}
 use Rattle.level_map.specs.InsidePlaces.{RanksRise, numbered}
 use Rattle.level_map.specs.Levels.{IsLevelling, IsRising, Levels, higher, level_among, level_of, lower}
-use Rattle.level_map.specs.Placing.{HasNoRoom, KeepsOthers, greatest_level, least_level, level_above, level_below, middle, placing, placing_by, placing_new, spread, with_rank}
+use Rattle.level_map.specs.Placing.{HasNoRoom, KeepsOthers, greatest_level, least_level, level_above, level_below}
+use Rattle.level_map.specs.Placing.{middle, placing, placing_by, placing_new, spread, with_rank}
 use Rattle.level_map.specs.declared.placed.Placed.{Placed}
 use Rattle.level_map.specs.declared.placed.Placed.TheVariants.{Kept, Renumbered}
 use Rattle.level_map.specs.declared.ranked.Ranked.{Ranked}
-use Rattle.level_map.proofs.Inserting.{greatest_some, higher_AllHigher, lower_AllLower, ranks_between, rising_between, room_taken}
+use Rattle.level_map.proofs.Inserting.{greatest_some, higher_AllHigher, lower_AllLower, ranks_between, rising_between}
+use Rattle.level_map.proofs.Inserting.{room_taken}
 use Rattle.level_map.proofs.Properties.{level_answered, others_kept}
 use Rattle.level_map.proofs.Rising.{ranks_of_rising}
 use Rattle.level_map.proofs.Spreading.{first_level, numbered_rising, spread_numbered}

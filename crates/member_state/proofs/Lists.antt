@@ -1,5 +1,7 @@
 -- Items that pass tests, in lists that are filtered and mapped.
-use Rattle.std.proofs.Common.{◌≡◌, ℕ, ◌+◌, ◌<◌, ◌≤◌, ◌==◌, Bool, true, false, not, cond, ◌||◌, ◌&&◌, List, [], ◌∷◌, ◌++◌, length, map, filter, drop, get_or, add-one, drop-cons, refl, sym, ap, ap₂, ◌∙◌, arith, true≢false, eqb-true, eq-eqb}
+use Rattle.std.proofs.Common.{◌≡◌, ℕ, ◌+◌, ◌<◌, ◌≤◌, ◌==◌, Bool, true, false, not, cond, ◌||◌, ◌&&◌, List, [], ◌∷◌}
+use Rattle.std.proofs.Common.{◌++◌, length, map, filter, drop, get_or, add-one, drop-cons, refl, sym, ap, ap₂, ◌∙◌}
+use Rattle.std.proofs.Common.{arith, true≢false, eqb-true, eq-eqb}
 use Rattle.std.specs.List.{list_any, AllByRecursion}
 
 pub or_false_right : (a : Bool) → (a || false) ≡ a

@@ -1,5 +1,7 @@
 -- What is planned, and what is made of it.
-use Rattle.std.proofs.Common.{◌≡◌, ◌∙◌, ℕ, ◌≤◌, ◌==◌, Bool, true, false, not, cond, ◌||◌, ◌&&◌, List, [], ◌∷◌, ◌++◌, map, filter, find, is_some, Some, None, Option, option_map, if◌then◌else◌, refl, sym, ap, ap₂, subst, arith, true≢false, eqb-true, eq-eqb, Result, Ok, Err, OnOk, OnErr}
+use Rattle.std.proofs.Common.{◌≡◌, ◌∙◌, ℕ, ◌≤◌, ◌==◌, Bool, true, false, not, cond, ◌||◌, ◌&&◌, List, [], ◌∷◌, ◌++◌}
+use Rattle.std.proofs.Common.{map, filter, find, is_some, Some, None, Option, option_map, if◌then◌else◌, refl, sym, ap}
+use Rattle.std.proofs.Common.{ap₂, subst, arith, true≢false, eqb-true, eq-eqb, Result, Ok, Err, OnOk, OnErr}
 use Rattle.std.specs.List.{AllByRecursion, list_any}
 use Rattle.std.specs.Prelude.{option_to_list}
 use Rattle.std.proofs.Math.Pow.{pow_mono}
@@ -18,12 +20,15 @@ use Rattle.member_table.proofs.Keyed.{each_found}
 use Rattle.member_table.proofs.Least.{and_true, any_weaker, push_any}
 use Rattle.member_state.specs.Changes.{entry_touched, levels_kept, table_without, touched, with_table, without}
 use Rattle.member_state.specs.InsideRanks.{HasMoreRanks, drop_planned, rank_if_added, removal_planned, without_unused}
-use Rattle.member_state.specs.Plans.{IsReady, after_planned, planned_table, ranks_of, touched_all, touched_among, without_all}
+use Rattle.member_state.specs.Plans.{IsReady, after_planned, planned_table, ranks_of, touched_all, touched_among}
+use Rattle.member_state.specs.Plans.{without_all}
 use Rattle.member_state.specs.States.{HeldState, IsKept, MemberStateOf, held_table, opening}
 use Rattle.member_state.specs.declared.planned.Planned.{Planned}
 use Rattle.member_state.proofs.Levels.{kept_rising, level_kept}
-use Rattle.member_state.proofs.Lists.{any_filter, any_map_same, eqb_flip, filter_all, filter_map_same, filter_same, filter_twice, map_id, map_same, map_twice, or_left, or_right}
-use Rattle.member_state.proofs.Ranks.{changed_rank, changed_serial, comes_with, rank_committed, stays_had, stays_or_goes}
+use Rattle.member_state.proofs.Lists.{any_filter, any_map_same, eqb_flip, filter_all, filter_map_same, filter_same}
+use Rattle.member_state.proofs.Lists.{filter_twice, map_id, map_same, map_twice, or_left, or_right}
+use Rattle.member_state.proofs.Ranks.{changed_rank, changed_serial, comes_with, rank_committed, stays_had}
+use Rattle.member_state.proofs.Ranks.{stays_or_goes}
 use Rattle.member_state.proofs.Unused.{all_kept, has, kept_alike, kept_twice, unused_gone}
 
 -- ---- entries that go besides

@@ -1,5 +1,7 @@
 -- The ranks of entries after a change.
-use Rattle.std.proofs.Common.{◌≡◌, ◌∙◌, ℕ, ◌==◌, Bool, true, false, not, cond, ◌||◌, ◌&&◌, List, [], ◌∷◌, ◌++◌, map, filter, find, Option, Some, None, option_map, if◌then◌else◌, refl, sym, ap, ap₂, true≢false, eqb-true, eq-eqb}
+use Rattle.std.proofs.Common.{◌≡◌, ◌∙◌, ℕ, ◌==◌, Bool, true, false, not, cond, ◌||◌, ◌&&◌, List, [], ◌∷◌, ◌++◌, map}
+use Rattle.std.proofs.Common.{filter, find, Option, Some, None, option_map, if◌then◌else◌, refl, sym, ap, ap₂}
+use Rattle.std.proofs.Common.{true≢false, eqb-true, eq-eqb}
 use Rattle.std.specs.Prelude.{filter_map, option_to_list}
 use Rattle.std.specs.List.{AllByRecursion, cons_option, list_any}
 use Rattle.of10_match.specs.Same.{same_match}

@@ -1,5 +1,6 @@
 -- Ranks of which no entry is left lose their levels.
-use Rattle.std.proofs.Common.{◌≡◌, ◌∙◌, ℕ, ◌==◌, Bool, true, false, not, ◌||◌, ◌&&◌, List, [], ◌∷◌, filter, is_some, Some, None, if◌then◌else◌, refl, sym, ap, true≢false, eqb-true}
+use Rattle.std.proofs.Common.{◌≡◌, ◌∙◌, ℕ, ◌==◌, Bool, true, false, not, ◌||◌, ◌&&◌, List, [], ◌∷◌, filter, is_some}
+use Rattle.std.proofs.Common.{Some, None, if◌then◌else◌, refl, sym, ap, true≢false, eqb-true}
 use Rattle.std.specs.List.{AllByRecursion, list_any}
 use Rattle.level_map.specs.InsidePlaces.{RanksRise}
 use Rattle.level_map.specs.Levels.{Levels, level_of}
@@ -11,7 +12,8 @@ use Rattle.member_table.specs.declared.entry.Entry.{Entry}
 use Rattle.member_state.specs.Changes.{levels_kept}
 use Rattle.member_state.specs.InsideRanks.{without_unused}
 use Rattle.member_state.proofs.Levels.{around, each_ranked}
-use Rattle.member_state.proofs.Lists.{filter_all, filter_same, filter_twice, filter_within, or_false_right, or_true_right}
+use Rattle.member_state.proofs.Lists.{filter_all, filter_same, filter_twice, filter_within, or_false_right}
+use Rattle.member_state.proofs.Lists.{or_true_right}
 
 -- an entry has the rank
 abbrev pub has : List Entry → ℕ → Bool

@@ -1,5 +1,6 @@
 -- Entries stay within their grant.
-use Rattle.std.proofs.Common.{◌≡◌, ◌∙◌, ℕ, zero, suc, Bool, true, false, ◌==◌, ◌||◌, not, List, [], ◌∷◌, map, filter, Option, Some, None, if◌then◌else◌, refl, sym, ap, arith, ne_eqb, ◌&&◌}
+use Rattle.std.proofs.Common.{◌≡◌, ◌∙◌, ℕ, zero, suc, Bool, true, false, ◌==◌, ◌||◌, not, List, [], ◌∷◌, map, filter}
+use Rattle.std.proofs.Common.{Option, Some, None, if◌then◌else◌, refl, sym, ap, arith, ne_eqb, ◌&&◌}
 use Rattle.std.specs.List.{AllByRecursion, list_any}
 use Rattle.of10_match.specs.Wildcards.{normal_of}
 use Rattle.of10_actions.specs.declared.effects.PortView.{PortView}
@@ -14,7 +15,8 @@ use Rattle.grants.specs.declared.grant.Grant.{Grant}
 use Rattle.grants.proofs.Accepted.{entry_granted}
 use Rattle.member_table.specs.Entries.{has_serial}
 use Rattle.member_table.specs.Refusals.{refusal}
-use Rattle.member_table.specs.Tables.{TableOf, after_asked, entry_of, identity_in, is_meant, modified, outputs_to, with_actions, with_entry}
+use Rattle.member_table.specs.Tables.{TableOf, after_asked, entry_of, identity_in, is_meant, modified, outputs_to}
+use Rattle.member_table.specs.Tables.{with_actions, with_entry}
 use Rattle.member_table.specs.Timeouts.{is_hard_due}
 use Rattle.member_table.specs.declared.entry.Entry.{Entry}
 use Rattle.member_table.proofs.Sounds.{each_filter, each_put}

@@ -1,5 +1,6 @@
 -- Why a member's FLOW_MOD is refused, once its form isn't.
-use Rattle.std.specs.Prelude.{◌≡◌, ℕ, Bool, ◌&&◌, ◌==◌, ◌-◌, List, [], ◌∷◌, Option, Some, None, is_none, length, option_map}
+use Rattle.std.specs.Prelude.{◌≡◌, ℕ, Bool, ◌&&◌, ◌==◌, ◌-◌, List, [], ◌∷◌, Option, Some, None, is_none, length}
+use Rattle.std.specs.Prelude.{option_map}
 use Rattle.of10_actions.specs.declared.effects.PortView.{PortView}
 use Rattle.of10_msgs.specs.declared.message.FlowMod.{FlowMod}
 use Rattle.grants.specs.Denials.{denial_of}

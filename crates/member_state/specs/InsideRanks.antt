@@ -1,5 +1,6 @@
 -- Ranks of entries that go, and levels that ranks lose.
-use Rattle.std.specs.Prelude.{◌≡◌, ℕ, ◌||◌, not, List, [], ◌∷◌, ◌++◌, Option, Some, None, filter, option_to_list, if◌then◌else◌}
+use Rattle.std.specs.Prelude.{◌≡◌, ℕ, ◌||◌, not, List, [], ◌∷◌, ◌++◌, Option, Some, None, filter, option_to_list}
+use Rattle.std.specs.Prelude.{if◌then◌else◌}
 use Rattle.std.specs.List.{list_any}
 use Rattle.level_map.specs.Levels.{Levels}
 use Rattle.level_map.specs.declared.ranked.Ranked.{Ranked}

@@ -1,5 +1,6 @@
 -- What an event changes in a member's state, before it is changed.
-use Rattle.std.specs.Prelude.{◌≡◌, ℕ, Bool, true, not, ◌||◌, List, is_some, filter, filter_map, find, map, option_map, if◌then◌else◌}
+use Rattle.std.specs.Prelude.{◌≡◌, ℕ, Bool, true, not, ◌||◌, List, is_some, filter, filter_map, find, map, option_map}
+use Rattle.std.specs.Prelude.{if◌then◌else◌}
 use Rattle.std.specs.List.{list_any}
 use Rattle.level_map.specs.Levels.{IsLevelling, level_of}
 use Rattle.member_table.specs.Changes.{CanCommit, committed, is_among}

@@ -1,5 +1,6 @@
 -- A table is kept whole when its parts change together.
-use Rattle.std.proofs.Common.{◌≡◌, ℕ, ◌<◌, ◌≤◌, ◌+◌, ◌-◌, ◌^◌, Bool, false, not, List, [], ◌∷◌, map, filter, find, refl, sym, ap, ap₂, subst, ◌∙◌, arith, None, count_by, is_some}
+use Rattle.std.proofs.Common.{◌≡◌, ℕ, ◌<◌, ◌≤◌, ◌+◌, ◌-◌, ◌^◌, Bool, false, not, List, [], ◌∷◌, map, filter, find, refl}
+use Rattle.std.proofs.Common.{sym, ap, ap₂, subst, ◌∙◌, arith, None, count_by, is_some}
 use Rattle.std.specs.List.{list_any}
 use Rattle.member_table.specs.Entries.{identity_of, has_serial, is_at, put}
 use Rattle.member_table.specs.InsideOrders.{OrderOf}
@@ -17,15 +18,20 @@ use Rattle.member_table.proofs.Counts.{exchange_follows, same_left}
 abbrev pub table_of : List Entry → ℕ → ℕ → TableOf
 table_of entries next limit = record { entries = entries; next = next; limit = limit }
 
-ranked_map : (f : Entry → Entry) → ((e : Entry) → ranked_of (f e) ≡ ranked_of e) → (es : List Entry) → map ranked_of (map f es) ≡ map ranked_of es
+ranked_map : (f : Entry → Entry) → ((e : Entry) → ranked_of (f e) ≡ ranked_of e) → (es : List Entry)
+    → map ranked_of (map f es) ≡ map ranked_of es
 ranked_map f same [] = refl
 ranked_map f same (e ∷ es) = ap₂ (λ x xs. x ∷ xs) (same e) (ranked_map f same es)
 
-pub kept_map : (f : Entry → Entry) → ((e : Entry) → (f e).serial ≡ e.serial) → ((e : Entry) → identity_of (f e) ≡ identity_of e) → ((e : Entry) → IsAsWritten e → IsAsWritten (f e))
-    → (next limit room : ℕ) (order order' : OrderOf) (ranks : RanksOf) → IsKept (table_of order.entries next limit) room order ranks
-    → order'.entries ≡ map f order.entries → order.room ≤ order'.room → IsKept (table_of order'.entries next limit) room order' ranks
+pub kept_map : (f : Entry → Entry) → ((e : Entry) → (f e).serial ≡ e.serial)
+    → ((e : Entry) → identity_of (f e) ≡ identity_of e) → ((e : Entry) → IsAsWritten e → IsAsWritten (f e))
+    → (next limit room : ℕ) (order order' : OrderOf) (ranks : RanksOf)
+    → IsKept (table_of order.entries next limit) room order ranks
+    → order'.entries ≡ map f order.entries → order.room ≤ order'.room
+    → IsKept (table_of order'.entries next limit) room order' ranks
 kept_map f numbers identities written next limit room order order' ranks k e r = record {
-  sound = let P : List Entry → Type 0 = λ es. IsSound (table_of es next limit) in subst P (sym e) (sound_map f numbers identities written (table_of order.entries next limit) k.sound);
+  sound = let P : List Entry → Type 0 = λ es. IsSound (table_of es next limit) in
+      subst P (sym e) (sound_map f numbers identities written (table_of order.entries next limit) k.sound);
   ranked = λ p. k.ranked p ∙ ap (count_by p) (sym (ap (map ranked_of) e ∙ ranked_map f same order.entries));
   order_room = (let a = k.order_room in omega arith);
   ranks_room = k.ranks_room;
@@ -34,35 +40,49 @@ kept_map f numbers identities written next limit room order order' ranks k e r =
     same : (e : Entry) → ranked_of (f e) ≡ ranked_of e
     same e i = record { id = numbers e i; rank = (identities e i).rank; normal = (identities e i).normal }
 
-pub kept_none : (s next limit room : ℕ) (order order' : OrderOf) (ranks : RanksOf) → IsKept (table_of order.entries next limit) room order ranks
-    → order'.entries ≡ filter (λ x. not (has_serial s x)) order.entries → order.room ≤ order'.room → None ≡ find (has_serial s) order.entries
+pub kept_none : (s next limit room : ℕ) (order order' : OrderOf) (ranks : RanksOf)
+    → IsKept (table_of order.entries next limit) room order ranks
+    → order'.entries ≡ filter (λ x. not (has_serial s x)) order.entries → order.room ≤ order'.room
+    → None ≡ find (has_serial s) order.entries
     → IsKept (table_of order'.entries next limit) room order' ranks
 kept_none s next limit room order order' ranks k es r f = record {
-  sound = let P : List Entry → Type 0 = λ es. IsSound (table_of es next limit) in subst P (sym es) (sound_filter (table_of order.entries next limit) (λ x. not (has_serial s x)) k.sound);
-  ranked = λ p. k.ranked p ∙ ap (λ xs. count_by p (map ranked_of xs)) (sym (es ∙ filter-none (has_serial s) order.entries (any_find (has_serial s) order.entries ∙ ap is_some (sym f))));
+  sound = let P : List Entry → Type 0 = λ es. IsSound (table_of es next limit) in
+      subst P (sym es) (sound_filter (table_of order.entries next limit) (λ x. not (has_serial s x)) k.sound);
+  ranked = λ p. k.ranked p ∙ ap (λ xs. count_by p (map ranked_of xs))
+      (sym (es ∙ filter-none (has_serial s) order.entries (any_find (has_serial s) order.entries
+      ∙ ap is_some (sym f))));
   order_room = (let b = k.order_room in omega arith);
   ranks_room = k.ranks_room;
 }
 
-pub kept_put : (new : Entry) (next limit room : ℕ) (order order' : OrderOf) (ranks ranks' : RanksOf) → IsKept (table_of order.entries next limit) room order ranks
-    → new.serial ≡ next → next + 2 < 2 ^ 64 → IsAsWritten new → list_any (is_blocked new) order.entries ≡ false → 0 < room
+pub kept_put : (new : Entry) (next limit room : ℕ) (order order' : OrderOf) (ranks ranks' : RanksOf)
+    → IsKept (table_of order.entries next limit) room order ranks
+    → new.serial ≡ next → next + 2 < 2 ^ 64 → IsAsWritten new → list_any (is_blocked new) order.entries ≡ false
+    → 0 < room
     → order'.entries ≡ put new order.entries → order.room ≤ order'.room + 1
-    → Exchanges (find (is_at (identity_of new)) order.entries) (ranked_of new) ranks.items ranks'.items → ranks.room ≤ ranks'.room + 1
+    → Exchanges (find (is_at (identity_of new)) order.entries) (ranked_of new) ranks.items ranks'.items
+    → ranks.room ≤ ranks'.room + 1
     → IsKept (table_of order'.entries (next + 1) limit) (room - 1) order' ranks'
 kept_put new next limit room order order' ranks ranks' k n more written b z es r x q = record {
-  sound = let P : List Entry → Type 0 = λ es. IsSound (table_of es (next + 1) limit) in subst P (sym es) (sound_put (table_of order.entries next limit) new k.sound n more written b);
-  ranked = λ p. exchange_follows new order.entries ranks.items ranks'.items k.sound.once k.ranked x p ∙ ap (λ xs. count_by p (map ranked_of xs)) (sym es);
+  sound = let P : List Entry → Type 0 = λ es. IsSound (table_of es (next + 1) limit) in
+      subst P (sym es) (sound_put (table_of order.entries next limit) new k.sound n more written b);
+  ranked = λ p. exchange_follows new order.entries ranks.items ranks'.items k.sound.once k.ranked x p
+      ∙ ap (λ xs. count_by p (map ranked_of xs)) (sym es);
   order_room = (let b = k.order_room in omega arith);
   ranks_room = (let b = k.ranks_room in omega arith);
 }
 
 -- entries go, and with them what the ranking has of them
-pub kept_filter : (g : Item → Bool) (next limit room : ℕ) (order order' : OrderOf) (ranks ranks' : RanksOf) → IsKept (table_of order.entries next limit) room order ranks
-    → order'.entries ≡ filter (λ e. g (ranked_of e)) order.entries → order.room ≤ order'.room → SameItems (filter g ranks.items) ranks'.items → ranks.room ≤ ranks'.room
+pub kept_filter : (g : Item → Bool) (next limit room : ℕ) (order order' : OrderOf) (ranks ranks' : RanksOf)
+    → IsKept (table_of order.entries next limit) room order ranks
+    → order'.entries ≡ filter (λ e. g (ranked_of e)) order.entries → order.room ≤ order'.room
+    → SameItems (filter g ranks.items) ranks'.items → ranks.room ≤ ranks'.room
     → IsKept (table_of order'.entries next limit) room order' ranks'
 kept_filter g next limit room order order' ranks ranks' k es r items q = record {
-  sound = let P : List Entry → Type 0 = λ xs. IsSound (table_of xs next limit) in subst P (sym es) (sound_filter (table_of order.entries next limit) (λ e. g (ranked_of e)) k.sound);
-  ranked = λ p. same_left g ranks.items ranks'.items order.entries k.ranked items p ∙ ap (λ xs. count_by p (map ranked_of xs)) (sym es);
+  sound = let P : List Entry → Type 0 = λ xs. IsSound (table_of xs next limit) in
+      subst P (sym es) (sound_filter (table_of order.entries next limit) (λ e. g (ranked_of e)) k.sound);
+  ranked = λ p. same_left g ranks.items ranks'.items order.entries k.ranked items p
+      ∙ ap (λ xs. count_by p (map ranked_of xs)) (sym es);
   order_room = (let b = k.order_room in omega arith);
   ranks_room = (let b = k.ranks_room in omega arith);
 }

@@ -1,12 +1,15 @@
 -- What passes a test.
-use Rattle.std.proofs.Common.{◌≡◌, Bool, true, false, ◌||◌, ◌&&◌, List, [], ◌∷◌, ◌++◌, refl, sym, ap, ap₂, ◌∙◌, true≢false}
+use Rattle.std.proofs.Common.{◌≡◌, Bool, true, false, ◌||◌, ◌&&◌, List, [], ◌∷◌, ◌++◌, refl, sym, ap, ap₂, ◌∙◌}
+use Rattle.std.proofs.Common.{true≢false}
 use Rattle.std.specs.List.{list_any}
 use Rattle.member_table.proofs.Lists.{or_false}
 
 -- where a weaker test fails everywhere, a stronger one does
-pub any_stronger : {X : Type 0} (p q : X → Bool) → ((x : X) → q x ≡ true → p x ≡ true) → (xs : List X) → list_any p xs ≡ false → list_any q xs ≡ false
+pub any_stronger : {X : Type 0} (p q : X → Bool) → ((x : X) → q x ≡ true → p x ≡ true) → (xs : List X)
+    → list_any p xs ≡ false → list_any q xs ≡ false
 any_stronger p q w [] h = refl
-any_stronger p q w (x ∷ xs) h = let o = or_false (p x) (list_any p xs) h in by (q x) refl o.0 (any_stronger p q w xs o.1)
+any_stronger p q w (x ∷ xs) h = let o = or_false (p x) (list_any p xs) h in
+    by (q x) refl o.0 (any_stronger p q w xs o.1)
   where
     by : (b : Bool) → q x ≡ b → p x ≡ false → list_any q xs ≡ false → (q x || list_any q xs) ≡ false
     by true e n r = absurd (true≢false (sym (w x e) ∙ n))
@@ -29,7 +32,8 @@ push_any q (y ∷ xs) x = ap (λ b. q y || b) (push_any q xs x) ∙ or_assoc (q 
     or_assoc false b c = refl
 
 -- where a stronger test passes somewhere, a weaker one does
-pub any_weaker : {X : Type 0} (p q : X → Bool) → ((x : X) → p x ≡ true → q x ≡ true) → (xs : List X) → list_any p xs ≡ true → list_any q xs ≡ true
+pub any_weaker : {X : Type 0} (p q : X → Bool) → ((x : X) → p x ≡ true → q x ≡ true) → (xs : List X)
+    → list_any p xs ≡ true → list_any q xs ≡ true
 any_weaker p q w xs h = by (list_any q xs) refl
   where
     by : (b : Bool) → list_any q xs ≡ b → list_any q xs ≡ true

@@ -1,5 +1,8 @@
 -- The ranks of the matches that come and go.
-use Rattle.std.proofs.Common.{◌≡◌, ℕ, ◌+◌, Bool, true, false, not, cond, ◌||◌, ◌&&◌, ◌==◌, ◌++◌, List, [], ◌∷◌, map, filter, find, refl, sym, ap, subst, ◌∙◌, arith, Option, Some, None, count_by, option_map, option_to_list, eq-eqb, eqb-true, nat_lt, true≢false, ne_eqb, ◌-◌, unwrap_or, if◌then◌else◌, zero, suc, length, take, get_or, ◌<◌}
+use Rattle.std.proofs.Common.{◌≡◌, ℕ, ◌+◌, Bool, true, false, not, cond, ◌||◌, ◌&&◌, ◌==◌, ◌++◌, List, [], ◌∷◌, map}
+use Rattle.std.proofs.Common.{filter, find, refl, sym, ap, subst, ◌∙◌, arith, Option, Some, None, count_by, option_map}
+use Rattle.std.proofs.Common.{option_to_list, eq-eqb, eqb-true, nat_lt, true≢false, ne_eqb, ◌-◌, unwrap_or}
+use Rattle.std.proofs.Common.{if◌then◌else◌, zero, suc, length, take, get_or, ◌<◌}
 use Rattle.std.specs.Prelude.{IsPermutation}
 use Rattle.std.specs.List.{list_any, AllByRecursion, AllZip, IsDistinct}
 use Rattle.std.specs.Option.{option_eq}
@@ -26,7 +29,8 @@ other : (a b : ℕ) → (a == b) ≡ false → (b == a) ≡ false
 other a b e = ne_eqb b a (λ s. true≢false (sym (eq-eqb a b (sym s)) ∙ e))
 
 -- what is counted where one rank has another count
-pub counted_set : (counts : ℕ → Option ℕ) (rank n m q : ℕ) → n ≡ m → unwrap_or (cond (rank == q) (Some n) (counts q)) 0 ≡ (if rank == q then m else count_at counts q)
+pub counted_set : (counts : ℕ → Option ℕ) (rank n m q : ℕ) → n ≡ m
+    → unwrap_or (cond (rank == q) (Some n) (counts q)) 0 ≡ (if rank == q then m else count_at counts q)
 counted_set counts rank n m q e = by (rank == q)
   where
     by : (b : Bool) → unwrap_or (cond b (Some n) (counts q)) 0 ≡ (if b then m else count_at counts q)
@@ -34,7 +38,8 @@ counted_set counts rank n m q e = by (rank == q)
     by false = refl
 
 -- what is counted without one rank
-pub counted_out : (counts : ℕ → Option ℕ) (rank m q : ℕ) → 0 ≡ m → unwrap_or (cond (rank == q) None (counts q)) 0 ≡ (if rank == q then m else count_at counts q)
+pub counted_out : (counts : ℕ → Option ℕ) (rank m q : ℕ) → 0 ≡ m
+    → unwrap_or (cond (rank == q) None (counts q)) 0 ≡ (if rank == q then m else count_at counts q)
 counted_out counts rank m q e = by (rank == q)
   where
     by : (b : Bool) → unwrap_or (cond b None (counts q)) 0 ≡ (if b then m else count_at counts q)
@@ -43,10 +48,12 @@ counted_out counts rank m q e = by (rank == q)
 
 -- one item more
 pub counted_more : (counts counts' : ℕ → Option ℕ) (items : List Item) (x : Item) → AreCounted counts items
-    → ((q : ℕ) → count_at counts' q ≡ (if x.rank == q then count_at counts x.rank + 1 else count_at counts q)) → AreCounted counts' (items ++ x ∷ [])
+    → ((q : ℕ) → count_at counts' q ≡ (if x.rank == q then count_at counts x.rank + 1 else count_at counts q))
+    → AreCounted counts' (items ++ x ∷ [])
 counted_more counts counts' items x a more q = by (x.rank == q) refl
   where
-    split : count_by (λ (r : Item). q == r.rank) (items ++ x ∷ []) ≡ count_by (λ (r : Item). q == r.rank) items + one (q == x.rank)
+    split : count_by (λ (r : Item). q == r.rank) (items ++ x ∷ [])
+        ≡ count_by (λ (r : Item). q == r.rank) items + one (q == x.rank)
     split =
         let both = count-append (λ (r : Item). q == r.rank) items (x ∷ []) in
         let alone = count-cons (λ (r : Item). q == r.rank) x [] in omega (arith, both, alone)
@@ -68,20 +75,26 @@ counted_more counts counts' items x a more q = by (x.rank == q) refl
         omega (arith, kept, before, missed, parts)
 
 -- one item less
-pub counted_less : (p : Item → Bool) (rank : ℕ) (counts counts' : ℕ → Option ℕ) (items items' : List Item) → AreCounted counts items
+pub counted_less : (p : Item → Bool) (rank : ℕ) (counts counts' : ℕ → Option ℕ) (items items' : List Item)
+    → AreCounted counts items
     → ((q : ℕ) → count_at counts' q ≡ (if rank == q then count_at counts rank - 1 else count_at counts q))
-    → Some rank ≡ option_map (λ (e : Item). e.rank) (find p items) → IsPermutation items (option_to_list (find p items) ++ items') → AreCounted counts' items'
+    → Some rank ≡ option_map (λ (e : Item). e.rank) (find p items)
+    → IsPermutation items (option_to_list (find p items) ++ items') → AreCounted counts' items'
 counted_less p rank counts counts' items items' a less found h q = each (find p items) found h
   where
-    each : (o : Option Item) → Some rank ≡ option_map (λ (e : Item). e.rank) o → IsPermutation items (option_to_list o ++ items') → count_at counts' q ≡ count_by (λ (r : Item). q == r.rank) items'
+    each : (o : Option Item) → Some rank ≡ option_map (λ (e : Item). e.rank) o
+        → IsPermutation items (option_to_list o ++ items')
+        → count_at counts' q ≡ count_by (λ (r : Item). q == r.rank) items'
     each None e g = absurd (cc)
     each (Some x) e g = by (rank == q) refl
       where
         is : rank ≡ x.rank
         is = some_is rank x.rank e
 
-        split : count_by (λ (r : Item). q == r.rank) items ≡ one (q == x.rank) + count_by (λ (r : Item). q == r.rank) items'
-        split = sym (count-permuted (λ (r : Item). q == r.rank) items (x ∷ items') g) ∙ count-cons (λ (r : Item). q == r.rank) x items'
+        split : count_by (λ (r : Item). q == r.rank) items
+            ≡ one (q == x.rank) + count_by (λ (r : Item). q == r.rank) items'
+        split = sym (count-permuted (λ (r : Item). q == r.rank) items (x ∷ items') g)
+            ∙ count-cons (λ (r : Item). q == r.rank) x items'
 
         by : (b : Bool) → (rank == q) ≡ b → count_at counts' q ≡ count_by (λ (r : Item). q == r.rank) items'
         by true t =
@@ -105,7 +118,8 @@ unfolding IsDistinct
 once_id s [] d = tt
 once_id s (e ∷ es) d = (λ t. none es d.0 (eqb-true s e.id t), once_id s es d.1)
   where
-    none : (xs : List Item) → AllByRecursion (λ y. (e.id == y) ≡ false) (map (λ (x : Item). x.id) xs) → s ≡ e.id → list_any (has_id s) xs ≡ false
+    none : (xs : List Item) → AllByRecursion (λ y. (e.id == y) ≡ false) (map (λ (x : Item). x.id) xs) → s ≡ e.id
+        → list_any (has_id s) xs ≡ false
     none [] a t = refl
     none (x ∷ xs) a t = rw (ap (λ k. k == x.id) t ∙ a.0) (none xs a.1 t)
 
@@ -114,11 +128,14 @@ pub all_remain : (place : Option ℕ) (xs : List Item) → filter (remains [] pl
 all_remain place [] = refl
 all_remain place (x ∷ xs) = ap (λ ys. x ∷ ys) (all_remain place xs)
 
-named_more : (rest : List ℕ) (s : ℕ) (place : Option ℕ) (x : Item) → remains (rest ++ s ∷ []) place x ≡ (not (is_among rest x.id || (s == x.id)) || is_number place x.id)
+named_more : (rest : List ℕ) (s : ℕ) (place : Option ℕ) (x : Item)
+    → remains (rest ++ s ∷ []) place x ≡ (not (is_among rest x.id || (s == x.id)) || is_number place x.id)
 named_more rest s place x = ap (λ b. not b || is_number place x.id) (push_any (λ k. k == x.id) rest s)
 
-one_gone : (rest : List ℕ) (s : ℕ) (place : Option ℕ) → option_eq ◌==◌ place (Some s) ≡ false → (x : Item) → (remains rest place x && not (has_id s x)) ≡ remains (rest ++ s ∷ []) place x
-one_gone rest s place n x = by (is_among rest x.id) (s == x.id) (is_number place x.id) (not_number place s x.id n) ∙ sym (named_more rest s place x)
+one_gone : (rest : List ℕ) (s : ℕ) (place : Option ℕ) → option_eq ◌==◌ place (Some s) ≡ false → (x : Item)
+    → (remains rest place x && not (has_id s x)) ≡ remains (rest ++ s ∷ []) place x
+one_gone rest s place n x = by (is_among rest x.id) (s == x.id) (is_number place x.id) (not_number place s x.id n)
+    ∙ sym (named_more rest s place x)
   where
     by : (a b c : Bool) → (b ≡ true → c ≡ false) → ((not a || c) && not b) ≡ (not (a || b) || c)
     by true true true h = sym (h refl)
@@ -130,8 +147,10 @@ one_gone rest s place n x = by (is_among rest x.id) (s == x.id) (is_number place
     by false false c h = refl
 
 -- one that goes, after others
-pub gone_next : (rest : List ℕ) (s : ℕ) (place : Option ℕ) (all before after : List Item) → option_eq ◌==◌ place (Some s) ≡ false → SameItems (filter (remains rest place) all) before
-    → SameItems (filter (λ r. not (has_id s r)) before) after → SameItems (filter (remains (rest ++ s ∷ []) place) all) after
+pub gone_next : (rest : List ℕ) (s : ℕ) (place : Option ℕ) (all before after : List Item)
+    → option_eq ◌==◌ place (Some s) ≡ false → SameItems (filter (remains rest place) all) before
+    → SameItems (filter (λ r. not (has_id s r)) before) after
+    → SameItems (filter (remains (rest ++ s ∷ []) place) all) after
 gone_next rest s place all before after n b a p =
     count-filter p (remains (rest ++ s ∷ []) place) all
     ∙ (ap (λ (t : Item → Bool). count_by t all) pointwise
@@ -143,13 +162,16 @@ gone_next rest s place all before after n b a p =
     and_and false b c = refl
 
     at : (r : Item) → (remains (rest ++ s ∷ []) place r && p r) ≡ (remains rest place r && (not (has_id s r) && p r))
-    at r = ap (λ b. b && p r) (sym (one_gone rest s place n r)) ∙ and_and (remains rest place r) (not (has_id s r)) (p r)
+    at r = ap (λ b. b && p r) (sym (one_gone rest s place n r))
+        ∙ and_and (remains rest place r) (not (has_id s r)) (p r)
 
-    pointwise : ◌≡◌ {A = Item → Bool} (λ r. remains (rest ++ s ∷ []) place r && p r) (λ r. remains rest place r && (not (has_id s r) && p r))
+    pointwise : ◌≡◌ {A = Item → Bool} (λ r. remains (rest ++ s ∷ []) place r && p r)
+        (λ r. remains rest place r && (not (has_id s r) && p r))
     pointwise i = λ r. at r i
 
 -- the one whose place is taken remains
-pub kept_next : (rest : List ℕ) (s : ℕ) (place : Option ℕ) (all : List Item) → option_eq ◌==◌ place (Some s) ≡ true → filter (remains rest place) all ≡ filter (remains (rest ++ s ∷ []) place) all
+pub kept_next : (rest : List ℕ) (s : ℕ) (place : Option ℕ) (all : List Item) → option_eq ◌==◌ place (Some s) ≡ true
+    → filter (remains rest place) all ≡ filter (remains (rest ++ s ∷ []) place) all
 kept_next rest s None all e = absurd (true≢false (sym e))
 kept_next rest s (Some k) all e = ap (λ (t : Item → Bool). filter t all) pointwise
   where
@@ -160,7 +182,9 @@ kept_next rest s (Some k) all e = ap (λ (t : Item → Bool). filter t all) poin
     both false false = refl
 
     at : (r : Item) → remains rest (Some k) r ≡ remains (rest ++ s ∷ []) (Some k) r
-    at r = both (is_among rest r.id) (k == r.id) ∙ (ap (λ n. not (is_among rest r.id || (n == r.id)) || (k == r.id)) (eqb-true k s e) ∙ sym (named_more rest s (Some k) r))
+    at r = both (is_among rest r.id) (k == r.id)
+        ∙ (ap (λ n. not (is_among rest r.id || (n == r.id)) || (k == r.id)) (eqb-true k s e)
+        ∙ sym (named_more rest s (Some k) r))
 
     pointwise : ◌≡◌ {A = Item → Bool} (remains rest (Some k)) (remains (rest ++ s ∷ []) (Some k))
     pointwise i = λ r. at r i
@@ -187,14 +211,21 @@ not_false true e = refl
 not_false false e = sym e
 
 -- the next of the numbers goes
-pub goes_next : (serials : List ℕ) (i d : ℕ) (place : Option ℕ) (all before after : List Item) → i < length serials → not (option_eq ◌==◌ place (Some (get_or serials i d))) ≡ true
-    → SameItems (filter (remains (take i serials) place) all) before → SameItems (filter (λ r. not (has_id (get_or serials i d) r)) before) after → SameItems (filter (remains (take (i + 1) serials) place) all) after
+pub goes_next : (serials : List ℕ) (i d : ℕ) (place : Option ℕ) (all before after : List Item) → i < length serials
+    → not (option_eq ◌==◌ place (Some (get_or serials i d))) ≡ true
+    → SameItems (filter (remains (take i serials) place) all) before
+    → SameItems (filter (λ r. not (has_id (get_or serials i d) r)) before) after
+    → SameItems (filter (remains (take (i + 1) serials) place) all) after
 goes_next serials i d place all before after h n b a =
     let S : List ℕ → Type 0 = λ ss. SameItems (filter (remains ss place) all) after in
-    subst S (sym (take_next serials i d h)) (gone_next (take i serials) (get_or serials i d) place all before after (not_true _ n) b a)
+    subst S (sym (take_next serials i d h))
+    (gone_next (take i serials) (get_or serials i d) place all before after (not_true _ n) b a)
 
 -- or it is that of the place that is taken
-pub stays_next : (serials : List ℕ) (i d : ℕ) (place : Option ℕ) (all before : List Item) → i < length serials → not (option_eq ◌==◌ place (Some (get_or serials i d))) ≡ false
-    → SameItems (filter (remains (take i serials) place) all) before → SameItems (filter (remains (take (i + 1) serials) place) all) before
+pub stays_next : (serials : List ℕ) (i d : ℕ) (place : Option ℕ) (all before : List Item) → i < length serials
+    → not (option_eq ◌==◌ place (Some (get_or serials i d))) ≡ false
+    → SameItems (filter (remains (take i serials) place) all) before
+    → SameItems (filter (remains (take (i + 1) serials) place) all) before
 stays_next serials i d place all before h n b p =
-    ap (λ ss. count_by p (filter (remains ss place) all)) (take_next serials i d h) ∙ (ap (count_by p) (sym (kept_next (take i serials) (get_or serials i d) place all (not_false _ n))) ∙ b p)
+    ap (λ ss. count_by p (filter (remains ss place) all)) (take_next serials i d h)
+    ∙ (ap (count_by p) (sym (kept_next (take i serials) (get_or serials i d) place all (not_false _ n))) ∙ b p)

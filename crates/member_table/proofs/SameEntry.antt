@@ -6,12 +6,15 @@ use Rattle.of10_match.specs.Same.{same_match}
 use Rattle.of10_match.proofs.Same.{match_decides}
 use Rattle.of10_actions.specs.contracts.action.ActionPartialEq.TheImpl.{ghosts as derived_action}
 use Rattle.of10_actions.specs.declared.action.Action.{Action}
-use Rattle.of10_actions.specs.declared.action.Action.TheVariants.{Output, SetVlanVid, SetVlanPcp, StripVlan, SetDlSrc, SetDlDst, SetNwSrc, SetNwDst, SetNwTos, SetTpSrc, SetTpDst, Enqueue}
+use Rattle.of10_actions.specs.declared.action.Action.TheVariants.{Output, SetVlanVid, SetVlanPcp, StripVlan, SetDlSrc}
+use Rattle.of10_actions.specs.declared.action.Action.TheVariants.{SetDlDst, SetNwSrc, SetNwDst, SetNwTos, SetTpSrc}
+use Rattle.of10_actions.specs.declared.action.Action.TheVariants.{SetTpDst, Enqueue}
 use Rattle.member_table.specs.declared.entry.Entry.{Entry}
 use Rattle.member_table.proofs.Least.{and_true}
 
 action-is : (a b : Action) → derived_action.eq a b ≡ true → a ≡ b
-action-is (Output p n) (Output q m) e = let s = and_true (p == q) (n == m) e in λ i. Output (eqb-true p q s.0 i) (eqb-true n m s.1 i)
+action-is (Output p n) (Output q m) e = let s = and_true (p == q) (n == m) e in
+    λ i. Output (eqb-true p q s.0 i) (eqb-true n m s.1 i)
 action-is (SetVlanVid v) (SetVlanVid w) e = ap SetVlanVid (eqb-true v w e)
 action-is (SetVlanPcp v) (SetVlanPcp w) e = ap SetVlanPcp (eqb-true v w e)
 action-is StripVlan StripVlan e = refl
@@ -22,7 +25,8 @@ action-is (SetNwDst v) (SetNwDst w) e = ap SetNwDst (eqb-true v w e)
 action-is (SetNwTos v) (SetNwTos w) e = ap SetNwTos (eqb-true v w e)
 action-is (SetTpSrc v) (SetTpSrc w) e = ap SetTpSrc (eqb-true v w e)
 action-is (SetTpDst v) (SetTpDst w) e = ap SetTpDst (eqb-true v w e)
-action-is (Enqueue p n) (Enqueue q m) e = let s = and_true (p == q) (n == m) e in λ i. Enqueue (eqb-true p q s.0 i) (eqb-true n m s.1 i)
+action-is (Enqueue p n) (Enqueue q m) e = let s = and_true (p == q) (n == m) e in
+    λ i. Enqueue (eqb-true p q s.0 i) (eqb-true n m s.1 i)
 action-is _ _ e = cc
 
 action-self : (a : Action) → derived_action.eq a a ≡ true
@@ -47,8 +51,13 @@ number_and : {P : Type 0} (a b : ℕ) (rest : Bool) → Decides rest P → Decid
 number_and a b rest d = Decides-and (a == b) rest (Decides-eqb a b) d
 
 pub entry_decides : (d e : Entry) → Decides
-    ((d.serial == e.serial) && (pointwise ◌==◌ d.raw e.raw && (same_match d.normal e.normal && ((d.priority == e.priority) && ((d.rank == e.rank) && ((d.cookie == e.cookie) && ((d.idle == e.idle) && ((d.hard == e.hard)
-    && ((d.flags == e.flags) && (pointwise derived_action.eq d.actions e.actions && ((d.added == e.added) && (d.last == e.last))))))))))))
+    ((d.serial == e.serial) &&
+    (pointwise ◌==◌ d.raw e.raw &&
+    (same_match d.normal e.normal &&
+    ((d.priority == e.priority) &&
+    ((d.rank == e.rank) && ((d.cookie == e.cookie) && ((d.idle == e.idle) && ((d.hard == e.hard)
+    && ((d.flags == e.flags) &&
+    (pointwise derived_action.eq d.actions e.actions && ((d.added == e.added) && (d.last == e.last))))))))))))
     (d ≡ e)
 entry_decides d e =
     Decides-like _
@@ -78,13 +87,29 @@ entry_decides d e =
               ap (λ (z : Entry). z.rank) s,
               (
                 ap (λ (z : Entry). z.cookie) s,
-                (ap (λ (z : Entry). z.idle) s, (ap (λ (z : Entry). z.hard) s, (ap (λ (z : Entry). z.flags) s, (ap (λ (z : Entry). z.actions) s, (ap (λ (z : Entry). z.added) s, ap (λ (z : Entry). z.last) s))))),
+                (
+                  ap (λ (z : Entry). z.idle) s,
+                  (
+                    ap (λ (z : Entry). z.hard) s,
+                    (
+                      ap (λ (z : Entry). z.flags) s,
+                      (ap (λ (z : Entry). z.actions) s, (ap (λ (z : Entry). z.added) s, ap (λ (z : Entry). z.last) s)),
+                    ),
+                  ),
+                ),
               ),
             ),
           ),
         ),
       ),
     ))
-    (number_and d.serial e.serial _ (Decides-and (pointwise ◌==◌ d.raw e.raw) _ (pointwise_decides Decides-eqb d.raw e.raw) (Decides-and (same_match d.normal e.normal) _ (match_decides d.normal e.normal)
-    (number_and d.priority e.priority _ (number_and d.rank e.rank _ (number_and d.cookie e.cookie _ (number_and d.idle e.idle _ (number_and d.hard e.hard _ (number_and d.flags e.flags _
-    (Decides-and (pointwise derived_action.eq d.actions e.actions) _ (pointwise_decides action_decides d.actions e.actions) (number_and d.added e.added _ (Decides-eqb d.last e.last))))))))))))
+    (number_and d.serial e.serial _
+    (Decides-and (pointwise ◌==◌ d.raw e.raw) _ (pointwise_decides Decides-eqb d.raw e.raw)
+    (Decides-and (same_match d.normal e.normal) _ (match_decides d.normal e.normal)
+    (number_and d.priority e.priority _
+    (number_and d.rank e.rank _
+    (number_and d.cookie e.cookie _
+    (number_and d.idle e.idle _ (number_and d.hard e.hard _ (number_and d.flags e.flags _
+    (Decides-and (pointwise derived_action.eq d.actions e.actions) _
+    (pointwise_decides action_decides d.actions e.actions)
+    (number_and d.added e.added _ (Decides-eqb d.last e.last))))))))))))

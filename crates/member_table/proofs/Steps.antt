@@ -12,15 +12,20 @@ use Rattle.member_table.proofs.Lists.{IsFirst, or_false}
 -- the test of equality of identities decides it
 pub identity_decides : (a b : Identity) → Decides (same_identity a b) (a ≡ b)
 identity_decides a b =
-    Decides-like (same_identity a b) (λ (t : (a.rank ≡ b.rank) × (a.normal ≡ b.normal)). λ i. record { rank = t.0 i; normal = t.1 i })
+    Decides-like (same_identity a b)
+    (λ (t : (a.rank ≡ b.rank) × (a.normal ≡ b.normal)). λ i. record { rank = t.0 i; normal = t.1 i })
     (λ e. (ap (λ (z : Identity). z.rank) e, ap (λ (z : Identity). z.normal) e))
-    (Decides-and (a.rank == b.rank) (same_match a.normal b.normal) (Decides-eqb a.rank b.rank) (match_decides a.normal b.normal))
+    (Decides-and (a.rank == b.rank) (same_match a.normal b.normal) (Decides-eqb a.rank b.rank)
+    (match_decides a.normal b.normal))
 
-pub put-first : (new : Entry) (es : List Entry) (i : ℕ) → IsFirst (is_at (identity_of new)) es i → put new es ≡ set es i new
+pub put-first : (new : Entry) (es : List Entry) (i : ℕ) → IsFirst (is_at (identity_of new)) es i
+    → put new es ≡ set es i new
 put-first new [] i h = absurd h
 put-first new (e ∷ es) zero h = rw h refl
 put-first new (e ∷ es) (suc i) h = rw h.0 (ap (λ xs. e ∷ xs) (put-first new es i h.1))
 
-pub put-none : (new : Entry) (es : List Entry) → list_any (is_at (identity_of new)) es ≡ false → put new es ≡ es ++ new ∷ []
+pub put-none : (new : Entry) (es : List Entry) → list_any (is_at (identity_of new)) es ≡ false
+    → put new es ≡ es ++ new ∷ []
 put-none new [] h = refl
-put-none new (e ∷ es) h = let o = or_false (is_at (identity_of new) e) (list_any (is_at (identity_of new)) es) h in rw o.0 (ap (λ xs. e ∷ xs) (put-none new es o.1))
+put-none new (e ∷ es) h = let o = or_false (is_at (identity_of new) e) (list_any (is_at (identity_of new)) es) h in
+    rw o.0 (ap (λ xs. e ∷ xs) (put-none new es o.1))

@@ -1,5 +1,6 @@
 -- What a change makes of a table, and when it can be made.
-use Rattle.std.specs.Prelude.{◌≡◌, ℕ, ◌+◌, ◌<◌, ◌^◌, ◌==◌, ◌||◌, ◌&&◌, not, Bool, false, List, [], ◌∷◌, map, filter, find, Option, Some, None, is_some, IfSome, option_map, if◌then◌else◌}
+use Rattle.std.specs.Prelude.{◌≡◌, ℕ, ◌+◌, ◌<◌, ◌^◌, ◌==◌, ◌||◌, ◌&&◌, not, Bool, false, List, [], ◌∷◌, map, filter}
+use Rattle.std.specs.Prelude.{find, Option, Some, None, is_some, IfSome, option_map, if◌then◌else◌}
 use Rattle.std.specs.List.{list_any, AllByRecursion}
 use Rattle.of10_actions.specs.Actions.{AreInRange}
 use Rattle.member_table.specs.Entries.{identity_of, is_at, is_near, put}
@@ -40,7 +41,9 @@ with_added (Some new) es = put new es
 -- the table after a change
 abbrev pub committed : TableOf → Change → TableOf
 committed t c = record t {
-  entries = with_added c.added (map (changed_by c.modified) (filter (stays c.removed (replaced c.added t.entries)) t.entries));
+  entries =
+      with_added c.added
+      (map (changed_by c.modified) (filter (stays c.removed (replaced c.added t.entries)) t.entries));
   next = (if is_some c.added then t.next + 1 else t.next);
 }
 
@@ -50,7 +53,8 @@ pub record CanAdd (held : Held) (removed : List ℕ) (new : Entry) : Type 0 wher
   pub serial : new.serial ≡ held.table.next
   pub more : held.table.next + 2 < 2 ^ 64
   pub written : IsAsWritten new
-  pub apart : list_any (λ e. stays removed (replaced (Some new) held.table.entries) e && (is_near (identity_of new) (identity_of e) && not (is_at (identity_of new) e))) held.table.entries ≡ false
+  pub apart : list_any (λ e. stays removed (replaced (Some new) held.table.entries) e &&
+      (is_near (identity_of new) (identity_of e) && not (is_at (identity_of new) e))) held.table.entries ≡ false
   pub room : 0 < held.room
 
 -- other actions, with their numbers in their ranges

@@ -1,5 +1,6 @@
 -- Entries in the order of insertion, found by serial number and by identity.
-use Rattle.std.specs.Prelude.{◌≡◌, ℕ, ◌==◌, List, [], ◌∷◌, ◌++◌, Option, Some, None, map, filter_map, find, option_map, nat_eq, position, remove, slice_set}
+use Rattle.std.specs.Prelude.{◌≡◌, ℕ, ◌==◌, List, [], ◌∷◌, ◌++◌, Option, Some, None, map, filter_map, find, option_map}
+use Rattle.std.specs.Prelude.{nat_eq, position, remove, slice_set}
 use Rattle.std.specs.List.{IsDistinct}
 use Rattle.member_table.specs.Entries.{has_serial, identity_of, is_at, same_identity}
 use Rattle.member_table.specs.declared.entry.Entry.{Entry}

@@ -1,5 +1,6 @@
 -- The changes that messages ask for.
-use Rattle.std.specs.Prelude.{ℕ, ◌&&◌, Bool, true, false, List, [], map, Option, Some, None, option_to_list, if◌then◌else◌}
+use Rattle.std.specs.Prelude.{ℕ, ◌&&◌, Bool, true, false, List, [], map, Option, Some, None, option_to_list}
+use Rattle.std.specs.Prelude.{if◌then◌else◌}
 use Rattle.std.specs.List.{list_any}
 use Rattle.of10_actions.specs.declared.action.Action.{Action}
 use Rattle.of10_msgs.specs.Commands.{command_at}
@@ -18,7 +19,11 @@ adding new replaced = record { added = Some new; removed = option_to_list replac
 
 -- entries get other actions
 abbrev pub changing : List Action → List ℕ → Change
-changing actions serials = record { added = None; removed = []; modified = map (λ s. record { serial = s; actions = actions }) serials }
+changing actions serials = record {
+  added = None;
+  removed = [];
+  modified = map (λ s. record { serial = s; actions = actions }) serials;
+}
 
 -- entries go
 abbrev pub removing : List ℕ → Change

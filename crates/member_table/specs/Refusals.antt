@@ -1,5 +1,6 @@
 -- When a message is refused.
-use Rattle.std.specs.Prelude.{◌≡◌, ℕ, ◌&&◌, not, nat_le, min, Bool, true, false, List, [], ◌∷◌, length, map, filter, Option, Some, None, if◌then◌else◌}
+use Rattle.std.specs.Prelude.{◌≡◌, ℕ, ◌&&◌, not, nat_le, min, Bool, true, false, List, [], ◌∷◌, length, map, filter}
+use Rattle.std.specs.Prelude.{Option, Some, None, if◌then◌else◌}
 use Rattle.std.specs.List.{list_any}
 use Rattle.of10_msgs.specs.Commands.{command_at}
 use Rattle.of10_msgs.specs.declared.message.FlowMod.{FlowMod}
@@ -43,7 +44,8 @@ refusal_of new t = refusal_by (overlapped new t.entries) new t
 
 -- why a MODIFY is refused: where it means no entry, it adds one
 abbrev pub refusal_unless : Bool → TableOf → FlowMod → Option TableFault
-refusal_unless strict t m = if list_any (is_meant strict (identity_in m)) t.entries then None else refusal_of (identity_in m) t
+refusal_unless strict t m = if list_any (is_meant strict (identity_in m)) t.entries then None
+    else refusal_of (identity_in m) t
 
 -- why a command is refused
 abbrev pub refusal_by_command : Command → TableOf → FlowMod → Option TableFault

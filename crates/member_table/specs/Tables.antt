@@ -1,5 +1,6 @@
 -- A member's table, and what a message makes of it (sections 4.6 and 5.3.3 of the standard).
-use Rattle.std.specs.Prelude.{ℕ, ◌+◌, ◌==◌, ◌||◌, ◌&&◌, not, Bool, true, false, List, map, filter, Option, Some, None, if◌then◌else◌}
+use Rattle.std.specs.Prelude.{ℕ, ◌+◌, ◌==◌, ◌||◌, ◌&&◌, not, Bool, true, false, List, map, filter, Option, Some, None}
+use Rattle.std.specs.Prelude.{if◌then◌else◌}
 use Rattle.std.specs.List.{list_any}
 use Rattle.of10_match.specs.Matching.{covers}
 use Rattle.of10_match.specs.Numbers.{rank_by}
@@ -85,12 +86,16 @@ with_entry t m now = record t { entries = put (entry_of t.next m now) t.entries;
 abbrev pub modified : Bool → TableOf → FlowMod → ℕ → TableOf
 modified strict t m now =
     if list_any (is_meant strict (identity_in m)) t.entries
-    then record t { entries = map (λ e. if is_meant strict (identity_in m) e then with_actions m.actions e else e) t.entries }
+    then record t {
+      entries = map (λ e. if is_meant strict (identity_in m) e then with_actions m.actions e else e)
+          t.entries;
+    }
     else with_entry t m now
 
 -- a table without the entries that are meant and that have an OUTPUT to the port that is asked for
 abbrev pub deleted : Bool → TableOf → FlowMod → TableOf
-deleted strict t m = record t { entries = filter (λ e. not (is_meant strict (identity_in m) e && outputs_to m.out_port e)) t.entries }
+deleted strict t m =
+    record t { entries = filter (λ e. not (is_meant strict (identity_in m) e && outputs_to m.out_port e)) t.entries }
 
 -- what a command makes of a table
 abbrev pub after_command : Command → TableOf → FlowMod → ℕ → TableOf

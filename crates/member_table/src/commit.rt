@@ -1,7 +1,8 @@
 //! Changes are made.
 ghost use Rattle.std.specs.Prelude.{◌≡◌, ◌≤◌, ◌+◌, filter, map};
 ghost use Rattle.std.specs.List.{AllByRecursion};
-ghost use Rattle.member_table.specs.Changes.{CanCommit, IsInRange, changed_by, committed, replaced as replaced_of, stays};
+ghost use Rattle.member_table.specs.Changes.{CanCommit, IsInRange, changed_by, committed, replaced as replaced_of};
+ghost use Rattle.member_table.specs.Changes.{stays};
 
 use crate::change::{Change, Modified};
 use crate::entry::Entry;
@@ -44,7 +45,8 @@ impl Table {
 
     /// Takes entries out but the one whose place is taken: many in one pass, and one alone by its place.
     fn remove_all(&mut self, serials: List<u64>, place: Option<u64>)
-        ensures table { self.new.table ≡ record self.old.table { entries = filter (stays serials place) self.old.table.entries } }
+        ensures table { self.new.table ≡ record self.old.table
+            { entries = filter (stays serials place) self.old.table.entries } }
         ensures room { self.new.room ≡ self.old.room }
     {
         if serials.len() > 1 {
@@ -56,7 +58,8 @@ impl Table {
 
     /// Takes entries out but the one whose place is taken, one after the other.
     fn drop_each(&mut self, mut serials: List<u64>, place: Option<u64>)
-        ensures table { self.new.table ≡ record self.old.table { entries = filter (stays serials place) self.old.table.entries } }
+        ensures table { self.new.table ≡ record self.old.table
+            { entries = filter (stays serials place) self.old.table.entries } }
         ensures room { self.new.room ≡ self.old.room }
     {
         while let Some(serial) = serials.pop() {
@@ -69,7 +72,8 @@ impl Table {
     /// Gives entries other actions.
     fn modify_all(&mut self, mut modified: List<Modified>)
         requires { AllByRecursion IsInRange modified }
-        ensures table { self.new.table ≡ record self.old.table { entries = map (changed_by modified) self.old.table.entries } }
+        ensures table { self.new.table ≡ record self.old.table
+            { entries = map (changed_by modified) self.old.table.entries } }
         ensures room { self.new.room ≡ self.old.room }
     {
         while let Some(one) = modified.pop() {

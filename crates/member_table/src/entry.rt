@@ -3,7 +3,8 @@ ghost use Rattle.std.specs.Prelude.{◌≡◌, ◌↔◌, IsTrue};
 ghost use Rattle.std.specs.List.{list_any};
 ghost use Rattle.member_table.specs.Entries.{identity_of};
 ghost use Rattle.member_table.specs.Tables.{is_output_to as is_output_to_of, outputs_to as outputs_to_of};
-ghost use Rattle.member_table.specs.Timeouts.{has_passed as has_passed_of, is_hard_due as is_hard_due_of, is_idle_due as is_idle_due_of};
+ghost use Rattle.member_table.specs.Timeouts.{has_passed as has_passed_of, is_hard_due as is_hard_due_of};
+ghost use Rattle.member_table.specs.Timeouts.{is_idle_due as is_idle_due_of};
 
 use cv_io::{Duplicate, List, Memory};
 use of10_actions::{Action, port};

@@ -10,6 +10,7 @@ ghost use Rattle.member_table.specs.Timeouts.{ListsRising, is_hard_due, serials_
 /// expired entries is left.
 #[tactic(auto, using(crate::proofs::Plans::expired_is))]
 pub fn removing_what_is_due_leaves_what_has_not_expired()
-    ensures { (t : TableOf) (now : ℕ) (due : List ℕ) → IsSound t → ListsRising (serials_of (is_hard_due now) t.entries) due
+    ensures { (t : TableOf) (now : ℕ) (due : List ℕ) → IsSound t
+        → ListsRising (serials_of (is_hard_due now) t.entries) due
         → committed t (removing due) ≡ without_expired now t }
 {}

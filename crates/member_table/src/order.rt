@@ -1,5 +1,7 @@
 //! Entries in the order of insertion.
-ghost use Rattle.std.specs.Prelude.{◌≡◌, ◌==◌, ◌<◌, ◌≤◌, ◌+◌, ◌-◌, ◌&&◌, ℕ, Bool, List, [], None, cond, is_some, nat_eq, OnOk, IfOk, length, find, filter, map, not, false, true, if◌then◌else◌, vec_len, vec_capacity};
+ghost use Rattle.std.specs.Prelude.{◌≡◌, ◌==◌, ◌<◌, ◌≤◌, ◌+◌, ◌-◌, ◌&&◌, ℕ, Bool, List, [], None, cond, is_some};
+ghost use Rattle.std.specs.Prelude.{nat_eq, OnOk, IfOk, length, find, filter, map, not, false, true, if◌then◌else◌};
+ghost use Rattle.std.specs.Prelude.{vec_len, vec_capacity};
 ghost use Rattle.std.specs.List.{list_any, slice_get};
 ghost use Rattle.std.specs.Option.{option_and_then, option_copied, option_map_or};
 ghost use Rattle.indexmap.specs.IndexMap.{get, spare};
@@ -37,7 +39,10 @@ impl Model for Order {
 
     ghost Value = { OrderOf };
 
-    ghost view = { λ a. record { entries = listed (get nat_eq a.entries) a.serials.items; room = min (vec_capacity a.serials - vec_len a.serials) (min (spare a.entries) (spare a.numbers)) } };
+    ghost view = { λ a. record {
+      entries = listed (get nat_eq a.entries) a.serials.items;
+      room = min (vec_capacity a.serials - vec_len a.serials) (min (spare a.entries) (spare a.numbers));
+    } };
 
     ghost invariant = { λ a. IsInStep a.serials.items (get nat_eq a.entries) (get same_identity a.numbers) };
 }
@@ -77,7 +82,8 @@ fn take(entries: &mut IndexMap<u64, Entry>, replaced: Option<u64>) -> Option<Ent
 /// Takes out the entry of a number, and its identity.
 fn take_one(entries: &mut IndexMap<u64, Entry>, numbers: &mut IndexMap<Identity, u64>, serial: u64)
     ensures indexed { (es : List EntryOf) → IsIndexed (get nat_eq entries.old) (get same_identity numbers.old) es
-        → IsIndexed (get nat_eq entries.new) (get same_identity numbers.new) (filter (λ e. not (has_serial serial e)) es) }
+        → IsIndexed (get nat_eq entries.new) (get same_identity numbers.new)
+        (filter (λ e. not (has_serial serial e)) es) }
     ensures entries_room { spare entries.old ≤ spare entries.new }
     ensures numbers_room { spare numbers.old ≤ spare numbers.new }
 {
@@ -219,7 +225,8 @@ impl Order {
 
     /// Gives an entry other actions; false where there is no such entry.
     pub fn set_actions(&mut self, serial: u64, actions: List<Action>) -> bool
-        ensures entries { self.new.entries ≡ map (λ e. if has_serial serial e then record e { actions = actions } else e) self.old.entries }
+        ensures entries { self.new.entries
+            ≡ map (λ e. if has_serial serial e then record e { actions = actions } else e) self.old.entries }
         ensures found { result ≡ list_any (has_serial serial) self.old.entries }
         ensures room { self.old.room ≤ self.new.room }
     {
@@ -234,7 +241,8 @@ impl Order {
 
     /// Sets when an entry's count was last seen to have risen; false where there is no such entry.
     pub fn set_last(&mut self, serial: u64, now: u64) -> bool
-        ensures entries { self.new.entries ≡ map (λ e. if has_serial serial e then record e { last = now } else e) self.old.entries }
+        ensures entries { self.new.entries ≡ map (λ e. if has_serial serial e then record e { last = now } else e)
+            self.old.entries }
         ensures found { result ≡ list_any (has_serial serial) self.old.entries }
         ensures room { self.old.room ≤ self.new.room }
     {
@@ -272,7 +280,10 @@ fn wanted_among(
     serials: &[u64],
     wanted: &Wanted,
 ) -> Result<Vec<u64>, AllocError>
-    ensures { IfOk result (λ v. v.items ≡ filter (λ s. option_map_or (is_wanted_of wanted.now) (find (has_serial s) order.now.entries) false) serials.now) }
+    ensures { IfOk result
+        (λ v. v.items
+        ≡ filter (λ s. option_map_or (is_wanted_of wanted.now) (find (has_serial s) order.now.entries) false)
+        serials.now) }
 {
     serials
         .iter()

@@ -1,5 +1,6 @@
 //! Changes are planned.
-ghost use Rattle.std.specs.Prelude.{◌≡◌, ◌≤◌, ◌+◌, ◌<◌, ◌^◌, [], ◌∷◌, ◌&&◌, true, false, Bool, Some, None, IfOk, IfErr, OnOk, map, find, option_map, if◌then◌else◌};
+ghost use Rattle.std.specs.Prelude.{◌≡◌, ◌≤◌, ◌+◌, ◌<◌, ◌^◌, [], ◌∷◌, ◌&&◌, true, false, Bool, Some, None, IfOk, IfErr};
+ghost use Rattle.std.specs.Prelude.{OnOk, map, find, option_map, if◌then◌else◌};
 ghost use Rattle.std.specs.List.{list_any};
 ghost use Rattle.of10_match.specs.Normal.{IsNormal};
 ghost use Rattle.of10_actions.specs.Actions.{AreInRange};
@@ -7,7 +8,8 @@ ghost use Rattle.member_table.specs.Entries.{is_at};
 ghost use Rattle.member_table.specs.Changes.{CanCommit, committed};
 ghost use Rattle.member_table.specs.Planning.{adding, addition, change_by_command, change_of, modification, removal};
 ghost use Rattle.member_table.specs.Refusals.{IsFaultOf, refusal, refusal_by_command, refusal_of, refusal_unless};
-ghost use Rattle.member_table.specs.Tables.{after, after_command, entry_of as entry_described, identity_in, is_meant, outputs_to};
+ghost use Rattle.member_table.specs.Tables.{after, after_command, entry_of as entry_described, identity_in, is_meant};
+ghost use Rattle.member_table.specs.Tables.{outputs_to};
 ghost use Rattle.member_table.specs.Timeouts.{serials_of};
 
 use crate::change::{Change, Modified};
@@ -79,8 +81,8 @@ fn alone(alloc: Global, wanted: bool, serial: u64) -> Result<Vec<u64>, Memory>
 }
 
 impl Table {
-    /// Plans what a message changes at a moment; a command above 4 changes nothing. It takes all memory that the change needs, and leaves
-    /// the entries as they are.
+    /// Plans what a message changes at a moment; a command above 4 changes nothing. It takes all memory that the change
+    /// needs, and leaves the entries as they are.
     pub fn plan(&mut self, m: &FlowMod, now: u64) -> Result<Change, TableFault>
         requires { AreInRange m.now.actions }
         ensures change { IfOk result (λ change. change ≡ change_of self.old.table m.now now) }
@@ -108,7 +110,8 @@ impl Table {
     ) -> Result<Change, TableFault>
         requires { AreInRange m.now.actions }
         ensures change { IfOk result (λ change. change ≡ change_by_command command self.old.table m.now now) }
-        ensures planned { IfOk result (λ change. committed self.old.table change ≡ after_command command self.old.table m.now now) }
+        ensures planned { IfOk result (λ change. committed self.old.table change
+            ≡ after_command command self.old.table m.now now) }
         ensures ready { IfOk result (CanCommit self.new) }
         ensures accepted { OnOk result (refusal_by_command command self.old.table m.now ≡ None) }
         ensures fault { IfErr result (IsFaultOf (refusal_by_command command self.old.table m.now)) }
@@ -130,7 +133,8 @@ impl Table {
     /// The numbers of the entries that are meant and have an OUTPUT to the port, in their order. A
     /// strict message finds its entry by its identity.
     fn meant(&self, strict: bool, asked: &Identity, port: u16) -> Result<Vec<u64>, Memory>
-        ensures { IfOk result (λ v. v.items ≡ serials_of (λ e. is_meant strict asked.now e && outputs_to port e) self.now.table.entries) }
+        ensures { IfOk result
+            (λ v. v.items ≡ serials_of (λ e. is_meant strict asked.now e && outputs_to port e) self.now.table.entries) }
     {
         if strict {
             self.meant_strictly(asked, port)
@@ -145,7 +149,8 @@ impl Table {
 
     /// The number of the entry of an identity, where it has an OUTPUT to the port.
     fn meant_strictly(&self, asked: &Identity, port: u16) -> Result<Vec<u64>, Memory>
-        ensures { IfOk result (λ v. v.items ≡ serials_of (λ e. is_at asked.now e && outputs_to port e) self.now.table.entries) }
+        ensures { IfOk result
+            (λ v. v.items ≡ serials_of (λ e. is_at asked.now e && outputs_to port e) self.now.table.entries) }
     {
         match self.order.identical(asked) {
             Some(entry) => alone(self.alloc, entry.outputs_to(port), entry.serial),
@@ -221,7 +226,8 @@ impl Table {
     /// The number of the entry that a new one replaces, or why it can't be added.
     fn admit(&self, asked: &Identity) -> Result<Option<u64>, TableFault>
         ensures admitted { OnOk result (refusal_of asked.now self.now.table ≡ None) }
-        ensures replaced { IfOk result (λ r. r ≡ option_map (λ e. e.serial) (find (is_at asked.now) self.now.table.entries)) }
+        ensures replaced { IfOk result
+            (λ r. r ≡ option_map (λ e. e.serial) (find (is_at asked.now) self.now.table.entries)) }
         ensures refused { IfErr result (λ fault. refusal_of asked.now self.now.table ≡ Some fault) }
     {
         if let Some(with) = self.ranks.in_way(asked) {

@@ -1,5 +1,6 @@
 //! The matches of a table's entries, found by what they hold and overlap.
-ghost use Rattle.std.specs.Prelude.{◌≡◌, ◌==◌, ◌<◌, ◌≤◌, ◌+◌, ◌++◌, ◌∷◌, [], not, false, IfOk, OnOk, filter, find, option_map};
+ghost use Rattle.std.specs.Prelude.{◌≡◌, ◌==◌, ◌<◌, ◌≤◌, ◌+◌, ◌++◌, ◌∷◌, [], not, false, IfOk, OnOk, filter, find};
+ghost use Rattle.std.specs.Prelude.{option_map};
 ghost use Rattle.std.specs.List.{list_any};
 ghost use Rattle.match_index.specs.InsideGroups.{SameItems};
 ghost use Rattle.match_index.specs.Items.{IsLeast, IsTop, has_id};

@@ -1,5 +1,6 @@
 //! Tables.
-ghost use Rattle.std.specs.Prelude.{◌≡◌, ◌<◌, ◌≤◌, ◌+◌, ◌-◌, ◌^◌, ◌==◌, [], Bool, Some, None, OnOk, IfOk, length, find, filter, map, not, option_map, if◌then◌else◌};
+ghost use Rattle.std.specs.Prelude.{◌≡◌, ◌<◌, ◌≤◌, ◌+◌, ◌-◌, ◌^◌, ◌==◌, [], Bool, Some, None, OnOk, IfOk, length, find};
+ghost use Rattle.std.specs.Prelude.{filter, map, not, option_map, if◌then◌else◌};
 ghost use Rattle.std.specs.List.{list_any, slice_get};
 ghost use Rattle.std.specs.Option.{option_copied};
 
@@ -29,9 +30,13 @@ impl Model for Table {
 
     ghost Value = { Held };
 
-    ghost view = { λ a. record { table = record { entries = a.order.entries; next = a.next; limit = a.limit }; room = a.room } };
+    ghost view = { λ a. record {
+      table = record { entries = a.order.entries; next = a.next; limit = a.limit };
+      room = a.room;
+    } };
 
-    ghost invariant = { λ a. IsKept (record { entries = a.order.entries; next = a.next; limit = a.limit }) a.room a.order a.ranks };
+    ghost invariant = { λ a. IsKept (record { entries = a.order.entries; next = a.next; limit = a.limit }) a.room
+        a.order a.ranks };
 }
 
 impl Table {
@@ -109,7 +114,8 @@ impl Table {
 
     /// Takes an entry out; the others keep their order. False where there is no such entry.
     pub fn drop_serial(&mut self, serial: u64) -> bool
-        ensures table { self.new.table ≡ record self.old.table { entries = filter (λ e. not (has_serial serial e)) self.old.table.entries } }
+        ensures table { self.new.table ≡ record self.old.table
+            { entries = filter (λ e. not (has_serial serial e)) self.old.table.entries } }
         ensures found { result ≡ list_any (has_serial serial) self.old.table.entries }
         ensures room { self.new.room ≡ self.old.room }
     {
@@ -124,7 +130,8 @@ impl Table {
 
     /// Sets when an entry's count was last seen to have risen. False where there is no such entry.
     pub fn touch(&mut self, serial: u64, now: u64) -> bool
-        ensures table { self.new.table ≡ record self.old.table { entries = map (λ e. if has_serial serial e then record e { last = now } else e) self.old.table.entries } }
+        ensures table { self.new.table ≡ record self.old.table
+            { entries = map (λ e. if has_serial serial e then record e { last = now } else e) self.old.table.entries } }
         ensures found { result ≡ list_any (has_serial serial) self.old.table.entries }
         ensures room { self.new.room ≡ self.old.room }
     {
@@ -133,7 +140,8 @@ impl Table {
 
     /// Takes entries out in one pass, but the one whose place is taken. The others keep their order.
     pub(crate) fn drop_all(&mut self, serials: List<u64>, place: Option<u64>)
-        ensures table { self.new.table ≡ record self.old.table { entries = filter (stays serials place) self.old.table.entries } }
+        ensures table { self.new.table ≡ record self.old.table
+            { entries = filter (stays serials place) self.old.table.entries } }
         ensures room { self.new.room ≡ self.old.room }
     {
         self.ranks.remove_all(serials.as_slice(), place);
@@ -143,7 +151,10 @@ impl Table {
     /// Gives an entry other actions, where it is there.
     pub(crate) fn modify(&mut self, modified: Modified)
         requires { IsInRange modified }
-        ensures table { self.new.table ≡ record self.old.table { entries = map (λ e. if has_serial modified.serial e then with_actions modified.actions e else e) self.old.table.entries } }
+        ensures table { self.new.table ≡ record self.old.table {
+          entries = map (λ e. if has_serial modified.serial e then with_actions modified.actions e else e)
+              self.old.table.entries;
+        } }
         ensures room { self.new.room ≡ self.old.room }
     {
         let Modified { serial, actions } = modified;
@@ -153,7 +164,8 @@ impl Table {
     /// Puts an entry in the place of the identical one, else last.
     pub(crate) fn put(&mut self, entry: Entry)
         requires { CanAdd self.old [] entry }
-        ensures table { self.new.table ≡ record self.old.table { entries = put_of entry self.old.table.entries; next = self.old.table.next + 1 } }
+        ensures table { self.new.table ≡ record self.old.table
+            { entries = put_of entry self.old.table.entries; next = self.old.table.next + 1 } }
         ensures room { self.new.room + 1 ≡ self.old.room }
     {
         let item = item_of(&entry);

@@ -1,5 +1,6 @@
 //! Worked examples, computed by the checker.
-ghost use Rattle.member_table.specs.Worked.{ActionsChange, ChangesAreNamed, EntriesAreRefused, EntriesCome, EntriesGo, ExactIsAbove, HighestIsBest, ExpiredGo, TimesAreUp};
+ghost use Rattle.member_table.specs.Worked.{ActionsChange, ChangesAreNamed, EntriesAreRefused, EntriesCome, EntriesGo};
+ghost use Rattle.member_table.specs.Worked.{ExactIsAbove, HighestIsBest, ExpiredGo, TimesAreUp};
 
 /// A table of two entries, what the five commands make of it, what is refused, which entry is best,
 /// when time is up, and what is left then.

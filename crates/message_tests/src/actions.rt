@@ -1,5 +1,5 @@
 //! Lists of actions as bytes, and what they do.
-ghost use Rattle.std.specs.Prelude.{◌<◌, ◌^◌, length};
+ghost use Rattle.std.specs.Prelude.{◌≤◌, ◌<◌, ◌^◌, length};
 
 use cv_io::List;
 use of10_actions::meaning::effects;
@@ -9,7 +9,10 @@ use of10_actions::{
 };
 use of10_match::Header;
 use std::alloc::Global;
+use std::process::Abort;
 use std::test::*;
+
+mod vectors;
 
 /// Sets nw_dst to 2.0.0.1, and outputs to port 1.
 const WORKED: [u8; 16] = [0, 7, 0, 8, 2, 0, 0, 1, 0, 0, 0, 8, 0, 1, 0, 0];
@@ -30,17 +33,23 @@ const SETS: [u8; 40] = [
     0, 2, 0, 0, 0, 8, 0, 2, 0, 0,
 ];
 
-/// The effects of written actions for member 3, at outside ports 1, 2, 4 and 5 and link port 9, or none
-/// where the ports do not rise.
+/// Outside ports, and link port 9.
+fn ports(alloc: Global, outside: &[u16]) -> Result<PortView, Fail> {
+    let outside = List::from_slice(alloc, outside)?;
+    let links = List::from_slice(alloc, &[9])?;
+    Ok(PortView {
+        v: 7,
+        outside,
+        links,
+    })
+}
+
+/// The effects of written actions for member 3, at these outside ports, or none where the ports do not rise.
 fn effects_at(alloc: Global, bytes: &[u8], outside: &[u16]) -> Result<Option<Effects>, Fail>
     requires { length bytes.now < 2 ^ 32 }
 {
     let list = read_list(alloc, bytes)?;
-    let ports = PortView {
-        v: 7,
-        outside: List::from_slice(alloc, outside)?,
-        links: List::from_slice(alloc, &[9])?,
-    };
+    let ports = ports(alloc, outside)?;
     if ports.is_rising() {
         Ok(Some(effects(alloc, &list, &ports, 3)?))
     } else {
@@ -48,9 +57,25 @@ fn effects_at(alloc: Global, bytes: &[u8], outside: &[u16]) -> Result<Option<Eff
     }
 }
 
+/// The bytes on the left are read as the actions, which are written as those on the right.
+fn are_read_and_written(
+    rt: &(impl Abort + AllocGlobal),
+    left: &[u8],
+    right: &[u8],
+    actions: &[Action],
+) -> Result<(), Fail>
+    requires { length left.now < 2 ^ 32 }
+{
+    let list = read_list(rt.alloc(), left)?;
+    assert_eq!(rt; list.as_slice(), actions);
+    assert_eq!(rt; list_length(&list), right.len());
+    let bytes = write_list(rt.alloc(), &list)?;
+    assert_eq!(rt; bytes.as_slice(), right);
+    Ok(())
+}
+
 #[test]
 fn the_worked_actions(rt: HostRuntime) -> Result<(), Fail> {
-    let list = read_list(rt.alloc(), &WORKED)?;
     let want = [
         Action::SetNwDst {
             address: 0x0200_0001,
@@ -60,98 +85,24 @@ fn the_worked_actions(rt: HostRuntime) -> Result<(), Fail> {
             max_len: 0,
         },
     ];
-    assert_eq!(rt; list.as_slice(), want.as_slice());
-    let bytes = write_list(rt.alloc(), &list)?;
-    assert_eq!(rt; bytes.as_slice(), WORKED.as_slice());
-    let length = bytes.len();
-    assert_eq!(rt; list_length(&list), length);
-    Ok(())
+    are_read_and_written(&rt, &WORKED, &WORKED, &want)
+}
+
+/// The first bytes on both sides are those of the action.
+fn is_read_and_written(
+    rt: &(impl Abort + AllocGlobal),
+    ones: &[u8; 16],
+    zeros: &[u8; 16],
+    action: Action,
+) -> Result<(), Fail> {
+    let length = usize::from(action.kind().length()).min(16);
+    are_read_and_written(rt, &ones[..length], &zeros[..length], &[action])
 }
 
 #[test]
 fn each_kind_is_read_and_written(rt: HostRuntime) -> Result<(), Fail> {
-    // What is free, padding and the low bits of a tos, is ones on the left, and zeros on the right.
-    for (ones, zeros, action) in [
-        (
-            [0, 0, 0, 8, 0xff, 0xfd, 1, 2, 0, 0, 0, 0, 0, 0, 0, 0],
-            [0, 0, 0, 8, 0xff, 0xfd, 1, 2, 0, 0, 0, 0, 0, 0, 0, 0],
-            Action::Output {
-                port: 0xfffd,
-                max_len: 258,
-            },
-        ),
-        (
-            [0, 1, 0, 8, 15, 255, 255, 255, 0, 0, 0, 0, 0, 0, 0, 0],
-            [0, 1, 0, 8, 15, 255, 0, 0, 0, 0, 0, 0, 0, 0, 0, 0],
-            Action::SetVlanVid { vid: 4095 },
-        ),
-        (
-            [0, 2, 0, 8, 7, 255, 255, 255, 0, 0, 0, 0, 0, 0, 0, 0],
-            [0, 2, 0, 8, 7, 0, 0, 0, 0, 0, 0, 0, 0, 0, 0, 0],
-            Action::SetVlanPcp { pcp: 7 },
-        ),
-        (
-            [0, 3, 0, 8, 255, 255, 255, 255, 0, 0, 0, 0, 0, 0, 0, 0],
-            [0, 3, 0, 8, 0, 0, 0, 0, 0, 0, 0, 0, 0, 0, 0, 0],
-            Action::StripVlan,
-        ),
-        (
-            [0, 4, 0, 16, 1, 2, 3, 4, 5, 6, 255, 255, 255, 255, 255, 255],
-            [0, 4, 0, 16, 1, 2, 3, 4, 5, 6, 0, 0, 0, 0, 0, 0],
-            Action::SetDlSrc {
-                address: 0x0102_0304_0506,
-            },
-        ),
-        (
-            [0, 5, 0, 16, 6, 5, 4, 3, 2, 1, 255, 255, 255, 255, 255, 255],
-            [0, 5, 0, 16, 6, 5, 4, 3, 2, 1, 0, 0, 0, 0, 0, 0],
-            Action::SetDlDst {
-                address: 0x0605_0403_0201,
-            },
-        ),
-        (
-            [0, 6, 0, 8, 10, 0, 0, 1, 0, 0, 0, 0, 0, 0, 0, 0],
-            [0, 6, 0, 8, 10, 0, 0, 1, 0, 0, 0, 0, 0, 0, 0, 0],
-            Action::SetNwSrc {
-                address: 0x0a00_0001,
-            },
-        ),
-        (
-            [0, 7, 0, 8, 10, 0, 0, 2, 0, 0, 0, 0, 0, 0, 0, 0],
-            [0, 7, 0, 8, 10, 0, 0, 2, 0, 0, 0, 0, 0, 0, 0, 0],
-            Action::SetNwDst {
-                address: 0x0a00_0002,
-            },
-        ),
-        (
-            [0, 8, 0, 8, 0xbb, 255, 255, 255, 0, 0, 0, 0, 0, 0, 0, 0],
-            [0, 8, 0, 8, 0xb8, 0, 0, 0, 0, 0, 0, 0, 0, 0, 0, 0],
-            Action::SetNwTos { tos: 0xb8 },
-        ),
-        (
-            [0, 9, 0, 8, 0, 80, 255, 255, 0, 0, 0, 0, 0, 0, 0, 0],
-            [0, 9, 0, 8, 0, 80, 0, 0, 0, 0, 0, 0, 0, 0, 0, 0],
-            Action::SetTpSrc { port: 80 },
-        ),
-        (
-            [0, 10, 0, 8, 31, 144, 255, 255, 0, 0, 0, 0, 0, 0, 0, 0],
-            [0, 10, 0, 8, 31, 144, 0, 0, 0, 0, 0, 0, 0, 0, 0, 0],
-            Action::SetTpDst { port: 8080 },
-        ),
-        (
-            [0, 11, 0, 16, 0, 3, 255, 255, 255, 255, 255, 255, 0, 0, 1, 0],
-            [0, 11, 0, 16, 0, 3, 0, 0, 0, 0, 0, 0, 0, 0, 1, 0],
-            Action::Enqueue {
-                port: 3,
-                queue: 256,
-            },
-        ),
-    ] {
-        let length = usize::from(action.kind().length()).min(16);
-        let list = read_list(rt.alloc(), &ones[..length])?;
-        assert_eq!(rt; list.as_slice(), [action].as_slice());
-        let bytes = write_list(rt.alloc(), &list)?;
-        assert_eq!(rt; bytes.as_slice(), &zeros[..length]);
+    for (ones, zeros, action) in &vectors::KINDS {
+        is_read_and_written(&rt, ones, zeros, *action)?;
     }
     Ok(())
 }
@@ -166,93 +117,47 @@ fn moved(fault: ActionFault, place: u32) -> ActionFault {
     }
 }
 
-#[test]
-fn each_fault_at_each_place(rt: HostRuntime) {
-    let faults = [
-        (
-            "type 12",
-            [0, 12, 0, 8, 0, 0, 0, 0],
-            ActionFault::BadType { at: 0 },
-        ),
-        (
-            "type 12, length 0",
-            [0, 12, 0, 0, 0, 0, 0, 0],
-            ActionFault::BadType { at: 0 },
-        ),
-        (
-            "a vendor",
-            [0xff, 0xff, 0, 8, 0, 0, 0, 1],
-            ActionFault::BadVendor { at: 0 },
-        ),
-        (
-            "a vendor, length 7",
-            [0xff, 0xff, 0, 7, 0, 0, 0, 1],
-            ActionFault::BadVendor { at: 0 },
-        ),
-        (
-            "length 16",
-            [0, 0, 0, 16, 0, 1, 0, 0],
-            ActionFault::BadLen { at: 0 },
-        ),
-        (
-            "length 0",
-            [0, 3, 0, 0, 0, 0, 0, 0],
-            ActionFault::BadLen { at: 0 },
-        ),
-        (
-            "length 8",
-            [0, 4, 0, 8, 0, 0, 0, 0],
-            ActionFault::BadLen { at: 0 },
-        ),
-        (
-            "vid 4096, length 9",
-            [0, 1, 0, 9, 16, 0, 0, 0],
-            ActionFault::BadLen { at: 0 },
-        ),
-        (
-            "vid 4096",
-            [0, 1, 0, 8, 16, 0, 0, 0],
-            ActionFault::BadArgument { at: 0 },
-        ),
-        (
-            "pcp 8",
-            [0, 2, 0, 8, 8, 0, 0, 0],
-            ActionFault::BadArgument { at: 0 },
-        ),
-    ];
-    for (name, bytes, fault) in faults {
-        for place in [0u32, 8, 16] {
-            let mut list = [0; 24];
-            for (i, byte) in list.iter_mut().enumerate() {
-                *byte = GOOD[i % 8];
-            }
-            for (i, byte) in bytes.iter().enumerate() {
-                if i < 8 {
-                    list[place as usize + i] = *byte;
-                }
-            }
-            assert_eq!(rt;
-                read_list(rt.alloc(), &list),
-                Err(moved(fault, place)),
-                "{name} at {place}"
-            );
+/// Three actions, of which one has these bytes, and the others are good.
+fn with_bytes_at(bytes: &[u8; 8], place: u32) -> [u8; 24]
+    requires { place ≤ 16 }
+{
+    let mut list = [0; 24];
+    for (i, byte) in list.iter_mut().enumerate() {
+        *byte = GOOD[i % 8];
+    }
+    for (i, byte) in bytes.iter().enumerate() {
+        if i < 8 {
+            list[place as usize + i] = *byte;
         }
     }
+    list
+}
+
+#[test]
+fn each_fault_at_each_place(rt: HostRuntime) {
+    for (name, bytes, fault) in &vectors::FAULTS {
+        for place in [0u32, 8, 16] {
+            let found = read_list(rt.alloc(), &with_bytes_at(bytes, place)).err();
+            assert_eq!(rt; found, Some(moved(*fault, place)), "{name} at {place}");
+        }
+    }
+}
+
+/// The bytes end before the action at a place does.
+fn is_cut(rt: &(impl Abort + AllocGlobal), bytes: &[u8], at: u32)
+    requires { length bytes.now < 2 ^ 32 }
+{
+    let fault = read_list(rt.alloc(), bytes).err();
+    assert_eq!(rt; fault, Some(ActionFault::BadLen { at }));
 }
 
 #[test]
 fn cut_lists(rt: HostRuntime) {
     for length in [1, 3, 4, 7] {
-        assert_eq!(rt;
-            read_list(rt.alloc(), &GOOD[..length]),
-            Err(ActionFault::BadLen { at: 0 })
-        );
+        is_cut(&rt, &GOOD[..length], 0);
     }
     for length in [9, 12, 15] {
-        assert_eq!(rt;
-            read_list(rt.alloc(), &WORKED[..length]),
-            Err(ActionFault::BadLen { at: 8 })
-        );
+        is_cut(&rt, &WORKED[..length], 8);
     }
     assert!(rt; read_list(rt.alloc(), &[]).is_ok());
 }
@@ -261,11 +166,9 @@ fn cut_lists(rt: HostRuntime) {
 fn has_effects(alloc: Global, bytes: &[u8], outs: &[Out], tail: Tail) -> Result<bool, Fail>
     requires { length bytes.now < 2 ^ 32 }
 {
-    let want = Effects {
-        outs: List::from_slice(alloc, outs)?,
-        tail,
-    };
-    Ok(effects_at(alloc, bytes, &[1, 2, 4, 5])? == Some(want))
+    let found = effects_at(alloc, bytes, &[1, 2, 4, 5])?;
+    let outs = List::from_slice(alloc, outs)?;
+    Ok(found == Some(Effects { outs, tail }))
 }
 
 fn to_port(rewrite: Rewrite, port: u16) -> Out {

@@ -3,21 +3,33 @@ use command_line::{Command, asked};
 use std::alloc::Global;
 use std::test::*;
 
-/// What the words of a line ask for.
-fn shown(alloc: Global, line: &str) -> Result<String, Fail> {
-    let mut words: Vec<String> = Vec::new(alloc);
+/// The words of a line.
+fn words(alloc: Global, line: &str) -> Result<Vec<String>, Fail> {
+    let mut words = Vec::new(alloc);
     for word in line.split(' ') {
         words.push(String::from_str(alloc, word)?)?;
     }
-    let shown = match asked(alloc, words.as_slice())? {
-        Some(Command::Replay) => format!(in alloc; "replay")?,
-        Some(Command::ReplayPolicy { name }) => format!(in alloc; "replay {name}")?,
-        Some(Command::ExplainPolicy { name }) => format!(in alloc; "explain {name}")?,
-        Some(Command::Serve { name }) => format!(in alloc; "serve {name}")?,
-        Some(Command::Make { seed, count }) => format!(in alloc; "make {seed} {count}")?,
-        None => format!(in alloc; "no form")?,
+    Ok(words)
+}
+
+/// What a command is.
+fn told(alloc: Global, command: &Command) -> Result<String, Fail> {
+    let text = match command {
+        Command::Replay => format!(in alloc; "replay"),
+        Command::ReplayPolicy { name } => format!(in alloc; "replay {name}"),
+        Command::ExplainPolicy { name } => format!(in alloc; "explain {name}"),
+        Command::Serve { name } => format!(in alloc; "serve {name}"),
+        Command::Make { seed, count } => format!(in alloc; "make {seed} {count}"),
     };
-    Ok(shown)
+    Ok(text?)
+}
+
+/// What the words of a line ask for.
+fn shown(alloc: Global, line: &str) -> Result<String, Fail> {
+    match asked(alloc, words(alloc, line)?.as_slice())? {
+        Some(command) => told(alloc, &command),
+        None => Ok(format!(in alloc; "no form")?),
+    }
 }
 
 const LINES: [(&str, &str); 27] = [
@@ -55,8 +67,9 @@ const LINES: [(&str, &str); 27] = [
 
 #[test]
 fn lines_are_asked(rt: HostRuntime) -> Result<(), Fail> {
-    for (line, wanted) in LINES {
-        assert_eq!(rt; shown(rt.alloc(), line)?.as_str(), wanted);
+    for (line, wanted) in &LINES {
+        let text = shown(rt.alloc(), line)?;
+        assert_eq!(rt; text.as_str(), *wanted);
     }
     Ok(())
 }

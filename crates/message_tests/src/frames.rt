@@ -2,6 +2,7 @@
 use cv_io::{Bytes, List};
 use of10_frames::{FrameFault, Framer, error, frames_of, header, is_frame};
 use std::alloc::Global;
+use std::process::Abort;
 use std::test::*;
 
 /// A BARRIER_REQUEST of transaction id 10.
@@ -32,16 +33,45 @@ fn headers(rt: HostRuntime) {
     }
 }
 
-#[test]
-fn cut_after_seven_bytes(rt: HostRuntime) -> Result<(), Fail> {
-    let mut framer = Framer::new(rt.alloc());
+/// Whether no frame is whole yet.
+fn is_waiting(framer: &mut Framer) -> bool {
+    matches!(framer.next(), Ok(None))
+}
+
+/// A frame comes once its last byte is there.
+fn feed_in_two(rt: &impl Abort, framer: &mut Framer) -> Result<(), Fail> {
     framer.feed(&BARRIER[..7])?;
-    assert!(rt; matches!(framer.next(), Ok(None)));
+    assert!(rt; is_waiting(framer));
     framer.feed(&BARRIER[7..])?;
     let frame = framer.next()?.ok_or("the frame is whole")?;
     assert_eq!(rt; frame.as_slice(), BARRIER.as_slice());
-    assert!(rt; matches!(framer.next(), Ok(None)));
+    assert!(rt; is_waiting(framer));
     Ok(())
+}
+
+#[test]
+fn cut_after_seven_bytes(rt: HostRuntime) -> Result<(), Fail> {
+    let mut framer = Framer::new(rt.alloc());
+    let fed = feed_in_two(&rt, &mut framer);
+    drop(framer);
+    fed
+}
+
+/// The length of the next frame, where it is too short.
+fn short_length(framer: &mut Framer) -> Option<u16> {
+    match framer.next() {
+        Err(FrameFault::Short { length }) => Some(length),
+        _ => None,
+    }
+}
+
+/// What two looks at the bytes find.
+fn short_lengths_of(alloc: Global, bytes: &[u8]) -> Result<[Option<u16>; 2], Fail> {
+    let mut framer = Framer::new(alloc);
+    framer.feed(bytes)?;
+    let lengths = [short_length(&mut framer), short_length(&mut framer)];
+    drop(framer);
+    Ok(lengths)
 }
 
 #[test]
@@ -53,15 +83,8 @@ fn short_lengths(rt: HostRuntime) -> Result<(), Fail> {
         (&[1, 0, 0][..], None),
         (&[1, 0, 0, 9, 0, 0, 0, 0][..], None),
     ] {
-        let mut framer = Framer::new(rt.alloc());
-        framer.feed(bytes)?;
-        for _ in 0..2 {
-            let length = match framer.next() {
-                Err(FrameFault::Short { length }) => Some(length),
-                _ => None,
-            };
-            assert_eq!(rt; length, want, "at {bytes:?}");
-        }
+        let lengths = short_lengths_of(rt.alloc(), bytes)?;
+        assert_eq!(rt; lengths, [want, want], "at {bytes:?}");
     }
     Ok(())
 }
@@ -75,18 +98,30 @@ fn pieces(alloc: Global, stream: &[u8], most: usize) -> Result<List<Bytes>, Fail
     Ok(pieces)
 }
 
+/// The frames are those of the two messages.
+fn are_two(rt: &impl Abort, frames: &List<Bytes>, most: usize) {
+    assert_eq!(rt; frames.len(), 2, "in pieces of {most}");
+    for (frame, want) in frames.as_slice().iter().zip([&TWO[..8], &TWO[8..]]) {
+        assert_eq!(rt; frame.as_slice(), want, "in pieces of {most}");
+    }
+}
+
 #[test]
 fn any_pieces(rt: HostRuntime) -> Result<(), Fail> {
     for most in 1..21 {
         let cut = pieces(rt.alloc(), &TWO, most)?;
         let (frames, mut rest) = frames_of(rt.alloc(), cut.as_slice())?;
-        assert_eq!(rt; frames.len(), 2, "in pieces of {most}");
-        for (frame, want) in frames.as_slice().iter().zip([&TWO[..8], &TWO[8..]]) {
-            assert_eq!(rt; frame.as_slice(), want, "in pieces of {most}");
-        }
-        assert!(rt; matches!(rest.next(), Ok(None)));
+        are_two(&rt, &frames, most);
+        assert!(rt; is_waiting(&mut rest));
     }
     Ok(())
+}
+
+/// How many frames the stream has, in such pieces.
+fn count_frames(alloc: Global, stream: &[u8], most: usize) -> Result<usize, Fail> {
+    let cut = pieces(alloc, stream, most)?;
+    let (frames, _rest) = frames_of(alloc, cut.as_slice())?;
+    Ok(frames.len())
 }
 
 #[test]
@@ -96,9 +131,8 @@ fn long_streams(rt: HostRuntime) -> Result<(), Fail> {
         stream.extend_from_slice(&BARRIER)?;
     }
     for most in [1, 160_000] {
-        let cut = pieces(rt.alloc(), stream.as_slice(), most)?;
-        let (frames, _rest) = frames_of(rt.alloc(), cut.as_slice())?;
-        assert_eq!(rt; frames.len(), 20_000);
+        let count = count_frames(rt.alloc(), stream.as_slice(), most)?;
+        assert_eq!(rt; count, 20_000);
     }
     Ok(())
 }
@@ -112,7 +146,7 @@ const REFUSED_ADD: [u8; 64] = [
 ];
 
 #[test]
-fn errors(rt: HostRuntime) -> Result<(), Fail> {
+fn errors_of_long_messages(rt: HostRuntime) -> Result<(), Fail> {
     let mut refused = Bytes::from_slice(rt.alloc(), &REFUSED_ADD)?;
     refused.extend_from_slice(&[0xff; 16])?;
     let message = error(rt.alloc(), 3, 1, refused.as_slice())?;
@@ -125,7 +159,11 @@ fn errors(rt: HostRuntime) -> Result<(), Fail> {
         .as_slice()
     );
     assert_eq!(rt; &message.as_slice()[12..], REFUSED_ADD.as_slice());
+    Ok(())
+}
 
+#[test]
+fn errors_of_short_messages(rt: HostRuntime) -> Result<(), Fail> {
     let short = error(rt.alloc(), 1, 0x0102, &BARRIER)?;
     assert_eq!(rt;
         short.as_slice(),

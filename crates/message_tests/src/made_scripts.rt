@@ -1,5 +1,6 @@
 //! The script of a seed, and the line that tells what it gave.
 use made_script::{Made, Summary, summary_line};
+use std::alloc::Global;
 use std::test::*;
 
 /// The lines of the script of seed 1 with four messages.
@@ -13,14 +14,19 @@ const LINES: [&str; 7] = [
     "from rt@v1 010e005000000004003220ef000000000000000000000000000000000000080000000000000000000a006b000000000000000000000000000000000000000064ffffffffffff00000000000800010000",
 ];
 
+/// The next line of a script, or its end.
+fn next(alloc: Global, script: &mut Made) -> Result<String, Fail> {
+    match script.next()? {
+        Some(line) => Ok(format!(in alloc; "{line}")?),
+        None => Ok(format!(in alloc; "end")?),
+    }
+}
+
 #[test]
 fn a_script_of_four_messages(rt: HostRuntime) -> Result<(), Fail> {
     let mut script = Made::new(rt.alloc(), 1, 4);
     for expected in LINES {
-        let shown = match script.next()? {
-            Some(line) => format!(in rt.alloc(); "{line}")?,
-            None => format!(in rt.alloc(); "end")?,
-        };
+        let shown = next(rt.alloc(), &mut script)?;
         assert_eq!(rt; shown.as_str(), expected);
     }
     assert!(rt; script.next()?.is_none());

@@ -4,7 +4,8 @@ ghost use Rattle.std.specs.Prelude.{◌≤◌};
 use of10_match::ofp_match::wildcard;
 use of10_match::{Header, IPV4, Match, OfpMatch, UNTAGGED, read};
 use std::cmp::Ordering;
-use std::test::Fail;
+use std::process::Abort;
+use std::test::*;
 
 const EVERYTHING: [u8; 40] = [
     0x00, 0x38, 0x20, 0xff, 0, 0, 0, 0, 0, 0, 0, 0, 0, 0, 0, 0, 0, 0, 0, 0, 0, 0, 0, 0, 0, 0, 0, 0,
@@ -54,6 +55,28 @@ const ARP_SENT: [u8; 40] = [
     0x06, 0, 6, 0, 0, 10, 0, 1, 0, 10, 0, 0, 2, 0, 0, 0, 0,
 ];
 
+/// A match as text.
+fn is_shown(rt: &(impl Abort + AllocGlobal), m: &Match, want: &str) -> Result<(), Fail> {
+    let shown = m.to_string(rt.alloc())?;
+    assert_eq!(rt; shown.as_str(), want);
+    Ok(())
+}
+
+/// Bytes are read as the match of a text, exact or not, and written as others.
+fn reads_and_writes(
+    rt: &(impl Abort + AllocGlobal),
+    bytes: &[u8; 40],
+    exact: bool,
+    text: &str,
+    sent: &[u8; 40],
+) -> Result<(), Fail> {
+    let read = read(bytes);
+    is_shown(rt, &read.normal, text)?;
+    assert_eq!(rt; read.exact, exact, "{text}");
+    assert_eq!(rt; read.normal.write(), *sent, "{text}");
+    Ok(())
+}
+
 #[test]
 fn reads_and_writes_worked_bytes(rt: HostRuntime) -> Result<(), Fail> {
     let learned = "in_port=1,dl_src=00:00:00:00:00:01,dl_dst=00:00:00:00:00:02,dl_vlan=65535,\
@@ -81,11 +104,7 @@ fn reads_and_writes_worked_bytes(rt: HostRuntime) -> Result<(), Fail> {
         (ARP, false, arp, ARP_SENT),
     ];
     for (bytes, exact, text, sent) in table {
-        let read = read(&bytes);
-        let shown = read.normal.to_string(rt.alloc())?;
-        assert_eq!(rt; shown.as_str(), text);
-        assert_eq!(rt; read.exact, exact, "{shown}");
-        assert_eq!(rt; read.normal.write(), sent, "{shown}");
+        reads_and_writes(&rt, &bytes, exact, text, &sent)?;
     }
     Ok(())
 }
@@ -104,8 +123,15 @@ fn to(addr: u32, len: u32) -> Match
     read(&fields.to_bytes()).normal
 }
 
+/// What a match has in common with another, and whether it covers it.
+fn compare(rt: &impl Abort, a: &Match, b: &Match, meet: Option<&Match>, covers: bool) {
+    assert_eq!(rt; a.meet(b).as_ref(), meet, "{a} and {b}");
+    assert_eq!(rt; a.overlaps(b), meet.is_some(), "{a} and {b}");
+    assert_eq!(rt; a.covers(b), covers, "{a} and {b}");
+}
+
 #[test]
-fn meets_of_prefixes(rt: HostRuntime) -> Result<(), Fail> {
+fn meets_of_prefixes(rt: HostRuntime) {
     let ten = to(0x0a00_0000, 8);
     let ten_one = to(0x0a01_0000, 16);
     let eleven = to(0x0b00_0000, 8);
@@ -128,13 +154,9 @@ fn meets_of_prefixes(rt: HostRuntime) -> Result<(), Fail> {
         (lower, ten, Some(ten), true, false),
     ];
     for (a, b, meet, covers, covered) in table {
-        assert_eq!(rt; a.meet(&b), meet, "{a} and {b}");
-        assert_eq!(rt; b.meet(&a), meet, "{b} and {a}");
-        assert_eq!(rt; a.overlaps(&b), meet.is_some(), "{a} and {b}");
-        assert_eq!(rt; a.covers(&b), covers, "{a} and {b}");
-        assert_eq!(rt; b.covers(&a), covered, "{b} and {a}");
+        compare(&rt, &a, &b, meet.as_ref(), covers);
+        compare(&rt, &b, &a, meet.as_ref(), covered);
     }
-    Ok(())
 }
 
 #[test]

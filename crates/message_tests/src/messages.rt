@@ -24,6 +24,41 @@ fn read(rt: &(impl Abort + AllocGlobal), frame: &[u8]) -> Result<Message, FormFa
     read_message(rt.alloc(), frame)
 }
 
+/// A message is written as these bytes.
+fn writes(
+    rt: &(impl Abort + AllocGlobal),
+    message: &Message,
+    want: &[u8],
+    name: &str,
+) -> Result<(), Fail>
+    requires { CanWrite message.now.body }
+{
+    let written = write_message(rt.alloc(), message)?;
+    assert_eq!(rt; written.as_slice(), want, "at {name}");
+    Ok(())
+}
+
+/// Reads a message, and writes it as these bytes. A vendor's is refused.
+fn reads_and_writes(
+    rt: &(impl Abort + AllocGlobal),
+    name: &str,
+    frame: &[u8],
+    want: &[u8],
+) -> Result<(), Fail> {
+    match read(rt, frame) {
+        Ok(message) => {
+            let written = writes(rt, &message, want, name);
+            drop(message);
+            written
+        }
+        Err(fault) => {
+            assert_eq!(rt; fault, FormFault::BadVendor);
+            assert_eq!(rt; name, "VENDOR");
+            Ok(())
+        }
+    }
+}
+
 /// Reads a message whose bytes at these places are set, and writes it back with zeros there.
 fn there_and_back(
     rt: &(impl Abort + AllocGlobal),
@@ -38,22 +73,12 @@ fn there_and_back(
             *byte = 0xff;
         }
     }
-    match read(rt, &frame) {
-        Ok(message) => {
-            let written = write_message(rt.alloc(), &message)?;
-            assert_eq!(rt; written.as_slice(), plain.as_slice(), "at {name}");
-        }
-        Err(fault) => {
-            assert_eq!(rt; fault, FormFault::BadVendor);
-            assert_eq!(rt; name, "VENDOR");
-        }
-    }
-    Ok(())
+    reads_and_writes(rt, name, &frame, &plain)
 }
 
 #[test]
 fn another_implementation(rt: HostRuntime) -> Result<(), Fail> {
-    for (name, digits, padding) in vectors::MESSAGES {
+    for (name, digits, padding) in &vectors::MESSAGES {
         there_and_back(&rt, name, digits, &[])?;
         there_and_back(&rt, name, digits, padding)?;
     }
@@ -88,6 +113,19 @@ fn addition(alloc: Global, m: [u8; MATCH]) -> Result<Message, Fail> {
     })
 }
 
+/// The frame is read as this message, and the message is written as the frame.
+fn is_read_and_written(
+    rt: &(impl Abort + AllocGlobal),
+    frame: &[u8],
+    message: &Message,
+) -> Result<(), Fail> {
+    let found = read(rt, frame)?;
+    assert_eq!(rt; found, *message);
+    drop(found);
+    assert!(rt; fits(message));
+    writes(rt, message, frame, "FLOW_MOD")
+}
+
 #[test]
 fn one_flow_mod(rt: HostRuntime) -> Result<(), Fail> {
     let frame = hex::decode(rt.alloc(), ADD)?;
@@ -95,11 +133,9 @@ fn one_flow_mod(rt: HostRuntime) -> Result<(), Fail> {
     let mut m = [0; MATCH];
     m.copy_from_slice(&frame[8..48]);
     let message = addition(rt.alloc(), m)?;
-    assert_eq!(rt; read(&rt, &frame)?, message);
-    assert!(rt; fits(&message));
-    let written = write_message(rt.alloc(), &message)?;
-    assert_eq!(rt; written.as_slice(), &frame[..]);
-    Ok(())
+    let written = is_read_and_written(&rt, &frame, &message);
+    drop(message);
+    written
 }
 
 #[test]
@@ -154,9 +190,9 @@ fn fault_of(rt: &(impl Abort + AllocGlobal), digits: &str) -> Result<Option<Form
 
 #[test]
 fn refusals(rt: HostRuntime) -> Result<(), Fail> {
-    for (digits, want) in REFUSALS {
+    for (digits, want) in &REFUSALS {
         let fault = fault_of(&rt, digits)?;
-        assert_eq!(rt; fault, want, "at {digits}");
+        assert_eq!(rt; fault, *want, "at {digits}");
     }
     Ok(())
 }
@@ -209,11 +245,11 @@ fn has(least: usize, step: usize, length: u16) -> bool {
 
 #[test]
 fn lengths(rt: HostRuntime) -> Result<(), Fail> {
-    for (number, (least, step)) in LENGTHS.into_iter().enumerate() {
+    for (number, (least, step)) in LENGTHS.iter().enumerate() {
         let kind = number as u8;
         for length in 8..130u16 {
             let refused = is_too_short_or_long(&rt, kind, length)?;
-            assert_eq!(rt; refused, !has(least, step, length), "type {kind}");
+            assert_eq!(rt; refused, !has(*least, *step, length), "type {kind}");
         }
     }
     Ok(())

@@ -25,13 +25,21 @@ fn with_two(alloc: Global) -> Result<Outbox, Memory> {
     Ok(outbox)
 }
 
+/// A copy of it.
+fn copied(alloc: Global) -> Result<Outbox, Memory> {
+    let outbox = with_two(alloc)?;
+    let copied = outbox.copy();
+    drop(outbox);
+    copied
+}
+
 #[test]
 fn a_copy_is_taken_from_alone(rt: HostRuntime) -> Result<(), Fail> {
-    let mut outbox = with_two(rt.alloc())?.copy()?;
-    assert_eq!(rt;
-        outbox.take(1),
-        Taking::Taken(Bytes::from_slice(rt.alloc(), b"one")?)
-    );
-    assert_eq!(rt; outbox.take(2), Taking::Empty);
+    let one = Bytes::from_slice(rt.alloc(), b"one")?;
+    let mut outbox = copied(rt.alloc())?;
+    let (first, second) = (outbox.take(1), outbox.take(2));
+    drop(outbox);
+    assert_eq!(rt; first, Taking::Taken(one));
+    assert_eq!(rt; second, Taking::Empty);
     Ok(())
 }

@@ -210,8 +210,8 @@ fn datagrams_and_fragments(rt: HostRuntime) -> Result<(), Fail> {
             &LATER_FRAGMENT_REWRITTEN,
         ),
     ];
-    for (frame, shown, r, want) in table {
-        reads_and_rewrites(&rt, rt.alloc(), frame, shown, &r, want)?;
+    for (frame, shown, r, want) in &table {
+        reads_and_rewrites(&rt, rt.alloc(), frame, shown, r, want)?;
     }
     Ok(())
 }
@@ -262,8 +262,8 @@ fn frames_of_other_tools(rt: HostRuntime) -> Result<(), Fail> {
             &TCP_REWRITTEN,
         ),
     ];
-    for (frame, shown, r, want) in table {
-        reads_and_rewrites(&rt, rt.alloc(), frame, shown, &r, want)?;
+    for (frame, shown, r, want) in &table {
+        reads_and_rewrites(&rt, rt.alloc(), frame, shown, r, want)?;
     }
     Ok(())
 }

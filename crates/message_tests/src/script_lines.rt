@@ -4,34 +4,35 @@ use script_text::{Audit, DownCause, Form, Line, audit_line, read_line, report_li
 use std::alloc::Global;
 use std::test::*;
 
+/// What a line says.
+fn told(alloc: Global, line: &Line) -> Result<String, Fail> {
+    let text = match line {
+        Line::Blank => format!(in alloc; "blank"),
+        Line::Up { name, noarp } => format!(in alloc; "up {name} {noarp}"),
+        Line::From { name, bytes } => format!(in alloc; "from {name} {:?}", bytes.as_slice()),
+        Line::Gone { name } => format!(in alloc; "gone {name}"),
+        Line::Tick { second } => format!(in alloc; "tick {second}"),
+        Line::Expr { name, text } => format!(in alloc; "expr {name} {text}"),
+        Line::Ask {
+            switch,
+            port,
+            bytes,
+        } => format!(in alloc; "ask {switch} {port} {:?}", bytes.as_slice()),
+        Line::Packet {
+            switch,
+            port,
+            bytes,
+        } => format!(in alloc; "packet {switch} {port} {}", bytes.len()),
+    };
+    Ok(text?)
+}
+
 /// What is read, or the kind of its fault.
 fn shown(alloc: Global, form: Form, line: &[u8]) -> Result<String, Fail> {
-    let text = match read_line(alloc, form, line) {
-        Ok(Line::Blank) => format!(in alloc; "blank")?,
-        Ok(Line::Up { name, noarp }) => format!(in alloc; "up {name} {noarp}")?,
-        Ok(Line::From { name, bytes }) => {
-            format!(in alloc; "from {name} {:?}", bytes.as_slice())?
-        }
-        Ok(Line::Gone { name }) => format!(in alloc; "gone {name}")?,
-        Ok(Line::Tick { second }) => format!(in alloc; "tick {second}")?,
-        Ok(Line::Expr { name, text }) => format!(in alloc; "expr {name} {text}")?,
-        Ok(
-            Line::Ask {
-                switch,
-                port,
-                bytes,
-            },
-        ) => format!(in alloc; "ask {switch} {port} {:?}", bytes.as_slice())?,
-        Ok(
-            Line::Packet {
-                switch,
-                port,
-                bytes,
-            },
-        ) => format!(in alloc; "packet {switch} {port} {}", bytes.len())?,
-        Err(fault) => format!(in alloc; "{fault}")?,
-    };
-    Ok(text)
+    match read_line(alloc, form, line) {
+        Ok(line) => told(alloc, &line),
+        Err(fault) => Ok(format!(in alloc; "{fault}")?),
+    }
 }
 
 const LINES: [(Form, &str, &str); 20] = [
@@ -67,9 +68,9 @@ const LINES: [(Form, &str, &str); 20] = [
 
 #[test]
 fn lines(rt: HostRuntime) -> Result<(), Fail> {
-    for (form, line, want) in LINES {
-        let text = shown(rt.alloc(), form, line.as_bytes())?;
-        assert_eq!(rt; text.as_str(), want, "at {line}");
+    for (form, line, want) in &LINES {
+        let text = shown(rt.alloc(), *form, line.as_bytes())?;
+        assert_eq!(rt; text.as_str(), *want, "at {line}");
     }
     Ok(())
 }
@@ -89,17 +90,29 @@ fn denial(alloc: Global) -> Result<Audit, Fail> {
     })
 }
 
-/// What the audit tells when the switch s1 goes down.
+/// What the audit tells.
+fn audited(alloc: Global, audit: Audit) -> Result<Text, Fail> {
+    let line = audit_line(alloc, &audit);
+    drop(audit);
+    Ok(line?)
+}
+
+/// What it tells when the switch s1 goes down.
 fn down(alloc: Global, cause: DownCause) -> Result<Text, Fail> {
     let name = text(alloc, "s1")?;
-    Ok(audit_line(alloc, &Audit::Down { name, cause })?)
+    audited(alloc, Audit::Down { name, cause })
 }
 
 #[test]
-fn audit(rt: HostRuntime) -> Result<(), Fail> {
-    let line = audit_line(rt.alloc(), &denial(rt.alloc())?)?;
+fn audit_of_a_denial(rt: HostRuntime) -> Result<(), Fail> {
+    let line = audited(rt.alloc(), denial(rt.alloc())?)?;
     let want = "deny ctl=app vsw=v1 xid=33 rule=form error=2,1";
     assert_eq!(rt; line.as_bytes(), want.as_bytes());
+    Ok(())
+}
+
+#[test]
+fn audit_of_switches(rt: HostRuntime) -> Result<(), Fail> {
     for (cause, want) in [
         (DownCause::Gone, "down s1 why=gone"),
         (DownCause::Removal, "down s1 why=removal"),

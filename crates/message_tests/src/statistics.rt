@@ -45,6 +45,22 @@ fn reply_of(alloc: Global, frame: &[u8]) -> Result<StatsReply, StatsFault>
     read_reply(alloc, body)
 }
 
+/// Reads a request, and writes it as these bytes.
+fn is_request(
+    rt: &(impl Abort + AllocGlobal),
+    plain: &[u8],
+    frame: &[u8],
+    want: &StatsRequest,
+) -> Result<(), Fail> {
+    assert!(rt; frame.len() >= 12);
+    assert!(rt; frame.len() <= 65535);
+    let request = request_of(frame)?;
+    assert_eq!(rt; request, *want);
+    let written = write_request(rt.alloc(), &request, xid_of(frame))?;
+    assert_eq!(rt; written.as_slice(), plain);
+    Ok(())
+}
+
 /// Reads a request whose padding is set, and writes it with zeros there.
 fn request_again(
     rt: &(impl Abort + AllocGlobal),
@@ -54,21 +70,31 @@ fn request_again(
 ) -> Result<(), Fail> {
     let plain = hex::decode(rt.alloc(), digits)?;
     let frame = message(rt.alloc(), digits, places)?;
-    assert!(rt; frame.len() >= 12);
-    assert!(rt; frame.len() <= 65535);
-    let request = request_of(&frame)?;
-    assert_eq!(rt; request, *want, "at {digits}");
-    let written = write_request(rt.alloc(), &request, xid_of(&frame))?;
-    assert_eq!(rt; written.as_slice(), plain.as_slice(), "at {digits}");
-    Ok(())
+    is_request(rt, &plain, &frame, want)
 }
 
 #[test]
 fn requests(rt: HostRuntime) -> Result<(), Fail> {
-    for (digits, padding, want) in vectors::REQUESTS {
-        request_again(&rt, digits, &[], &want)?;
-        request_again(&rt, digits, padding, &want)?;
+    for (digits, padding, want) in &vectors::REQUESTS {
+        request_again(&rt, digits, &[], want)?;
+        request_again(&rt, digits, padding, want)?;
     }
+    Ok(())
+}
+
+/// A reply is written as one message, of these bytes.
+fn writes_one(
+    rt: &(impl Abort + AllocGlobal),
+    reply: &StatsReply,
+    xid: u32,
+    want: &[u8],
+) -> Result<(), Fail>
+    requires { CanWriteBody reply.now.body }
+{
+    assert!(rt; !reply.more);
+    let written = write_reply(rt.alloc(), reply, xid)?;
+    let first = written.as_slice().first().ok_or("nothing is written")?;
+    assert_eq!(rt; (written.len(), first.as_slice()), (1, want));
     Ok(())
 }
 
@@ -81,20 +107,36 @@ fn reply_again(
     assert!(rt; frame.len() >= 12);
     assert!(rt; frame.len() <= 65535);
     let reply = reply_of(rt.alloc(), frame)?;
-    assert!(rt; !reply.more);
-    let written = write_reply(rt.alloc(), &reply, xid_of(frame))?;
-    let first = written.as_slice().first().ok_or("nothing is written")?;
-    assert_eq!(rt; (written.len(), first.as_slice()), (1, plain));
-    Ok(reply)
+    match writes_one(rt, &reply, xid_of(frame), plain) {
+        Ok(()) => Ok(reply),
+        Err(fault) => {
+            drop(reply);
+            Err(fault)
+        }
+    }
+}
+
+/// What is read with its padding set is this reply.
+fn is_reply(
+    rt: &(impl Abort + AllocGlobal),
+    plain: &[u8],
+    frame: &[u8],
+    want: &StatsReply,
+) -> Result<(), Fail> {
+    let reply = reply_again(rt, plain, frame)?;
+    assert_eq!(rt; reply, *want, "at {plain:?}");
+    Ok(())
 }
 
 #[test]
 fn replies(rt: HostRuntime) -> Result<(), Fail> {
-    for (digits, padding) in vectors::REPLIES {
+    for (digits, padding) in &vectors::REPLIES {
         let plain = hex::decode(rt.alloc(), digits)?;
         let frame = message(rt.alloc(), digits, padding)?;
         let reply = reply_again(&rt, &plain, &plain)?;
-        assert_eq!(rt; reply_again(&rt, &plain, &frame)?, reply, "at {digits}");
+        let same = is_reply(&rt, &plain, &frame, &reply);
+        drop(reply);
+        same?;
     }
     Ok(())
 }
@@ -148,6 +190,14 @@ fn part_is(
     Ok(())
 }
 
+/// The messages of a reply with so many entries.
+fn written(alloc: Global, count: usize) -> Result<List<Bytes>, Memory> {
+    let reply = entries(alloc, count)?;
+    let messages = write_reply(alloc, &reply, 9);
+    drop(reply);
+    messages
+}
+
 /// For so many entries of 96 bytes: how many parts there are, and what one of them is like.
 #[test]
 fn parts(rt: HostRuntime) -> Result<(), Fail> {
@@ -157,13 +207,10 @@ fn parts(rt: HostRuntime) -> Result<(), Fail> {
         (22, 2, 0, (2028, 1)),
         (22, 2, 1, (108, 0)),
     ] {
-        let messages = write_reply(rt.alloc(), &entries(rt.alloc(), count)?, 9)?;
+        let messages = written(rt.alloc(), count)?;
         assert_eq!(rt; messages.len(), parts);
-        part_is(
-            &rt,
-            messages.get(place).ok_or("there is no such part")?,
-            want,
-        )?;
+        let part = messages.get(place).ok_or("there is no such part")?;
+        part_is(&rt, part, want)?;
     }
     Ok(())
 }
@@ -192,14 +239,20 @@ fn description(alloc: Global) -> Result<Vec<u8>, Fail> {
     Ok(frame)
 }
 
+/// How many texts a reply has.
+fn count_texts(reply: &StatsReply) -> usize {
+    match &reply.body {
+        ReplyBody::Desc { texts } => texts.len(),
+        _ => 0,
+    }
+}
+
 #[test]
 fn texts(rt: HostRuntime) -> Result<(), Fail> {
     let frame = description(rt.alloc())?;
     let reply = reply_again(&rt, &frame, &frame)?;
-    let texts = match reply.body {
-        ReplyBody::Desc { ref texts } => texts.len(),
-        _ => 0,
-    };
+    let texts = count_texts(&reply);
+    drop(reply);
     assert_eq!(rt; texts, 5);
     Ok(())
 }

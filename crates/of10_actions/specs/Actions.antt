@@ -1,7 +1,9 @@
 -- The ranges of the numbers of actions.
 use Rattle.std.specs.Prelude.{◌≡◌, List, All, ◌<◌, ◌^◌, ◌%◌}
 use Rattle.of10_actions.specs.declared.action.Action.{Action}
-use Rattle.of10_actions.specs.declared.action.Action.TheVariants.{Output, SetVlanVid, SetVlanPcp, StripVlan, SetDlSrc, SetDlDst, SetNwSrc, SetNwDst, SetNwTos, SetTpSrc, SetTpDst, Enqueue}
+use Rattle.of10_actions.specs.declared.action.Action.TheVariants.{Output, SetVlanVid, SetVlanPcp, StripVlan, SetDlSrc}
+use Rattle.of10_actions.specs.declared.action.Action.TheVariants.{SetDlDst, SetNwSrc, SetNwDst, SetNwTos, SetTpSrc}
+use Rattle.of10_actions.specs.declared.action.Action.TheVariants.{SetTpDst, Enqueue}
 
 -- an action's numbers are in their ranges, as far as their types leave a choice
 abbrev pub IsInRange : Action → Type 0

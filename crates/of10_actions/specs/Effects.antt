@@ -5,7 +5,8 @@ use Rattle.of10_actions.specs.Fields.{RewriteOf}
 use Rattle.of10_actions.specs.Numbers.{ACTION, IN_PORT, NORMAL, FLOOD, ALL, CONTROLLER}
 use Rattle.of10_actions.specs.Rewriting.{and_then, no_rewrite, Extends}
 use Rattle.of10_actions.specs.declared.action.Action.{Action}
-use Rattle.of10_actions.specs.declared.action.Action.TheVariants.{Output, SetDlSrc, SetDlDst, SetNwSrc, SetNwDst, SetNwTos, SetTpSrc, SetTpDst}
+use Rattle.of10_actions.specs.declared.action.Action.TheVariants.{Output, SetDlSrc, SetDlDst, SetNwSrc, SetNwDst}
+use Rattle.of10_actions.specs.declared.action.Action.TheVariants.{SetNwTos, SetTpSrc, SetTpDst}
 use Rattle.of10_actions.specs.declared.effects.Dest.{Dest}
 use Rattle.of10_actions.specs.declared.effects.Dest.TheVariants.{Port, Flood, Ingress, Tell}
 use Rattle.of10_actions.specs.declared.effects.Effects.{Effects}

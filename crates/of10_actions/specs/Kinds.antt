@@ -3,11 +3,14 @@ use Rattle.std.specs.Prelude.{ℕ, List, [], ◌∷◌, Option, slice_get}
 use Rattle.of10_actions.specs.declared.action.Action.{Action}
 use Rattle.of10_actions.specs.declared.action.Action.TheVariants as actions
 use Rattle.of10_actions.specs.declared.kind.Kind.{Kind}
-use Rattle.of10_actions.specs.declared.kind.Kind.TheVariants.{Output, SetVlanVid, SetVlanPcp, StripVlan, SetDlSrc, SetDlDst, SetNwSrc, SetNwDst, SetNwTos, SetTpSrc, SetTpDst, Enqueue}
+use Rattle.of10_actions.specs.declared.kind.Kind.TheVariants.{Output, SetVlanVid, SetVlanPcp, StripVlan, SetDlSrc}
+use Rattle.of10_actions.specs.declared.kind.Kind.TheVariants.{SetDlDst, SetNwSrc, SetNwDst, SetNwTos, SetTpSrc}
+use Rattle.of10_actions.specs.declared.kind.Kind.TheVariants.{SetTpDst, Enqueue}
 
 -- the types, by their numbers from 0
 abbrev pub kinds : List Kind
-kinds = Output ∷ SetVlanVid ∷ SetVlanPcp ∷ StripVlan ∷ SetDlSrc ∷ SetDlDst ∷ SetNwSrc ∷ SetNwDst ∷ SetNwTos ∷ SetTpSrc ∷ SetTpDst ∷ Enqueue ∷ []
+kinds = Output ∷ SetVlanVid ∷ SetVlanPcp ∷ StripVlan ∷ SetDlSrc ∷ SetDlDst ∷ SetNwSrc ∷ SetNwDst ∷ SetNwTos ∷ SetTpSrc
+    ∷ SetTpDst ∷ Enqueue ∷ []
 
 -- the type of a number
 abbrev pub kind_of : ℕ → Option Kind

@@ -1,7 +1,9 @@
 -- Equality of actions as a test.
 use Rattle.std.specs.Prelude.{Bool, true, false, ◌==◌, ◌&&◌}
 use Rattle.of10_actions.specs.declared.action.Action.{Action}
-use Rattle.of10_actions.specs.declared.action.Action.TheVariants.{Output, SetVlanVid, SetVlanPcp, StripVlan, SetDlSrc, SetDlDst, SetNwSrc, SetNwDst, SetNwTos, SetTpSrc, SetTpDst, Enqueue}
+use Rattle.of10_actions.specs.declared.action.Action.TheVariants.{Output, SetVlanVid, SetVlanPcp, StripVlan, SetDlSrc}
+use Rattle.of10_actions.specs.declared.action.Action.TheVariants.{SetDlDst, SetNwSrc, SetNwDst, SetNwTos, SetTpSrc}
+use Rattle.of10_actions.specs.declared.action.Action.TheVariants.{SetTpDst, Enqueue}
 
 -- two actions do the same
 abbrev pub same_action : Action → Action → Bool

@@ -32,7 +32,8 @@ FaultsBehindIt = (reading (to_one_bytes ++ 0 ∷ 1 ∷ 0 ∷ 8 ∷ 16 ∷ 0 ∷ 
 -- two sets of one field between outputs, a flood, and a pass: the second set wins
 abbrev pub TwoSets : Type 0
 TwoSets =
-    effects_of (record { v = 7; outside = 1 ∷ 4 ∷ []; links = [] }) 0 (SetNwTos 4 ∷ Output 1 0 ∷ SetNwTos 8 ∷ Output 0xfffb 0 ∷ Output 0xfffa 0 ∷ [])
+    effects_of (record { v = 7; outside = 1 ∷ 4 ∷ []; links = [] }) 0
+    (SetNwTos 4 ∷ Output 1 0 ∷ SetNwTos 8 ∷ Output 0xfffb 0 ∷ Output 0xfffa 0 ∷ [])
     ≡ record {
       outs = record { rewrite = record no_rewrite { nw_tos = Some 4 }; dest = Port 7 1 }
           ∷ record { rewrite = record no_rewrite { nw_tos = Some 8 }; dest = Flood 7 1 }
@@ -43,6 +44,7 @@ TwoSets =
 -- an address is set in IPv4 and not in ARP, a port in UDP and not in ICMP
 abbrev pub SetWhereThere : Type 0
 SetWhereThere = (h : HeaderOf) → let r : RewriteOf = record no_rewrite { nw_dst = Some 9; tp_dst = Some 80 } in
-    (apply r (record h { dl_type = 0x0800; nw_proto = 17 }) ≡ record h { dl_type = 0x0800; nw_proto = 17; nw_dst = 9; tp_dst = 80 })
+    (apply r (record h { dl_type = 0x0800; nw_proto = 17 })
+    ≡ record h { dl_type = 0x0800; nw_proto = 17; nw_dst = 9; tp_dst = 80 })
     × (apply r (record h { dl_type = 0x0800; nw_proto = 1 }) ≡ record h { dl_type = 0x0800; nw_proto = 1; nw_dst = 9 })
     × (apply r (record h { dl_type = 0x0806; nw_proto = 1 }) ≡ record h { dl_type = 0x0806; nw_proto = 1 })

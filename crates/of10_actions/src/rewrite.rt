@@ -1,6 +1,7 @@
 //! Rewrites: new values of some fields.
 ghost use Rattle.std.specs.Prelude.{◌≡◌};
-ghost use Rattle.of10_actions.specs.Rewriting.{and_then, apply as apply_of, has_tcp_udp as has_tcp_udp_of, no_rewrite, set_value};
+ghost use Rattle.of10_actions.specs.Rewriting.{and_then, apply as apply_of, has_tcp_udp as has_tcp_udp_of, no_rewrite};
+ghost use Rattle.of10_actions.specs.Rewriting.{set_value};
 
 use cv_io::{Duplicate, Memory};
 use of10_match::{Header, IPV4, TCP, UDP};

@@ -1,5 +1,6 @@
 //! From actions to bytes.
-ghost use Rattle.std.specs.Prelude.{◌≡◌, ◌-◌, ◌<◌, ◌^◌, ◌++◌, All, IfOk, OnErr, OnOk, length, min, replicate, slice_set, take};
+ghost use Rattle.std.specs.Prelude.{◌≡◌, ◌-◌, ◌<◌, ◌^◌, ◌++◌, All, IfOk, OnErr, OnOk, length, min, replicate};
+ghost use Rattle.std.specs.Prelude.{slice_set, take};
 ghost use Rattle.of10_actions.specs.Actions.{AreInRange, FitsTypes, IsInRange};
 ghost use Rattle.of10_actions.specs.Kinds.{length_of, type_of};
 ghost use Rattle.of10_actions.specs.Reading.{reading};

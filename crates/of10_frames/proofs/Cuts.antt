@@ -17,9 +17,13 @@ pub record AreTaken (bytes : List ℕ) (frames : List (List ℕ)) (rest : List �
   pub whole : All IsFrame frames
 
 -- one more is taken
-pub more_taken : (bytes : List ℕ) (frames : List (List ℕ)) (old frame new : List ℕ) → AreTaken bytes frames old → IsFrame frame → old ≡ frame ++ new → AreTaken bytes (frames ++ frame ∷ []) new
+pub more_taken : (bytes : List ℕ) (frames : List (List ℕ)) (old frame new : List ℕ) → AreTaken bytes frames old
+    → IsFrame frame → old ≡ frame ++ new → AreTaken bytes (frames ++ frame ∷ []) new
 more_taken bytes frames old frame new t f e = record {
-  parts = t.parts ∙ (ap (λ (x : List ℕ). joined frames ++ x) e ∙ (sym (append_assoc (joined frames) frame new) ∙ ap (λ (x : List ℕ). x ++ new) (ap (λ (x : List ℕ). joined frames ++ x) (sym (append-nil frame)) ∙ sym (flat_map-append (λ (x : List ℕ). x) frames (frame ∷ [])))));
+  parts = t.parts ∙ (ap (λ (x : List ℕ). joined frames ++ x) e
+      ∙ (sym (append_assoc (joined frames) frame new)
+      ∙ ap (λ (x : List ℕ). x ++ new) (ap (λ (x : List ℕ). joined frames ++ x) (sym (append-nil frame))
+      ∙ sym (flat_map-append (λ (x : List ℕ). x) frames (frame ∷ [])))));
   whole = All-push IsFrame frames frame t.whole f;
 }
 
@@ -27,14 +31,19 @@ more_taken bytes frames old frame new t f e = record {
 same_front : (f g x y : List ℕ) → IsFrame f → IsFrame g → f ++ x ≡ g ++ y → f ≡ g
 same_front f g x y a b e =
     let size : length f ≡ length g =
-    sym a.whole ∙ (sym (length_field-append f x (omega (arith, a.header))) ∙ (ap length_field e ∙ (length_field-append g y (omega (arith, b.header)) ∙ b.whole))) in
+    sym a.whole ∙ (sym (length_field-append f x (omega (arith, a.header)))
+    ∙ (ap length_field e ∙ (length_field-append g y (omega (arith, b.header)) ∙ b.whole))) in
     sym (take_at f x (length f) refl) ∙ (ap (take (length f)) e ∙ take_at g y (length f) (sym size))
 
 -- bytes of a frame and more begin with it
-starts : (f x : List ℕ) (fs : List (List ℕ)) (rest : List ℕ) → x ≡ joined (f ∷ fs) ++ rest → x ≡ f ++ (joined fs ++ rest)
-starts f x fs rest e = e ∙ (ap (λ (y : List ℕ). y ++ rest) (flat_map-cons (λ (y : List ℕ). y) f fs) ∙ append_assoc f (joined fs) rest)
+starts : (f x : List ℕ) (fs : List (List ℕ)) (rest : List ℕ) → x ≡ joined (f ∷ fs) ++ rest
+    → x ≡ f ++ (joined fs ++ rest)
+starts f x fs rest e = e ∙ (ap (λ (y : List ℕ). y ++ rest) (flat_map-cons (λ (y : List ℕ). y) f fs)
+    ∙ append_assoc f (joined fs) rest)
 
-same_parts : (bytes : List ℕ) (fs gs : List (List ℕ)) (r s : List ℕ) → AllByRecursion IsFrame fs → AllByRecursion IsFrame gs → (BeginsWithFrame r → ⊥) → (BeginsWithFrame s → ⊥) → bytes ≡ joined fs ++ r → bytes ≡ joined gs ++ s → (fs ≡ gs) × (r ≡ s)
+same_parts : (bytes : List ℕ) (fs gs : List (List ℕ)) (r s : List ℕ) → AllByRecursion IsFrame fs
+    → AllByRecursion IsFrame gs → (BeginsWithFrame r → ⊥) → (BeginsWithFrame s → ⊥) → bytes ≡ joined fs ++ r
+    → bytes ≡ joined gs ++ s → (fs ≡ gs) × (r ≡ s)
 same_parts bytes [] [] r s a b p q d e = (refl, sym d ∙ e)
 same_parts bytes [] (g ∷ gs) r s a b p q d e = absurd (p (g, joined gs ++ s, b.0, sym d ∙ starts g bytes gs s e))
 same_parts bytes (f ∷ fs) [] r s a b p q d e = absurd (q (f, joined fs ++ r, a.0, sym e ∙ starts f bytes fs r d))
@@ -42,11 +51,14 @@ same_parts bytes (f ∷ fs) (g ∷ gs) r s a b p q d e =
     let d' = starts f bytes fs r d in
     let e' = starts g bytes gs s e in
     let front = same_front f g (joined fs ++ r) (joined gs ++ s) a.0 b.0 (sym d' ∙ e') in
-    let after : joined fs ++ r ≡ joined gs ++ s = append_cancel_left f _ _ (sym d' ∙ (e' ∙ ap (λ (x : List ℕ). x ++ (joined gs ++ s)) (sym front))) in
+    let after : joined fs ++ r ≡ joined gs ++ s =
+    append_cancel_left f _ _ (sym d' ∙ (e' ∙ ap (λ (x : List ℕ). x ++ (joined gs ++ s)) (sym front))) in
     let rest = same_parts (joined fs ++ r) fs gs r s a.1 b.1 p q refl after in
     (cc, rest.1)
 
 -- a byte string has one cut
-pub one_cut : (bytes : List ℕ) (fs gs : List (List ℕ)) (r s : List ℕ) → IsCut bytes fs r → IsCut bytes gs s → (fs ≡ gs) × (r ≡ s)
+pub one_cut : (bytes : List ℕ) (fs gs : List (List ℕ)) (r s : List ℕ) → IsCut bytes fs r → IsCut bytes gs s
+    → (fs ≡ gs) × (r ≡ s)
 one_cut bytes fs gs r s a b =
-    same_parts bytes fs gs r s (recursion_from_All IsFrame fs a.whole) (recursion_from_All IsFrame gs b.whole) a.ends b.ends a.parts b.parts
+    same_parts bytes fs gs r s (recursion_from_All IsFrame fs a.whole) (recursion_from_All IsFrame gs b.whole) a.ends
+    b.ends a.parts b.parts

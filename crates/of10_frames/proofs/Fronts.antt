@@ -13,21 +13,31 @@ length_field-append front after long =
     ap (big_number 2) (drop-append-le 2 front after (omega arith)) ∙ big_from-append 2 (drop 2 front) after rest
 
 -- so many bytes of the front are a frame
-pub front_frame : (bytes : List ℕ) → 8 ≤ length_field bytes → length_field bytes ≤ length bytes → IsFrame (take (length_field bytes) bytes)
+pub front_frame : (bytes : List ℕ) → 8 ≤ length_field bytes → length_field bytes ≤ length bytes
+    → IsFrame (take (length_field bytes) bytes)
 front_frame bytes header whole =
     let n = length_field bytes in
     let size : length (take n bytes) ≡ n = length-take-le n bytes whole in
-    let same : n ≡ length_field (take n bytes) = ap length_field (sym (take-append-drop n bytes)) ∙ length_field-append (take n bytes) (drop n bytes) (omega arith) in
+    let same : n ≡ length_field (take n bytes) = ap length_field (sym (take-append-drop n bytes))
+    ∙ length_field-append (take n bytes) (drop n bytes) (omega arith) in
     record { header = omega arith; whole = sym same ∙ sym size }
 
 pub begins : (bytes : List ℕ) → 8 ≤ length_field bytes → length_field bytes ≤ length bytes → BeginsWithFrame bytes
-begins bytes header whole =
-    (take (length_field bytes) bytes, drop (length_field bytes) bytes, front_frame bytes header whole, sym (take-append-drop (length_field bytes) bytes))
+begins bytes header whole = (
+  take (length_field bytes) bytes,
+  drop (length_field bytes) bytes,
+  front_frame bytes header whole,
+  sym (take-append-drop (length_field bytes) bytes),
+)
 
 -- what is given out is a frame, and the bytes after it are kept
-pub given_out : (items : List ℕ) (given size : ℕ) (kept frame : List ℕ) → drop given items ≡ kept → size ≡ length_field kept → 8 ≤ size → size ≤ length kept → frame ≡ take size kept → IsFrame frame × (kept ≡ frame ++ drop (given + size) items)
+pub given_out : (items : List ℕ) (given size : ℕ) (kept frame : List ℕ) → drop given items ≡ kept
+    → size ≡ length_field kept → 8 ≤ size → size ≤ length kept → frame ≡ take size kept
+    → IsFrame frame × (kept ≡ frame ++ drop (given + size) items)
 given_out items given size kept frame is n header whole taken =
     let k : size ≡ length_field kept = n in (
       subst IsFrame (ap (λ (m : ℕ). take m kept) (sym k) ∙ sym taken) (front_frame kept (omega arith) (omega arith)),
-      sym (take-append-drop size kept) ∙ (ap (λ (x : List ℕ). x ++ drop size kept) (sym taken) ∙ ap (λ (x : List ℕ). frame ++ x) (ap (drop size) (sym is) ∙ drop-drop size given items)),
+      sym (take-append-drop size kept)
+          ∙ (ap (λ (x : List ℕ). x ++ drop size kept) (sym taken)
+          ∙ ap (λ (x : List ℕ). frame ++ x) (ap (drop size) (sym is) ∙ drop-drop size given items)),
     )

@@ -14,4 +14,5 @@ pub record HelloHeader : Type 0 where
 
 -- the ERROR of a bad request with a bad type, for a message of type 22
 pub record BadType : Type 0 where
-  pub bytes : error_bytes 1 1 (1 ∷ 22 ∷ 0 ∷ 8 ∷ 0 ∷ 0 ∷ 1 ∷ 2 ∷ []) ≡ 1 ∷ 1 ∷ 0 ∷ 20 ∷ 0 ∷ 0 ∷ 1 ∷ 2 ∷ 0 ∷ 1 ∷ 0 ∷ 1 ∷ 1 ∷ 22 ∷ 0 ∷ 8 ∷ 0 ∷ 0 ∷ 1 ∷ 2 ∷ []
+  pub bytes : error_bytes 1 1 (1 ∷ 22 ∷ 0 ∷ 8 ∷ 0 ∷ 0 ∷ 1 ∷ 2 ∷ [])
+      ≡ 1 ∷ 1 ∷ 0 ∷ 20 ∷ 0 ∷ 0 ∷ 1 ∷ 2 ∷ 0 ∷ 1 ∷ 0 ∷ 1 ∷ 1 ∷ 22 ∷ 0 ∷ 8 ∷ 0 ∷ 0 ∷ 1 ∷ 2 ∷ []

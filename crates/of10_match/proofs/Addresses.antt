@@ -1,5 +1,6 @@
 -- Two addresses in a prefix that differ, where it leaves a bit open.
-use Rattle.std.proofs.Common.{◌≡◌, ◌<◌, ◌≤◌, ◌+◌, ◌-◌, ◌*◌, ◌/◌, ◌%◌, ◌^◌, ℕ, zero, suc, true, Option, Some, None, refl, ◌∙◌, ap, sym, arith, eq-eqb}
+use Rattle.std.proofs.Common.{◌≡◌, ◌<◌, ◌≤◌, ◌+◌, ◌-◌, ◌*◌, ◌/◌, ◌%◌, ◌^◌, ℕ, zero, suc, true, Option, Some, None, refl}
+use Rattle.std.proofs.Common.{◌∙◌, ap, sym, arith, eq-eqb}
 use Rattle.std.specs.Prelude.{IfSome}
 use Rattle.std.proofs.Math.Nat.{div-add-mod', div-lt_iff_lt-mul, mod-lt, mul-le-mul_right, pow-le-pow_right, pow-suc}
 use Rattle.std.proofs.lemmas.Nat.{div-mul-add, pow_pos, pow-add}
@@ -33,12 +34,15 @@ half_below : (j : ℕ) → 2 ^ j / 2 < 2 ^ j
 half_below j = let positive = pow_pos j in omega arith
 
 -- an address whose j low bits are zero has room for those bits
-low_bits_free : (j x y : ℕ) → j ≤ 32 → x % 2 ^ j ≡ 0 → x < 2 ^ 32 → y < 2 ^ j → ((x + y) / 2 ^ j ≡ x / 2 ^ j) × (x + y < 2 ^ 32)
+low_bits_free : (j x y : ℕ) → j ≤ 32 → x % 2 ^ j ≡ 0 → x < 2 ^ 32 → y < 2 ^ j
+    → ((x + y) / 2 ^ j ≡ x / 2 ^ j) × (x + y < 2 ^ 32)
 low_bits_free j x y most multiple small less =
     let c = x / 2 ^ j in
     let whole : x ≡ c * 2 ^ j = let split = div-add-mod' x (2 ^ j) in omega arith in
-    let parts : 2 ^ 32 ≡ 2 ^ (32 - j) * 2 ^ j = let e : 32 ≡ (32 - j) + j = omega arith in ap (λ n. 2 ^ n) e ∙ pow-add 2 (32 - j) j in
-    let place : c < 2 ^ (32 - j) = (div-lt_iff_lt-mul {k = 2 ^ j} {x = x} {y = 2 ^ (32 - j)} (pow_pos j)).1 (omega arith) in
+    let parts : 2 ^ 32 ≡ 2 ^ (32 - j) * 2 ^ j = let e : 32 ≡ (32 - j) + j = omega arith in ap (λ n. 2 ^ n) e
+    ∙ pow-add 2 (32 - j) j in
+    let place : c < 2 ^ (32 - j) = (div-lt_iff_lt-mul {k = 2 ^ j} {x = x} {y = 2 ^ (32 - j)} (pow_pos j)).1
+    (omega arith) in
     let room : (c + 1) * 2 ^ j ≤ 2 ^ (32 - j) * 2 ^ j = mul-le-mul_right (2 ^ j) (omega arith) in
     (ap (λ n. (n + y) / 2 ^ j) whole ∙ div-mul-add c (2 ^ j) y less, omega arith)
 
@@ -47,12 +51,14 @@ Picks-second = record { within = second_within; in_range = second_in_range } whe
   second_within : (o : Option Prefix) → IfSome o IsPrefix → fits_prefix o (second_address o) ≡ true
   second_within None p = refl
   second_within (Some q) p =
-      let free = low_bits_free (32 - q.len) q.addr (2 ^ (32 - q.len) / 2) (omega arith) p.3 p.2 (half_below (32 - q.len)) in
+      let free = low_bits_free (32 - q.len) q.addr (2 ^ (32 - q.len) / 2) (omega arith) p.3 p.2
+      (half_below (32 - q.len)) in
       eq-eqb (top_bits q.len q.addr) (top_bits q.len (second_address (Some q))) (sym free.0)
 
   second_in_range : (o : Option Prefix) → IfSome o IsPrefix → second_address o < 2 ^ 32
   second_in_range None p = omega arith
-  second_in_range (Some q) p = (low_bits_free (32 - q.len) q.addr (2 ^ (32 - q.len) / 2) (omega arith) p.3 p.2 (half_below (32 - q.len))).1
+  second_in_range (Some q) p =
+      (low_bits_free (32 - q.len) q.addr (2 ^ (32 - q.len) / 2) (omega arith) p.3 p.2 (half_below (32 - q.len))).1
 
 -- a prefix that leaves fewer bits open does not hold both
 pub second_apart : (j k x : ℕ) → k < j → x / 2 ^ k ≡ (x + 2 ^ j / 2) / 2 ^ k → ⊥

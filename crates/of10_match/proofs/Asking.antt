@@ -1,5 +1,6 @@
 -- One field asks for all that another asks for, exactly where what fits the second fits the first.
-use Rattle.std.proofs.Common.{◌≡◌, ◌≢◌, ◌-◌, ◌^◌, ℕ, Bool, true, false, ◌&&◌, Option, Some, None, refl, ◌∙◌, sym, arith, eqb-true, eq-eqb, leb-true, leb-false}
+use Rattle.std.proofs.Common.{◌≡◌, ◌≢◌, ◌-◌, ◌^◌, ℕ, Bool, true, false, ◌&&◌, Option, Some, None, refl, ◌∙◌, sym, arith}
+use Rattle.std.proofs.Common.{eqb-true, eq-eqb, leb-true, leb-false}
 use Rattle.std.specs.Prelude.{◌==◌, IfSome, unwrap_or}
 use Rattle.of10_match.specs.Matching.{fits, fits_prefix, asks, asks_prefix, is_longer, top_bits}
 use Rattle.of10_match.specs.Ranges.{IsPrefix}
@@ -14,23 +15,28 @@ fits-asks None y v e f = refl
 fits-asks (Some w) None v e f = cc
 fits-asks (Some w) (Some u) v e f = eq-eqb w v (eqb-true w u e ∙ eqb-true u v f)
 
-pub fits_prefix-asks : (x y : Option Prefix) (v : ℕ) → asks_prefix x y ≡ true → fits_prefix y v ≡ true → fits_prefix x v ≡ true
+pub fits_prefix-asks : (x y : Option Prefix) (v : ℕ) → asks_prefix x y ≡ true → fits_prefix y v ≡ true
+    → fits_prefix x v ≡ true
 fits_prefix-asks None y v e f = refl
 fits_prefix-asks (Some p) None v e f = cc
 fits_prefix-asks (Some p) (Some q) v e f =
     let longer = and-first (is_longer q p) (top_bits p.len p.addr == top_bits p.len q.addr) e in
     let begins = and-second (is_longer q p) (top_bits p.len p.addr == top_bits p.len q.addr) e in
-    let within = same_shorter p.len q.len q.addr v (leb-true (32 - q.len) (32 - p.len) longer) (eqb-true (top_bits q.len q.addr) (top_bits q.len v) f) in
-    eq-eqb (top_bits p.len p.addr) (top_bits p.len v) (eqb-true (top_bits p.len p.addr) (top_bits p.len q.addr) begins ∙ within)
+    let within = same_shorter p.len q.len q.addr v (leb-true (32 - q.len) (32 - p.len) longer)
+    (eqb-true (top_bits q.len q.addr) (top_bits q.len v) f) in
+    eq-eqb (top_bits p.len p.addr) (top_bits p.len v) (eqb-true (top_bits p.len p.addr) (top_bits p.len q.addr) begins
+    ∙ within)
 
 -- where the first field fits the value of the second, whichever of two stands for none
-pub asks-from_fits : (a b : ℕ) → a ≢ b → (x y : Option ℕ) → fits x (unwrap_or y a) ≡ true → fits x (unwrap_or y b) ≡ true → asks x y ≡ true
+pub asks-from_fits : (a b : ℕ) → a ≢ b → (x y : Option ℕ) → fits x (unwrap_or y a) ≡ true
+    → fits x (unwrap_or y b) ≡ true → asks x y ≡ true
 asks-from_fits a b apart None y low high = refl
 asks-from_fits a b apart (Some w) None low high = absurd (apart (sym (eqb-true w a low) ∙ eqb-true w b high))
 asks-from_fits a b apart (Some w) (Some u) low high = low
 
 -- the same of an address, where the two that are tried differ in the first bit that is open
-asks_prefix-cases : (p q : Prefix) → IsPrefix p → IsPrefix q → top_bits p.len p.addr ≡ top_bits p.len q.addr → top_bits p.len p.addr ≡ top_bits p.len (second_address (Some q))
+asks_prefix-cases : (p q : Prefix) → IsPrefix p → IsPrefix q → top_bits p.len p.addr ≡ top_bits p.len q.addr
+    → top_bits p.len p.addr ≡ top_bits p.len (second_address (Some q))
     → (b : Bool) → is_longer q p ≡ b → (b && top_bits p.len p.addr == top_bits p.len q.addr) ≡ true
 asks_prefix-cases p q ip iq low high true e = eq-eqb (top_bits p.len p.addr) (top_bits p.len q.addr) low
 asks_prefix-cases p q ip iq low high false e =

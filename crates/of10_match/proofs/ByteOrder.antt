@@ -29,6 +29,10 @@ bytes_self (x ∷ xs) = ap (λ o. ordering_then o (slice_cmp nat_cmp xs xs)) (nu
 
 -- what a comparison of bytes says of the matches that they name
 pub by_bytes_exact : (r : Ordering) (xs ys : List ℕ) (m n : MatchOf) → r ≡ slice_cmp nat_cmp xs ys
-    → named (fields_in xs) ≡ m → named (fields_in ys) ≡ n → xs ≡ match_bytes m → ys ≡ match_bytes n → (r ≡ Equal) ↔ (m ≡ n)
-by_bytes_exact r xs ys m n e names_m names_n writes_m writes_n =
-    (λ t. sym names_m ∙ (ap (λ bytes. named (fields_in bytes)) (exact_bytes xs ys (sym e ∙ t)) ∙ names_n), λ s. e ∙ (ap (slice_cmp nat_cmp xs) (writes_n ∙ (ap match_bytes (sym s) ∙ sym writes_m)) ∙ bytes_self xs))
+    → named (fields_in xs) ≡ m → named (fields_in ys) ≡ n → xs ≡ match_bytes m → ys ≡ match_bytes n
+    → (r ≡ Equal) ↔ (m ≡ n)
+by_bytes_exact r xs ys m n e names_m names_n writes_m writes_n = (
+  λ t. sym names_m ∙ (ap (λ bytes. named (fields_in bytes)) (exact_bytes xs ys (sym e ∙ t)) ∙ names_n),
+  λ s. e
+      ∙ (ap (slice_cmp nat_cmp xs) (writes_n ∙ (ap match_bytes (sym s) ∙ sym writes_m)) ∙ bytes_self xs),
+)

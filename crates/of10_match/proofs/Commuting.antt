@@ -1,5 +1,6 @@
 -- The meet does not depend on the order of the two matches.
-use Rattle.std.proofs.Common.{◌≡◌, ◌-◌, ◌*◌, ◌/◌, ◌%◌, ◌^◌, ℕ, Bool, true, false, Option, Some, None, refl, ◌∙◌, ap, sym, arith, eqb-true, leb-true, leb-false}
+use Rattle.std.proofs.Common.{◌≡◌, ◌-◌, ◌*◌, ◌/◌, ◌%◌, ◌^◌, ℕ, Bool, true, false, Option, Some, None, refl, ◌∙◌, ap}
+use Rattle.std.proofs.Common.{sym, arith, eqb-true, leb-true, leb-false}
 use Rattle.std.specs.Prelude.{◌==◌, IfSome, if◌then◌else◌}
 use Rattle.std.proofs.Math.Nat.{div-add-mod'}
 use Rattle.std.proofs.lemmas.Bool.{false≢true}
@@ -41,7 +42,8 @@ agree_prefix-cases : (p q : Prefix) (b c : Bool) → is_longer q p ≡ b → is_
     → (if b then (top_bits p.len p.addr == top_bits p.len q.addr) else (top_bits q.len p.addr == top_bits q.len q.addr))
     ≡ (if c then (top_bits q.len q.addr == top_bits q.len p.addr) else (top_bits p.len q.addr == top_bits p.len p.addr))
 agree_prefix-cases p q true true s t =
-    ap (λ k. p.addr / 2 ^ k == q.addr / 2 ^ k) (same_open p q s t) ∙ eqb-flip (top_bits q.len p.addr) (top_bits q.len q.addr)
+    ap (λ k. p.addr / 2 ^ k == q.addr / 2 ^ k) (same_open p q s t)
+    ∙ eqb-flip (top_bits q.len p.addr) (top_bits q.len q.addr)
 agree_prefix-cases p q true false s t = eqb-flip (top_bits p.len p.addr) (top_bits p.len q.addr)
 agree_prefix-cases p q false true s t = eqb-flip (top_bits q.len p.addr) (top_bits q.len q.addr)
 agree_prefix-cases p q false false s t = absurd (longer_or p q s t)
@@ -64,18 +66,21 @@ pub same_prefix : (p q : Prefix) → p.addr ≡ q.addr → p.len ≡ q.len → p
 same_prefix p q a l = λ i. record { addr = a i; len = l i }
 
 longer-cases : (p q : Prefix) → IsPrefix p → IsPrefix q → (b c : Bool) → is_longer q p ≡ b → is_longer p q ≡ c
-    → (if b then (top_bits p.len p.addr == top_bits p.len q.addr) else (top_bits q.len p.addr == top_bits q.len q.addr)) ≡ true
+    → (if b then (top_bits p.len p.addr == top_bits p.len q.addr) else (top_bits q.len p.addr == top_bits q.len q.addr))
+    ≡ true
     → (if b then Some q else Some p) ≡ (if c then Some p else Some q)
 longer-cases p q ip iq true true s t e =
     let open_bits = same_open p q s t in
     let multiple : q.addr % 2 ^ (32 - p.len) ≡ 0 = ap (λ k. q.addr % 2 ^ k) open_bits ∙ iq.3 in
-    let addresses = same_address (32 - p.len) p.addr q.addr ip.3 multiple (eqb-true (top_bits p.len p.addr) (top_bits p.len q.addr) e) in
+    let addresses = same_address (32 - p.len) p.addr q.addr ip.3 multiple
+    (eqb-true (top_bits p.len p.addr) (top_bits p.len q.addr) e) in
     ap (λ (r : Prefix). Some r) (sym (same_prefix p q addresses (omega arith)))
 longer-cases p q ip iq true false s t e = refl
 longer-cases p q ip iq false true s t e = refl
 longer-cases p q ip iq false false s t e = absurd (longer_or p q s t)
 
-longer-comm : (x y : Option Prefix) → IfSome x IsPrefix → IfSome y IsPrefix → agree_prefix x y ≡ true → longer x y ≡ longer y x
+longer-comm : (x y : Option Prefix) → IfSome x IsPrefix → IfSome y IsPrefix → agree_prefix x y ≡ true
+    → longer x y ≡ longer y x
 longer-comm None None p q e = refl
 longer-comm None (Some w) p q e = refl
 longer-comm (Some v) None p q e = refl
@@ -83,7 +88,10 @@ longer-comm (Some v) (Some w) p q e = longer-cases v w p q (is_longer w v) (is_l
 
 pub overlaps-comm : (m n : MatchOf) → overlaps m n ≡ overlaps n m
 overlaps-comm m n =
-    each-same (agree-comm m.in_port n.in_port) (agree-comm m.dl_src n.dl_src) (agree-comm m.dl_dst n.dl_dst) (agree-comm m.dl_vlan n.dl_vlan) (agree-comm m.dl_vlan_pcp n.dl_vlan_pcp) (agree-comm m.dl_type n.dl_type) (agree-comm m.nw_tos n.nw_tos) (agree-comm m.nw_proto n.nw_proto) (agree_prefix-comm m.nw_src n.nw_src) (agree_prefix-comm m.nw_dst n.nw_dst) (agree-comm m.tp_src n.tp_src) (agree-comm m.tp_dst n.tp_dst)
+    each-same (agree-comm m.in_port n.in_port) (agree-comm m.dl_src n.dl_src) (agree-comm m.dl_dst n.dl_dst)
+    (agree-comm m.dl_vlan n.dl_vlan) (agree-comm m.dl_vlan_pcp n.dl_vlan_pcp) (agree-comm m.dl_type n.dl_type)
+    (agree-comm m.nw_tos n.nw_tos) (agree-comm m.nw_proto n.nw_proto) (agree_prefix-comm m.nw_src n.nw_src)
+    (agree_prefix-comm m.nw_dst n.nw_dst) (agree-comm m.tp_src n.tp_src) (agree-comm m.tp_dst n.tp_dst)
 
 pub both-comm : (m n : MatchOf) → IsMatch m → IsMatch n → Agrees m n → both m n ≡ both n m
 both-comm m n p q a = λ i. record {

@@ -9,7 +9,8 @@ use Rattle.of10_match.specs.declared.header.Prefix.{Prefix}
 use Rattle.of10_match.proofs.Addresses.{first_address, second_address, Picks-first, Picks-second}
 use Rattle.of10_match.proofs.Asking.{fits-asks, fits_prefix-asks, asks-from_fits, asks_prefix-from_fits}
 use Rattle.of10_match.proofs.FieldTests.{Fits, covers-fields, covers-intro, holds-fields, holds-intro}
-use Rattle.of10_match.proofs.Sample.{sample, zeros, ones, Picks, Fits-sample, IsHeader-sample, IsHeader-zeros, IsHeader-ones}
+use Rattle.of10_match.proofs.Sample.{sample, zeros, ones, Picks, Fits-sample, IsHeader-sample, IsHeader-zeros}
+use Rattle.of10_match.proofs.Sample.{IsHeader-ones}
 
 Covers-from_test : (m n : MatchOf) → covers m n ≡ true → Covers m n
 Covers-from_test m n e h in_range held =
@@ -31,10 +32,12 @@ Covers-from_test m n e h in_range held =
     })
 
 -- a header that is picked from the second match is in the first
-sample_fits : (address : Option Prefix → ℕ) (d : HeaderOf) (m n : MatchOf) → Picks address → IsHeader d → IsMatch n → Covers m n → Fits m (sample address d n)
+sample_fits : (address : Option Prefix → ℕ) (d : HeaderOf) (m n : MatchOf) → Picks address → IsHeader d → IsMatch n
+    → Covers m n → Fits m (sample address d n)
 sample_fits address d m n picks in_range q all =
     let h = sample address d n in
-    holds-fields m h (all h (IsHeader-sample address d n picks in_range q) (holds-intro n h (Fits-sample address d n picks q)))
+    holds-fields m h (all h (IsHeader-sample address d n picks in_range q)
+    (holds-intro n h (Fits-sample address d n picks q)))
 
 -- two headers of the second that differ wherever they can show each field of the first
 covers-from_headers : (m n : MatchOf) → IsMatch m → IsMatch n → Covers m n → covers m n ≡ true

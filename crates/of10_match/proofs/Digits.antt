@@ -24,9 +24,12 @@ open_bits-le None = omega arith
 open_bits-le (Some p) = omega arith
 
 -- a digit of d values stands at a place, between what is below it and what is above
-digit_at : (w d place low here high : ℕ) → low < place → here < d → w ≡ (here + high * d) * place + low → (w / place) % d ≡ here
+digit_at : (w d place low here high : ℕ) → low < place → here < d → w ≡ (here + high * d) * place + low
+    → (w / place) % d ≡ here
 digit_at w d place low here high below fits e =
-    ap (λ n. (n / place) % d) e ∙ (ap (λ n. n % d) (div-mul-add (here + high * d) place low below) ∙ (add-mul-mod_self_right here high d ∙ mod-eq_of_lt fits))
+    ap (λ n. (n / place) % d) e
+    ∙ (ap (λ n. n % d) (div-mul-add (here + high * d) place low below)
+    ∙ (add-mul-mod_self_right here high d ∙ mod-eq_of_lt fits))
 
 -- the digits of the wildcards, from the lowest
 pub record IsDigits (m : MatchOf) (w : ℕ) : Type 0 where
@@ -69,18 +72,58 @@ digits_of m =
     let nw_tos_le = digit-le m.nw_tos in
     let nw_tos_bit = bit_of-digit 21 m.nw_tos in
     record {
-      in_port = digit_at (wildcards_of m) 2 (2 ^ 0) (0) (digit m.in_port) (digit m.dl_vlan + digit m.dl_src * 2 + digit m.dl_dst * 4 + digit m.dl_type * 8 + digit m.nw_proto * 16 + digit m.tp_src * 32 + digit m.tp_dst * 64 + open_bits m.nw_src * 128 + open_bits m.nw_dst * 8192 + digit m.dl_vlan_pcp * 524288 + digit m.nw_tos * 1048576) (omega arith) (omega arith) (omega arith);
-      dl_vlan = digit_at (wildcards_of m) 2 (2 ^ 1) (digit m.in_port) (digit m.dl_vlan) (digit m.dl_src + digit m.dl_dst * 2 + digit m.dl_type * 4 + digit m.nw_proto * 8 + digit m.tp_src * 16 + digit m.tp_dst * 32 + open_bits m.nw_src * 64 + open_bits m.nw_dst * 4096 + digit m.dl_vlan_pcp * 262144 + digit m.nw_tos * 524288) (omega arith) (omega arith) (omega arith);
-      dl_src = digit_at (wildcards_of m) 2 (2 ^ 2) (digit m.in_port + digit m.dl_vlan * 2) (digit m.dl_src) (digit m.dl_dst + digit m.dl_type * 2 + digit m.nw_proto * 4 + digit m.tp_src * 8 + digit m.tp_dst * 16 + open_bits m.nw_src * 32 + open_bits m.nw_dst * 2048 + digit m.dl_vlan_pcp * 131072 + digit m.nw_tos * 262144) (omega arith) (omega arith) (omega arith);
-      dl_dst = digit_at (wildcards_of m) 2 (2 ^ 3) (digit m.in_port + digit m.dl_vlan * 2 + digit m.dl_src * 4) (digit m.dl_dst) (digit m.dl_type + digit m.nw_proto * 2 + digit m.tp_src * 4 + digit m.tp_dst * 8 + open_bits m.nw_src * 16 + open_bits m.nw_dst * 1024 + digit m.dl_vlan_pcp * 65536 + digit m.nw_tos * 131072) (omega arith) (omega arith) (omega arith);
-      dl_type = digit_at (wildcards_of m) 2 (2 ^ 4) (digit m.in_port + digit m.dl_vlan * 2 + digit m.dl_src * 4 + digit m.dl_dst * 8) (digit m.dl_type) (digit m.nw_proto + digit m.tp_src * 2 + digit m.tp_dst * 4 + open_bits m.nw_src * 8 + open_bits m.nw_dst * 512 + digit m.dl_vlan_pcp * 32768 + digit m.nw_tos * 65536) (omega arith) (omega arith) (omega arith);
-      nw_proto = digit_at (wildcards_of m) 2 (2 ^ 5) (digit m.in_port + digit m.dl_vlan * 2 + digit m.dl_src * 4 + digit m.dl_dst * 8 + digit m.dl_type * 16) (digit m.nw_proto) (digit m.tp_src + digit m.tp_dst * 2 + open_bits m.nw_src * 4 + open_bits m.nw_dst * 256 + digit m.dl_vlan_pcp * 16384 + digit m.nw_tos * 32768) (omega arith) (omega arith) (omega arith);
-      tp_src = digit_at (wildcards_of m) 2 (2 ^ 6) (digit m.in_port + digit m.dl_vlan * 2 + digit m.dl_src * 4 + digit m.dl_dst * 8 + digit m.dl_type * 16 + digit m.nw_proto * 32) (digit m.tp_src) (digit m.tp_dst + open_bits m.nw_src * 2 + open_bits m.nw_dst * 128 + digit m.dl_vlan_pcp * 8192 + digit m.nw_tos * 16384) (omega arith) (omega arith) (omega arith);
-      tp_dst = digit_at (wildcards_of m) 2 (2 ^ 7) (digit m.in_port + digit m.dl_vlan * 2 + digit m.dl_src * 4 + digit m.dl_dst * 8 + digit m.dl_type * 16 + digit m.nw_proto * 32 + digit m.tp_src * 64) (digit m.tp_dst) (open_bits m.nw_src + open_bits m.nw_dst * 64 + digit m.dl_vlan_pcp * 4096 + digit m.nw_tos * 8192) (omega arith) (omega arith) (omega arith);
-      nw_src = digit_at (wildcards_of m) 64 (2 ^ 8) (digit m.in_port + digit m.dl_vlan * 2 + digit m.dl_src * 4 + digit m.dl_dst * 8 + digit m.dl_type * 16 + digit m.nw_proto * 32 + digit m.tp_src * 64 + digit m.tp_dst * 128) (open_bits m.nw_src) (open_bits m.nw_dst + digit m.dl_vlan_pcp * 64 + digit m.nw_tos * 128) (omega arith) (omega arith) (omega arith);
-      nw_dst = digit_at (wildcards_of m) 64 (2 ^ 14) (digit m.in_port + digit m.dl_vlan * 2 + digit m.dl_src * 4 + digit m.dl_dst * 8 + digit m.dl_type * 16 + digit m.nw_proto * 32 + digit m.tp_src * 64 + digit m.tp_dst * 128 + open_bits m.nw_src * 256) (open_bits m.nw_dst) (digit m.dl_vlan_pcp + digit m.nw_tos * 2) (omega arith) (omega arith) (omega arith);
-      dl_vlan_pcp = digit_at (wildcards_of m) 2 (2 ^ 20) (digit m.in_port + digit m.dl_vlan * 2 + digit m.dl_src * 4 + digit m.dl_dst * 8 + digit m.dl_type * 16 + digit m.nw_proto * 32 + digit m.tp_src * 64 + digit m.tp_dst * 128 + open_bits m.nw_src * 256 + open_bits m.nw_dst * 16384) (digit m.dl_vlan_pcp) (digit m.nw_tos) (omega arith) (omega arith) (omega arith);
-      nw_tos = digit_at (wildcards_of m) 2 (2 ^ 21) (digit m.in_port + digit m.dl_vlan * 2 + digit m.dl_src * 4 + digit m.dl_dst * 8 + digit m.dl_type * 16 + digit m.nw_proto * 32 + digit m.tp_src * 64 + digit m.tp_dst * 128 + open_bits m.nw_src * 256 + open_bits m.nw_dst * 16384 + digit m.dl_vlan_pcp * 1048576) (digit m.nw_tos) (0) (omega arith) (omega arith) (omega arith);
+      in_port = digit_at (wildcards_of m) 2 (2 ^ 0) (0) (digit m.in_port)
+          (digit m.dl_vlan + digit m.dl_src * 2 + digit m.dl_dst * 4 + digit m.dl_type * 8 + digit m.nw_proto * 16 +
+          digit m.tp_src * 32 + digit m.tp_dst * 64 + open_bits m.nw_src * 128 + open_bits m.nw_dst * 8192 + digit
+          m.dl_vlan_pcp * 524288 + digit m.nw_tos * 1048576) (omega arith) (omega arith) (omega arith);
+      dl_vlan = digit_at (wildcards_of m) 2 (2 ^ 1) (digit m.in_port) (digit m.dl_vlan)
+          (digit m.dl_src + digit m.dl_dst * 2 + digit m.dl_type * 4 + digit m.nw_proto * 8 + digit m.tp_src * 16 +
+          digit m.tp_dst * 32 + open_bits m.nw_src * 64 + open_bits m.nw_dst * 4096 + digit m.dl_vlan_pcp * 262144 +
+          digit m.nw_tos * 524288) (omega arith) (omega arith) (omega arith);
+      dl_src = digit_at (wildcards_of m) 2 (2 ^ 2) (digit m.in_port + digit m.dl_vlan * 2) (digit m.dl_src)
+          (digit m.dl_dst + digit m.dl_type * 2 + digit m.nw_proto * 4 + digit m.tp_src * 8 + digit m.tp_dst * 16 +
+          open_bits m.nw_src * 32 + open_bits m.nw_dst * 2048 + digit m.dl_vlan_pcp * 131072 + digit m.nw_tos * 262144)
+          (omega arith) (omega arith) (omega arith);
+      dl_dst = digit_at (wildcards_of m) 2 (2 ^ 3) (digit m.in_port + digit m.dl_vlan * 2 + digit m.dl_src * 4)
+          (digit m.dl_dst) (digit m.dl_type + digit m.nw_proto * 2 + digit m.tp_src * 4 + digit m.tp_dst * 8 + open_bits
+          m.nw_src * 16 + open_bits m.nw_dst * 1024 + digit m.dl_vlan_pcp * 65536 + digit m.nw_tos * 131072)
+          (omega arith) (omega arith) (omega arith);
+      dl_type = digit_at (wildcards_of m) 2 (2 ^ 4)
+          (digit m.in_port + digit m.dl_vlan * 2 + digit m.dl_src * 4 + digit m.dl_dst * 8) (digit m.dl_type)
+          (digit m.nw_proto + digit m.tp_src * 2 + digit m.tp_dst * 4 + open_bits m.nw_src * 8 + open_bits m.nw_dst *
+          512 + digit m.dl_vlan_pcp * 32768 + digit m.nw_tos * 65536) (omega arith) (omega arith) (omega arith);
+      nw_proto = digit_at (wildcards_of m) 2 (2 ^ 5)
+          (digit m.in_port + digit m.dl_vlan * 2 + digit m.dl_src * 4 + digit m.dl_dst * 8 + digit m.dl_type * 16)
+          (digit m.nw_proto) (digit m.tp_src + digit m.tp_dst * 2 + open_bits m.nw_src * 4 + open_bits m.nw_dst * 256 +
+          digit m.dl_vlan_pcp * 16384 + digit m.nw_tos * 32768) (omega arith) (omega arith) (omega arith);
+      tp_src = digit_at (wildcards_of m) 2 (2 ^ 6)
+          (digit m.in_port + digit m.dl_vlan * 2 + digit m.dl_src * 4 + digit m.dl_dst * 8 + digit m.dl_type * 16 +
+          digit m.nw_proto * 32) (digit m.tp_src)
+          (digit m.tp_dst + open_bits m.nw_src * 2 + open_bits m.nw_dst * 128 + digit m.dl_vlan_pcp * 8192 + digit
+          m.nw_tos * 16384) (omega arith) (omega arith) (omega arith);
+      tp_dst = digit_at (wildcards_of m) 2 (2 ^ 7)
+          (digit m.in_port + digit m.dl_vlan * 2 + digit m.dl_src * 4 + digit m.dl_dst * 8 + digit m.dl_type * 16 +
+          digit m.nw_proto * 32 + digit m.tp_src * 64) (digit m.tp_dst)
+          (open_bits m.nw_src + open_bits m.nw_dst * 64 + digit m.dl_vlan_pcp * 4096 + digit m.nw_tos * 8192)
+          (omega arith) (omega arith) (omega arith);
+      nw_src = digit_at (wildcards_of m) 64 (2 ^ 8)
+          (digit m.in_port + digit m.dl_vlan * 2 + digit m.dl_src * 4 + digit m.dl_dst * 8 + digit m.dl_type * 16 +
+          digit m.nw_proto * 32 + digit m.tp_src * 64 + digit m.tp_dst * 128) (open_bits m.nw_src)
+          (open_bits m.nw_dst + digit m.dl_vlan_pcp * 64 + digit m.nw_tos * 128) (omega arith) (omega arith)
+          (omega arith);
+      nw_dst = digit_at (wildcards_of m) 64 (2 ^ 14)
+          (digit m.in_port + digit m.dl_vlan * 2 + digit m.dl_src * 4 + digit m.dl_dst * 8 + digit m.dl_type * 16 +
+          digit m.nw_proto * 32 + digit m.tp_src * 64 + digit m.tp_dst * 128 + open_bits m.nw_src * 256)
+          (open_bits m.nw_dst) (digit m.dl_vlan_pcp + digit m.nw_tos * 2) (omega arith) (omega arith) (omega arith);
+      dl_vlan_pcp = digit_at (wildcards_of m) 2 (2 ^ 20)
+          (digit m.in_port + digit m.dl_vlan * 2 + digit m.dl_src * 4 + digit m.dl_dst * 8 + digit m.dl_type * 16 +
+          digit m.nw_proto * 32 + digit m.tp_src * 64 + digit m.tp_dst * 128 + open_bits m.nw_src * 256 + open_bits
+          m.nw_dst * 16384) (digit m.dl_vlan_pcp) (digit m.nw_tos) (omega arith) (omega arith) (omega arith);
+      nw_tos = digit_at (wildcards_of m) 2 (2 ^ 21)
+          (digit m.in_port + digit m.dl_vlan * 2 + digit m.dl_src * 4 + digit m.dl_dst * 8 + digit m.dl_type * 16 +
+          digit m.nw_proto * 32 + digit m.tp_src * 64 + digit m.tp_dst * 128 + open_bits m.nw_src * 256 + open_bits
+          m.nw_dst * 16384 + digit m.dl_vlan_pcp * 1048576) (digit m.nw_tos) (0) (omega arith) (omega arith)
+          (omega arith);
     }
 
 -- the wildcards have 22 bits

@@ -1,7 +1,8 @@
 -- The tests of matches, field by field.
 use Rattle.std.proofs.Common.{◌≡◌, true}
 use Rattle.of10_match.specs.Fields.{HeaderOf, MatchOf}
-use Rattle.of10_match.specs.Matching.{holds, fits, fits_prefix, asks, asks_prefix, covers, agree, agree_prefix, overlaps}
+use Rattle.of10_match.specs.Matching.{holds, fits, fits_prefix, asks, asks_prefix, covers, agree, agree_prefix}
+use Rattle.of10_match.specs.Matching.{overlaps}
 use Rattle.of10_match.proofs.Twelve.{each-fields, each-intro}
 
 -- each field of the header fits
@@ -21,7 +22,10 @@ pub record Fits (m : MatchOf) (h : HeaderOf) : Type 0 where
 
 pub holds-fields : (m : MatchOf) (h : HeaderOf) → holds m h ≡ true → Fits m h
 holds-fields m h e =
-    let t = each-fields (fits m.in_port h.in_port) (fits m.dl_src h.dl_src) (fits m.dl_dst h.dl_dst) (fits m.dl_vlan h.dl_vlan) (fits m.dl_vlan_pcp h.dl_vlan_pcp) (fits m.dl_type h.dl_type) (fits m.nw_tos h.nw_tos) (fits m.nw_proto h.nw_proto) (fits_prefix m.nw_src h.nw_src) (fits_prefix m.nw_dst h.nw_dst) (fits m.tp_src h.tp_src) (fits m.tp_dst h.tp_dst) e in
+    let t = each-fields (fits m.in_port h.in_port) (fits m.dl_src h.dl_src) (fits m.dl_dst h.dl_dst)
+    (fits m.dl_vlan h.dl_vlan) (fits m.dl_vlan_pcp h.dl_vlan_pcp) (fits m.dl_type h.dl_type)
+    (fits m.nw_tos h.nw_tos) (fits m.nw_proto h.nw_proto) (fits_prefix m.nw_src h.nw_src)
+    (fits_prefix m.nw_dst h.nw_dst) (fits m.tp_src h.tp_src) (fits m.tp_dst h.tp_dst) e in
     record {
       in_port = t.at_a;
       dl_src = t.at_b;
@@ -38,20 +42,23 @@ holds-fields m h e =
     }
 
 pub holds-intro : (m : MatchOf) (h : HeaderOf) → Fits m h → holds m h ≡ true
-holds-intro m h t = each-intro (fits m.in_port h.in_port) (fits m.dl_src h.dl_src) (fits m.dl_dst h.dl_dst) (fits m.dl_vlan h.dl_vlan) (fits m.dl_vlan_pcp h.dl_vlan_pcp) (fits m.dl_type h.dl_type) (fits m.nw_tos h.nw_tos) (fits m.nw_proto h.nw_proto) (fits_prefix m.nw_src h.nw_src) (fits_prefix m.nw_dst h.nw_dst) (fits m.tp_src h.tp_src) (fits m.tp_dst h.tp_dst) (record {
-  at_a = t.in_port;
-  at_b = t.dl_src;
-  at_c = t.dl_dst;
-  at_d = t.dl_vlan;
-  at_e = t.dl_vlan_pcp;
-  at_f = t.dl_type;
-  at_g = t.nw_tos;
-  at_h = t.nw_proto;
-  at_i = t.nw_src;
-  at_j = t.nw_dst;
-  at_k = t.tp_src;
-  at_l = t.tp_dst;
-})
+holds-intro m h t = each-intro (fits m.in_port h.in_port) (fits m.dl_src h.dl_src) (fits m.dl_dst h.dl_dst)
+    (fits m.dl_vlan h.dl_vlan) (fits m.dl_vlan_pcp h.dl_vlan_pcp) (fits m.dl_type h.dl_type) (fits m.nw_tos h.nw_tos)
+    (fits m.nw_proto h.nw_proto) (fits_prefix m.nw_src h.nw_src) (fits_prefix m.nw_dst h.nw_dst)
+    (fits m.tp_src h.tp_src) (fits m.tp_dst h.tp_dst) (record {
+      at_a = t.in_port;
+      at_b = t.dl_src;
+      at_c = t.dl_dst;
+      at_d = t.dl_vlan;
+      at_e = t.dl_vlan_pcp;
+      at_f = t.dl_type;
+      at_g = t.nw_tos;
+      at_h = t.nw_proto;
+      at_i = t.nw_src;
+      at_j = t.nw_dst;
+      at_k = t.tp_src;
+      at_l = t.tp_dst;
+    })
 
 -- no field is asked to be two values
 pub record Agrees (m : MatchOf) (n : MatchOf) : Type 0 where
@@ -70,7 +77,10 @@ pub record Agrees (m : MatchOf) (n : MatchOf) : Type 0 where
 
 pub overlaps-fields : (m : MatchOf) (n : MatchOf) → overlaps m n ≡ true → Agrees m n
 overlaps-fields m n e =
-    let t = each-fields (agree m.in_port n.in_port) (agree m.dl_src n.dl_src) (agree m.dl_dst n.dl_dst) (agree m.dl_vlan n.dl_vlan) (agree m.dl_vlan_pcp n.dl_vlan_pcp) (agree m.dl_type n.dl_type) (agree m.nw_tos n.nw_tos) (agree m.nw_proto n.nw_proto) (agree_prefix m.nw_src n.nw_src) (agree_prefix m.nw_dst n.nw_dst) (agree m.tp_src n.tp_src) (agree m.tp_dst n.tp_dst) e in
+    let t = each-fields (agree m.in_port n.in_port) (agree m.dl_src n.dl_src) (agree m.dl_dst n.dl_dst)
+    (agree m.dl_vlan n.dl_vlan) (agree m.dl_vlan_pcp n.dl_vlan_pcp) (agree m.dl_type n.dl_type)
+    (agree m.nw_tos n.nw_tos) (agree m.nw_proto n.nw_proto) (agree_prefix m.nw_src n.nw_src)
+    (agree_prefix m.nw_dst n.nw_dst) (agree m.tp_src n.tp_src) (agree m.tp_dst n.tp_dst) e in
     record {
       in_port = t.at_a;
       dl_src = t.at_b;
@@ -87,20 +97,23 @@ overlaps-fields m n e =
     }
 
 pub overlaps-intro : (m : MatchOf) (n : MatchOf) → Agrees m n → overlaps m n ≡ true
-overlaps-intro m n t = each-intro (agree m.in_port n.in_port) (agree m.dl_src n.dl_src) (agree m.dl_dst n.dl_dst) (agree m.dl_vlan n.dl_vlan) (agree m.dl_vlan_pcp n.dl_vlan_pcp) (agree m.dl_type n.dl_type) (agree m.nw_tos n.nw_tos) (agree m.nw_proto n.nw_proto) (agree_prefix m.nw_src n.nw_src) (agree_prefix m.nw_dst n.nw_dst) (agree m.tp_src n.tp_src) (agree m.tp_dst n.tp_dst) (record {
-  at_a = t.in_port;
-  at_b = t.dl_src;
-  at_c = t.dl_dst;
-  at_d = t.dl_vlan;
-  at_e = t.dl_vlan_pcp;
-  at_f = t.dl_type;
-  at_g = t.nw_tos;
-  at_h = t.nw_proto;
-  at_i = t.nw_src;
-  at_j = t.nw_dst;
-  at_k = t.tp_src;
-  at_l = t.tp_dst;
-})
+overlaps-intro m n t = each-intro (agree m.in_port n.in_port) (agree m.dl_src n.dl_src) (agree m.dl_dst n.dl_dst)
+    (agree m.dl_vlan n.dl_vlan) (agree m.dl_vlan_pcp n.dl_vlan_pcp) (agree m.dl_type n.dl_type)
+    (agree m.nw_tos n.nw_tos) (agree m.nw_proto n.nw_proto) (agree_prefix m.nw_src n.nw_src)
+    (agree_prefix m.nw_dst n.nw_dst) (agree m.tp_src n.tp_src) (agree m.tp_dst n.tp_dst) (record {
+      at_a = t.in_port;
+      at_b = t.dl_src;
+      at_c = t.dl_dst;
+      at_d = t.dl_vlan;
+      at_e = t.dl_vlan_pcp;
+      at_f = t.dl_type;
+      at_g = t.nw_tos;
+      at_h = t.nw_proto;
+      at_i = t.nw_src;
+      at_j = t.nw_dst;
+      at_k = t.tp_src;
+      at_l = t.tp_dst;
+    })
 
 -- the second asks for each field of the first
 pub record Asks (m : MatchOf) (n : MatchOf) : Type 0 where
@@ -119,7 +132,10 @@ pub record Asks (m : MatchOf) (n : MatchOf) : Type 0 where
 
 pub covers-fields : (m : MatchOf) (n : MatchOf) → covers m n ≡ true → Asks m n
 covers-fields m n e =
-    let t = each-fields (asks m.in_port n.in_port) (asks m.dl_src n.dl_src) (asks m.dl_dst n.dl_dst) (asks m.dl_vlan n.dl_vlan) (asks m.dl_vlan_pcp n.dl_vlan_pcp) (asks m.dl_type n.dl_type) (asks m.nw_tos n.nw_tos) (asks m.nw_proto n.nw_proto) (asks_prefix m.nw_src n.nw_src) (asks_prefix m.nw_dst n.nw_dst) (asks m.tp_src n.tp_src) (asks m.tp_dst n.tp_dst) e in
+    let t = each-fields (asks m.in_port n.in_port) (asks m.dl_src n.dl_src) (asks m.dl_dst n.dl_dst)
+    (asks m.dl_vlan n.dl_vlan) (asks m.dl_vlan_pcp n.dl_vlan_pcp) (asks m.dl_type n.dl_type)
+    (asks m.nw_tos n.nw_tos) (asks m.nw_proto n.nw_proto) (asks_prefix m.nw_src n.nw_src)
+    (asks_prefix m.nw_dst n.nw_dst) (asks m.tp_src n.tp_src) (asks m.tp_dst n.tp_dst) e in
     record {
       in_port = t.at_a;
       dl_src = t.at_b;
@@ -136,17 +152,20 @@ covers-fields m n e =
     }
 
 pub covers-intro : (m : MatchOf) (n : MatchOf) → Asks m n → covers m n ≡ true
-covers-intro m n t = each-intro (asks m.in_port n.in_port) (asks m.dl_src n.dl_src) (asks m.dl_dst n.dl_dst) (asks m.dl_vlan n.dl_vlan) (asks m.dl_vlan_pcp n.dl_vlan_pcp) (asks m.dl_type n.dl_type) (asks m.nw_tos n.nw_tos) (asks m.nw_proto n.nw_proto) (asks_prefix m.nw_src n.nw_src) (asks_prefix m.nw_dst n.nw_dst) (asks m.tp_src n.tp_src) (asks m.tp_dst n.tp_dst) (record {
-  at_a = t.in_port;
-  at_b = t.dl_src;
-  at_c = t.dl_dst;
-  at_d = t.dl_vlan;
-  at_e = t.dl_vlan_pcp;
-  at_f = t.dl_type;
-  at_g = t.nw_tos;
-  at_h = t.nw_proto;
-  at_i = t.nw_src;
-  at_j = t.nw_dst;
-  at_k = t.tp_src;
-  at_l = t.tp_dst;
-})
+covers-intro m n t = each-intro (asks m.in_port n.in_port) (asks m.dl_src n.dl_src) (asks m.dl_dst n.dl_dst)
+    (asks m.dl_vlan n.dl_vlan) (asks m.dl_vlan_pcp n.dl_vlan_pcp) (asks m.dl_type n.dl_type) (asks m.nw_tos n.nw_tos)
+    (asks m.nw_proto n.nw_proto) (asks_prefix m.nw_src n.nw_src) (asks_prefix m.nw_dst n.nw_dst)
+    (asks m.tp_src n.tp_src) (asks m.tp_dst n.tp_dst) (record {
+      at_a = t.in_port;
+      at_b = t.dl_src;
+      at_c = t.dl_dst;
+      at_d = t.dl_vlan;
+      at_e = t.dl_vlan_pcp;
+      at_f = t.dl_type;
+      at_g = t.nw_tos;
+      at_h = t.nw_proto;
+      at_i = t.nw_src;
+      at_j = t.nw_dst;
+      at_k = t.tp_src;
+      at_l = t.tp_dst;
+    })

@@ -14,7 +14,9 @@ either_self : (x : Option ℕ) → either x x ≡ x
 either_self None = refl
 either_self (Some v) = refl
 
-agree_prefix-cases : (p : Prefix) (b : Bool) → (if b then (top_bits p.len p.addr == top_bits p.len p.addr) else (top_bits p.len p.addr == top_bits p.len p.addr)) ≡ true
+agree_prefix-cases : (p : Prefix) (b : Bool)
+    → (if b then (top_bits p.len p.addr == top_bits p.len p.addr) else (top_bits p.len p.addr == top_bits p.len p.addr))
+    ≡ true
 agree_prefix-cases p true = eq-eqb (top_bits p.len p.addr) (top_bits p.len p.addr) refl
 agree_prefix-cases p false = eq-eqb (top_bits p.len p.addr) (top_bits p.len p.addr) refl
 
@@ -64,4 +66,5 @@ both_self m = λ i. record {
 
 pub meet_self : (m : MatchOf) → meet m m ≡ Some m
 meet_self m =
-    ap (λ (b : Bool). if b then Some (both m m) else None) (overlaps_self m) ∙ ap (λ (r : MatchOf). Some r) (both_self m)
+    ap (λ (b : Bool). if b then Some (both m m) else None) (overlaps_self m)
+    ∙ ap (λ (r : MatchOf). Some r) (both_self m)

@@ -12,8 +12,10 @@ use Rattle.of10_match.proofs.FieldTests.{overlaps-fields}
 use Rattle.of10_match.proofs.Holding.{holds-both}
 use Rattle.of10_match.proofs.NormalMeet.{IsNormal-both}
 
-headers-cases : (m n : MatchOf) (b : Bool) → overlaps m n ≡ b → IfSome (if b then Some (both m n) else None) (IsMeet m n)
-headers-cases m n true e = λ h. sym (and-true (holds (both m n) h)) ∙ (sym (ap (λ (b : Bool). holds (both m n) h && b) e) ∙ holds-both m n h)
+headers-cases : (m n : MatchOf) (b : Bool) → overlaps m n ≡ b
+    → IfSome (if b then Some (both m n) else None) (IsMeet m n)
+headers-cases m n true e = λ h. sym (and-true (holds (both m n) h))
+    ∙ (sym (ap (λ (b : Bool). holds (both m n) h && b) e) ∙ holds-both m n h)
 headers-cases m n false e = tt
 
 -- it holds the headers of both
@@ -22,7 +24,8 @@ meet_headers r m n e =
     let P : Option MatchOf → Type 0 = λ o. IfSome o (IsMeet m n) in
     subst P (sym e) (headers-cases m n (overlaps m n) refl)
 
-normal-cases : (m n : MatchOf) → IsNormal m → IsNormal n → (b : Bool) → overlaps m n ≡ b → IfSome (if b then Some (both m n) else None) IsNormal
+normal-cases : (m n : MatchOf) → IsNormal m → IsNormal n → (b : Bool) → overlaps m n ≡ b
+    → IfSome (if b then Some (both m n) else None) IsNormal
 normal-cases m n p q true e = IsNormal-both m n e p q
 normal-cases m n p q false e = tt
 
@@ -38,7 +41,8 @@ both_commutes r m n o p q e = e ∙ both-comm m n p q (overlaps-fields m n o)
 
 pub meet_commutes : (r m n : MatchOf) → overlaps m n ≡ true → r ≡ both n m → Some r ≡ meet n m
 meet_commutes r m n o e =
-    ap (λ (r : MatchOf). Some r) e ∙ sym (ap (λ (b : Bool). if b then Some (both n m) else None) (sym (overlaps-comm m n) ∙ o))
+    ap (λ (r : MatchOf). Some r) e
+    ∙ sym (ap (λ (b : Bool). if b then Some (both n m) else None) (sym (overlaps-comm m n) ∙ o))
 
 pub apart_commutes : (m n : MatchOf) → overlaps m n ≡ false → None ≡ meet n m
 apart_commutes m n e = sym (ap (λ (b : Bool). if b then Some (both n m) else None) (sym (overlaps-comm m n) ∙ e))

@@ -1,5 +1,6 @@
 -- Numbers in the bytes of a part of a list.
-use Rattle.std.proofs.Common.{◌≡◌, ◌<◌, ◌≤◌, ◌+◌, ◌^◌, ℕ, zero, suc, List, take, drop, slice_index, refl, sym, subst, ◌∙◌, ap, arith}
+use Rattle.std.proofs.Common.{◌≡◌, ◌<◌, ◌≤◌, ◌+◌, ◌^◌, ℕ, zero, suc, List, take, drop, slice_index, refl, sym, subst}
+use Rattle.std.proofs.Common.{◌∙◌, ap, arith}
 use Rattle.byteorder.specs.Endian.{big_from}
 use Rattle.byteorder.specs.Numbers.{big_from-lt, big_from-take}
 use Rattle.std.proofs.lemmas.List.{get_or-drop}

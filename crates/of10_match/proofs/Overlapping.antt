@@ -18,7 +18,8 @@ Overlap-from_test m n p q e =
     let in_range = IsMatch-both m n p q in
     let h = sample first_address zeros b in
     let in_both : holds b h ≡ true = holds-intro b h (Fits-sample first_address zeros b Picks-first in_range) in
-    let each_holds : (holds m h && holds n h) ≡ true = sym (holds-both m n h) ∙ and-intro (holds b h) (overlaps m n) in_both e in
+    let each_holds : (holds m h && holds n h) ≡ true = sym (holds-both m n h)
+    ∙ and-intro (holds b h) (overlaps m n) in_both e in
     record {
       header = h;
       is_header = IsHeader-sample first_address zeros b Picks-first IsHeader-zeros in_range;
@@ -29,9 +30,11 @@ Overlap-from_test m n p q e =
 overlaps-from_header : (m n : MatchOf) → Overlap m n → overlaps m n ≡ true
 overlaps-from_header m n o =
     let h = o.header in
-    and-second (holds (both m n) h) (overlaps m n) (holds-both m n h ∙ and-intro (holds m h) (holds n h) o.in_first o.in_second)
+    and-second (holds (both m n) h) (overlaps m n) (holds-both m n h
+    ∙ and-intro (holds m h) (holds n h) o.in_first o.in_second)
 
 -- what a test that equals `overlaps` says of headers
-pub overlaps_exact : (test : Bool) (m n : MatchOf) → IsMatch m → IsMatch n → test ≡ overlaps m n → IsTrue test ↔ Overlap m n
+pub overlaps_exact : (test : Bool) (m n : MatchOf) → IsMatch m → IsMatch n → test ≡ overlaps m n
+    → IsTrue test ↔ Overlap m n
 overlaps_exact test m n p q e =
     (λ t. Overlap-from_test m n p q (sym e ∙ t), λ o. e ∙ overlaps-from_header m n o)

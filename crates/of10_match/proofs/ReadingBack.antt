@@ -1,5 +1,6 @@
 -- Reading what was written of a match gives the match.
-use Rattle.std.proofs.Common.{◌≡◌, ◌<◌, ◌-◌, ◌*◌, ◌/◌, ◌%◌, ◌^◌, ℕ, Bool, true, false, ◌&&◌, List, Option, Some, None, refl, ◌∙◌, ap, sym, arith, inl, inr}
+use Rattle.std.proofs.Common.{◌≡◌, ◌<◌, ◌-◌, ◌*◌, ◌/◌, ◌%◌, ◌^◌, ℕ, Bool, true, false, ◌&&◌, List, Option, Some, None}
+use Rattle.std.proofs.Common.{refl, ◌∙◌, ap, sym, arith, inl, inr}
 use Rattle.std.specs.Bool.{then_some}
 use Rattle.std.specs.Prelude.{◌==◌, IfSome, OnSome, unwrap_or, nat_lt, if◌then◌else◌}
 use Rattle.std.proofs.Math.Nat.{div-add-mod', mod-eq_of_lt}
@@ -7,7 +8,8 @@ use Rattle.of10_match.specs.Fields.{MatchOf}
 use Rattle.of10_match.specs.Normal.{IsNormal, kept, normal, is_ip, is_ip_or_arp, is_tagged, has_ports}
 use Rattle.of10_match.specs.OfpMatchFields.{FitsBytes, fields_in}
 use Rattle.of10_match.specs.Ranges.{IsMatch, IsVlan, IsTos, IsPrefix}
-use Rattle.of10_match.specs.Wildcards.{is_clear, prefix_by, vlan_of, named, normal_of, open_bits, address_of, wildcards_of, written, match_bytes}
+use Rattle.of10_match.specs.Wildcards.{is_clear, prefix_by, vlan_of, named, normal_of, open_bits, address_of}
+use Rattle.of10_match.specs.Wildcards.{wildcards_of, written, match_bytes}
 use Rattle.of10_match.specs.declared.header.Prefix.{Prefix}
 use Rattle.of10_match.specs.declared.ofp_match.OfpMatch.{OfpMatch}
 use Rattle.of10_match.proofs.Commuting.{same_prefix}
@@ -20,7 +22,8 @@ value_back n None e = ap (λ k. then_some (k == 0) 0) e
 value_back n (Some v) e = ap (λ k. then_some (k == 0) v) e
 
 -- the bits that count are all bits of a value in range
-counted : (P : ℕ → Type 0) (f : ℕ → ℕ) → f 0 ≡ 0 → ((v : ℕ) → P v → f v ≡ v) → (o : Option ℕ) → IfSome o P → f (unwrap_or o 0) ≡ unwrap_or o 0
+counted : (P : ℕ → Type 0) (f : ℕ → ℕ) → f 0 ≡ 0 → ((v : ℕ) → P v → f v ≡ v) → (o : Option ℕ) → IfSome o P
+    → f (unwrap_or o 0) ≡ unwrap_or o 0
 counted P f zero_same same None p = zero_same
 counted P f zero_same same (Some v) p = same v p
 
@@ -41,7 +44,8 @@ prefix_back n (Some q) p e =
     let k = 32 - q.len in
     let r : Prefix = record { addr = q.addr / 2 ^ k * 2 ^ k; len = 32 - k } in
     let fewer : nat_lt k 32 ≡ true = grind arith in
-    let whole : q.addr / 2 ^ k * 2 ^ k ≡ q.addr = let split = div-add-mod' q.addr (2 ^ k) in let rest = p.3 in omega arith in
+    let whole : q.addr / 2 ^ k * 2 ^ k ≡ q.addr = let split = div-add-mod' q.addr (2 ^ k) in let rest = p.3 in
+    omega arith in
     let length : 32 - k ≡ q.len = omega arith in
     let counted : prefix_by n q.addr ≡ prefix_by k q.addr = ap (λ n. prefix_by n q.addr) e in
     let some : prefix_by k q.addr ≡ Some r = ap (λ b. if b then Some r else None) fewer in
@@ -56,10 +60,15 @@ named-written m p =
       in_port = value_back ((w / 2 ^ 0) % 2) m.in_port d.in_port i;
       dl_src = value_back ((w / 2 ^ 2) % 2) m.dl_src d.dl_src i;
       dl_dst = value_back ((w / 2 ^ 3) % 2) m.dl_dst d.dl_dst i;
-      dl_vlan = (ap (then_some (is_clear w 1)) (counted IsVlan vlan_of refl vlan_same m.dl_vlan p.dl_vlan) ∙ value_back ((w / 2 ^ 1) % 2) m.dl_vlan d.dl_vlan) i;
-      dl_vlan_pcp = (ap (then_some (is_clear w 20)) (counted (λ v. v < 8) (λ v. v % 8) refl (λ v small. mod-eq_of_lt small) m.dl_vlan_pcp p.dl_vlan_pcp) ∙ value_back ((w / 2 ^ 20) % 2) m.dl_vlan_pcp d.dl_vlan_pcp) i;
+      dl_vlan = (ap (then_some (is_clear w 1)) (counted IsVlan vlan_of refl vlan_same m.dl_vlan p.dl_vlan)
+          ∙ value_back ((w / 2 ^ 1) % 2) m.dl_vlan d.dl_vlan) i;
+      dl_vlan_pcp =
+          (ap (then_some (is_clear w 20))
+          (counted (λ v. v < 8) (λ v. v % 8) refl (λ v small. mod-eq_of_lt small) m.dl_vlan_pcp p.dl_vlan_pcp)
+          ∙ value_back ((w / 2 ^ 20) % 2) m.dl_vlan_pcp d.dl_vlan_pcp) i;
       dl_type = value_back ((w / 2 ^ 4) % 2) m.dl_type d.dl_type i;
-      nw_tos = (ap (then_some (is_clear w 21)) (counted IsTos (λ v. v / 4 * 4) refl tos_same m.nw_tos p.nw_tos) ∙ value_back ((w / 2 ^ 21) % 2) m.nw_tos d.nw_tos) i;
+      nw_tos = (ap (then_some (is_clear w 21)) (counted IsTos (λ v. v / 4 * 4) refl tos_same m.nw_tos p.nw_tos)
+          ∙ value_back ((w / 2 ^ 21) % 2) m.nw_tos d.nw_tos) i;
       nw_proto = value_back ((w / 2 ^ 5) % 2) m.nw_proto d.nw_proto i;
       nw_src = prefix_back ((w / 2 ^ 8) % 64) m.nw_src p.nw_src d.nw_src i;
       nw_dst = prefix_back ((w / 2 ^ 14) % 64) m.nw_dst p.nw_dst d.nw_dst i;
@@ -132,7 +141,8 @@ match_bytes-injective m n p q e =
     sym (named-match_bytes m p) ∙ (ap (λ bytes. named (fields_in bytes)) e ∙ named-match_bytes n q)
 
 -- the same of bytes that are known to be those of a match
-pub bytes_wildcards : (bytes : List ℕ) (m : MatchOf) → IsMatch m → bytes ≡ match_bytes m → (fields_in bytes).wildcards ≡ wildcards_of m
+pub bytes_wildcards : (bytes : List ℕ) (m : MatchOf) → IsMatch m → bytes ≡ match_bytes m
+    → (fields_in bytes).wildcards ≡ wildcards_of m
 bytes_wildcards bytes m p e =
     ap (λ bs. (fields_in bs).wildcards) e ∙ ap (λ (w : OfpMatch). w.wildcards) (fields_in-match_bytes m p)
 

@@ -7,7 +7,8 @@ use Rattle.of10_match.specs.Ranges.{IsHeader, IsMatch, IsVlan, IsTos, IsPrefix}
 use Rattle.of10_match.specs.declared.header.Prefix.{Prefix}
 use Rattle.of10_match.proofs.FieldTests.{Fits}
 
--- the values that a match asks for; where it asks for none, those of another header, and addresses of prefixes as they are picked
+-- the values that a match asks for; where it asks for none, those of another header, and addresses of prefixes as they
+-- are picked
 abbrev pub sample : (Option Prefix → ℕ) → HeaderOf → MatchOf → HeaderOf
 sample address d m = record {
   in_port = unwrap_or m.in_port d.in_port;
@@ -37,7 +38,8 @@ value_in : (P : ℕ → Type 0) (o : Option ℕ) (d : ℕ) → P d → IfSome o 
 value_in P None d z p = z
 value_in P (Some v) d z p = p
 
-pub Fits-sample : (address : Option Prefix → ℕ) (d : HeaderOf) (m : MatchOf) → Picks address → IsMatch m → Fits m (sample address d m)
+pub Fits-sample : (address : Option Prefix → ℕ) (d : HeaderOf) (m : MatchOf) → Picks address → IsMatch m
+    → Fits m (sample address d m)
 Fits-sample address d m picks p = record {
   in_port = fits-value m.in_port d.in_port;
   dl_src = fits-value m.dl_src d.dl_src;
@@ -53,7 +55,8 @@ Fits-sample address d m picks p = record {
   tp_dst = fits-value m.tp_dst d.tp_dst;
 }
 
-pub IsHeader-sample : (address : Option Prefix → ℕ) (d : HeaderOf) (m : MatchOf) → Picks address → IsHeader d → IsMatch m → IsHeader (sample address d m)
+pub IsHeader-sample : (address : Option Prefix → ℕ) (d : HeaderOf) (m : MatchOf) → Picks address → IsHeader d
+    → IsMatch m → IsHeader (sample address d m)
 IsHeader-sample address d m picks z p = record {
   in_port = value_in (λ v. v < 2 ^ 16) m.in_port d.in_port z.in_port p.in_port;
   dl_src = value_in (λ v. v < 2 ^ 48) m.dl_src d.dl_src z.dl_src p.dl_src;
@@ -71,7 +74,20 @@ IsHeader-sample address d m picks z p = record {
 
 -- all zeros
 abbrev pub zeros : HeaderOf
-zeros = record { in_port = 0; dl_src = 0; dl_dst = 0; dl_vlan = 0; dl_vlan_pcp = 0; dl_type = 0; nw_tos = 0; nw_proto = 0; nw_src = 0; nw_dst = 0; tp_src = 0; tp_dst = 0 }
+zeros = record {
+  in_port = 0;
+  dl_src = 0;
+  dl_dst = 0;
+  dl_vlan = 0;
+  dl_vlan_pcp = 0;
+  dl_type = 0;
+  nw_tos = 0;
+  nw_proto = 0;
+  nw_src = 0;
+  nw_dst = 0;
+  tp_src = 0;
+  tp_dst = 0;
+}
 
 pub IsHeader-zeros : IsHeader zeros
 IsHeader-zeros = record {
@@ -91,7 +107,20 @@ IsHeader-zeros = record {
 
 -- other numbers than zero
 abbrev pub ones : HeaderOf
-ones = record { in_port = 1; dl_src = 1; dl_dst = 1; dl_vlan = 1; dl_vlan_pcp = 1; dl_type = 1; nw_tos = 4; nw_proto = 1; nw_src = 1; nw_dst = 1; tp_src = 1; tp_dst = 1 }
+ones = record {
+  in_port = 1;
+  dl_src = 1;
+  dl_dst = 1;
+  dl_vlan = 1;
+  dl_vlan_pcp = 1;
+  dl_type = 1;
+  nw_tos = 4;
+  nw_proto = 1;
+  nw_src = 1;
+  nw_dst = 1;
+  tp_src = 1;
+  tp_dst = 1;
+}
 
 pub IsHeader-ones : IsHeader ones
 IsHeader-ones = record {

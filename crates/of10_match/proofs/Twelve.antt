@@ -24,12 +24,36 @@ and-comm false false = refl
 
 -- twelve tests and twelve more are twelve pairs of tests
 pub each-and : (a b c d e f g h i j k l a' b' c' d' e' f' g' h' i' j' k' l' : Bool) →
-    (each a b c d e f g h i j k l && each a' b' c' d' e' f' g' h' i' j' k' l') ≡ each (a && a') (b && b') (c && c') (d && d') (e && e') (f && f') (g && g') (h && h') (i && i') (j && j') (k && k') (l && l')
+    (each a b c d e f g h i j k l && each a' b' c' d' e' f' g' h' i' j' k' l')
+    ≡ each (a && a') (b && b') (c && c') (d && d') (e && e') (f && f') (g && g') (h && h') (i && i') (j && j')
+    (k && k') (l && l')
 each-and a b c d e f g h i j k l a' b' c' d' e' f' g' h' i' j' k' l' =
-    and_cross a (b && (c && (d && (e && (f && (g && (h && (i && (j && (k && (l))))))))))) a' (b' && (c' && (d' && (e' && (f' && (g' && (h' && (i' && (j' && (k' && (l'))))))))))) ∙ ap (λ z. (a && a') && z) (and_cross b (c && (d && (e && (f && (g && (h && (i && (j && (k && (l)))))))))) b' (c' && (d' && (e' && (f' && (g' && (h' && (i' && (j' && (k' && (l')))))))))) ∙ ap (λ z. (b && b') && z) (and_cross c (d && (e && (f && (g && (h && (i && (j && (k && (l))))))))) c' (d' && (e' && (f' && (g' && (h' && (i' && (j' && (k' && (l'))))))))) ∙ ap (λ z. (c && c') && z) (and_cross d (e && (f && (g && (h && (i && (j && (k && (l)))))))) d' (e' && (f' && (g' && (h' && (i' && (j' && (k' && (l')))))))) ∙ ap (λ z. (d && d') && z) (and_cross e (f && (g && (h && (i && (j && (k && (l))))))) e' (f' && (g' && (h' && (i' && (j' && (k' && (l'))))))) ∙ ap (λ z. (e && e') && z) (and_cross f (g && (h && (i && (j && (k && (l)))))) f' (g' && (h' && (i' && (j' && (k' && (l')))))) ∙ ap (λ z. (f && f') && z) (and_cross g (h && (i && (j && (k && (l))))) g' (h' && (i' && (j' && (k' && (l'))))) ∙ ap (λ z. (g && g') && z) (and_cross h (i && (j && (k && (l)))) h' (i' && (j' && (k' && (l')))) ∙ ap (λ z. (h && h') && z) (and_cross i (j && (k && (l))) i' (j' && (k' && (l'))) ∙ ap (λ z. (i && i') && z) (and_cross j (k && (l)) j' (k' && (l')) ∙ ap (λ z. (j && j') && z) (and_cross k (l) k' (l') ∙ ap (λ z. (k && k') && z) (refl)))))))))))
+    and_cross a (b && (c && (d && (e && (f && (g && (h && (i && (j && (k && (l))))))))))) a'
+    (b' && (c' && (d' && (e' && (f' && (g' && (h' && (i' && (j' && (k' && (l')))))))))))
+    ∙ ap (λ z. (a && a') && z)
+    (and_cross b (c && (d && (e && (f && (g && (h && (i && (j && (k && (l)))))))))) b'
+    (c' && (d' && (e' && (f' && (g' && (h' && (i' && (j' && (k' && (l'))))))))))
+    ∙ ap (λ z. (b && b') && z)
+    (and_cross c (d && (e && (f && (g && (h && (i && (j && (k && (l))))))))) c'
+    (d' && (e' && (f' && (g' && (h' && (i' && (j' && (k' && (l')))))))))
+    ∙ ap (λ z. (c && c') && z)
+    (and_cross d (e && (f && (g && (h && (i && (j && (k && (l)))))))) d'
+    (e' && (f' && (g' && (h' && (i' && (j' && (k' && (l'))))))))
+    ∙ ap (λ z. (d && d') && z)
+    (and_cross e (f && (g && (h && (i && (j && (k && (l))))))) e'
+    (f' && (g' && (h' && (i' && (j' && (k' && (l')))))))
+    ∙ ap (λ z. (e && e') && z)
+    (and_cross f (g && (h && (i && (j && (k && (l)))))) f' (g' && (h' && (i' && (j' && (k' && (l'))))))
+    ∙ ap (λ z. (f && f') && z) (and_cross g (h && (i && (j && (k && (l))))) g' (h' && (i' && (j' && (k' && (l')))))
+    ∙ ap (λ z. (g && g') && z) (and_cross h (i && (j && (k && (l)))) h' (i' && (j' && (k' && (l'))))
+    ∙ ap (λ z. (h && h') && z) (and_cross i (j && (k && (l))) i' (j' && (k' && (l')))
+    ∙ ap (λ z. (i && i') && z) (and_cross j (k && (l)) j' (k' && (l'))
+    ∙ ap (λ z. (j && j') && z) (and_cross k (l) k' (l') ∙ ap (λ z. (k && k') && z) (refl)))))))))))
 
 -- tests that agree place by place
-pub each-same : {a b c d e f g h i j k l a' b' c' d' e' f' g' h' i' j' k' l' : Bool} → a ≡ a' → b ≡ b' → c ≡ c' → d ≡ d' → e ≡ e' → f ≡ f' → g ≡ g' → h ≡ h' → i ≡ i' → j ≡ j' → k ≡ k' → l ≡ l' → each a b c d e f g h i j k l ≡ each a' b' c' d' e' f' g' h' i' j' k' l'
+pub each-same : {a b c d e f g h i j k l a' b' c' d' e' f' g' h' i' j' k' l' : Bool} → a ≡ a' → b ≡ b' → c ≡ c' → d ≡ d'
+    → e ≡ e' → f ≡ f' → g ≡ g' → h ≡ h' → i ≡ i' → j ≡ j' → k ≡ k' → l ≡ l'
+    → each a b c d e f g h i j k l ≡ each a' b' c' d' e' f' g' h' i' j' k' l'
 each-same ea eb ec ed ee ef eg eh ei ej ek el = cc
 
 -- each of the twelve tests passes
@@ -60,7 +84,8 @@ pub and-intro : (a b : Bool) → a ≡ true → b ≡ true → (a && b) ≡ true
 and-intro a b p q = rw (p, q) refl
 
 -- where all twelve pass together, each passes
-pub each-fields : (a b c d e f g h i j k l : Bool) → each a b c d e f g h i j k l ≡ true → AllTrue a b c d e f g h i j k l
+pub each-fields : (a b c d e f g h i j k l : Bool) → each a b c d e f g h i j k l ≡ true
+    → AllTrue a b c d e f g h i j k l
 each-fields a b c d e f g h i j k l e0 =
     let e1 = and-second a (b && (c && (d && (e && (f && (g && (h && (i && (j && (k && (l))))))))))) e0 in
     let e2 = and-second b (c && (d && (e && (f && (g && (h && (i && (j && (k && (l)))))))))) e1 in
@@ -89,6 +114,15 @@ each-fields a b c d e f g h i j k l e0 =
     }
 
 -- and together where each does
-pub each-intro : (a b c d e f g h i j k l : Bool) → AllTrue a b c d e f g h i j k l → each a b c d e f g h i j k l ≡ true
+pub each-intro : (a b c d e f g h i j k l : Bool) → AllTrue a b c d e f g h i j k l
+    → each a b c d e f g h i j k l ≡ true
 each-intro a b c d e f g h i j k l t =
-    and-intro a (b && (c && (d && (e && (f && (g && (h && (i && (j && (k && (l))))))))))) t.at_a (and-intro b (c && (d && (e && (f && (g && (h && (i && (j && (k && (l)))))))))) t.at_b (and-intro c (d && (e && (f && (g && (h && (i && (j && (k && (l))))))))) t.at_c (and-intro d (e && (f && (g && (h && (i && (j && (k && (l)))))))) t.at_d (and-intro e (f && (g && (h && (i && (j && (k && (l))))))) t.at_e (and-intro f (g && (h && (i && (j && (k && (l)))))) t.at_f (and-intro g (h && (i && (j && (k && (l))))) t.at_g (and-intro h (i && (j && (k && (l)))) t.at_h (and-intro i (j && (k && (l))) t.at_i (and-intro j (k && (l)) t.at_j (and-intro k (l) t.at_k (t.at_l)))))))))))
+    and-intro a (b && (c && (d && (e && (f && (g && (h && (i && (j && (k && (l))))))))))) t.at_a
+    (and-intro b (c && (d && (e && (f && (g && (h && (i && (j && (k && (l)))))))))) t.at_b
+    (and-intro c (d && (e && (f && (g && (h && (i && (j && (k && (l))))))))) t.at_c
+    (and-intro d (e && (f && (g && (h && (i && (j && (k && (l)))))))) t.at_d
+    (and-intro e (f && (g && (h && (i && (j && (k && (l))))))) t.at_e
+    (and-intro f (g && (h && (i && (j && (k && (l)))))) t.at_f
+    (and-intro g (h && (i && (j && (k && (l))))) t.at_g
+    (and-intro h (i && (j && (k && (l)))) t.at_h
+    (and-intro i (j && (k && (l))) t.at_i (and-intro j (k && (l)) t.at_j (and-intro k (l) t.at_k (t.at_l)))))))))))

@@ -1,5 +1,6 @@
 -- What a match holds, when two matches overlap, and what both hold.
-use Rattle.std.specs.Prelude.{ℕ, Bool, true, false, ◌==◌, ◌&&◌, ◌/◌, ◌^◌, ◌-◌, nat_le, Option, Some, None, is_some, if◌then◌else◌}
+use Rattle.std.specs.Prelude.{ℕ, Bool, true, false, ◌==◌, ◌&&◌, ◌/◌, ◌^◌, ◌-◌, nat_le, Option, Some, None, is_some}
+use Rattle.std.specs.Prelude.{if◌then◌else◌}
 use Rattle.std.specs.Option.{option_or}
 use Rattle.of10_match.specs.Fields.{HeaderOf, MatchOf}
 use Rattle.of10_match.specs.declared.header.Prefix.{Prefix}
@@ -29,7 +30,10 @@ each a b c d e f g h i j k l = a && (b && (c && (d && (e && (f && (g && (h && (i
 -- the match holds the header
 abbrev pub holds : MatchOf → HeaderOf → Bool
 holds m h =
-    each (fits m.in_port h.in_port) (fits m.dl_src h.dl_src) (fits m.dl_dst h.dl_dst) (fits m.dl_vlan h.dl_vlan) (fits m.dl_vlan_pcp h.dl_vlan_pcp) (fits m.dl_type h.dl_type) (fits m.nw_tos h.nw_tos) (fits m.nw_proto h.nw_proto) (fits_prefix m.nw_src h.nw_src) (fits_prefix m.nw_dst h.nw_dst) (fits m.tp_src h.tp_src) (fits m.tp_dst h.tp_dst)
+    each (fits m.in_port h.in_port) (fits m.dl_src h.dl_src) (fits m.dl_dst h.dl_dst) (fits m.dl_vlan h.dl_vlan)
+    (fits m.dl_vlan_pcp h.dl_vlan_pcp) (fits m.dl_type h.dl_type) (fits m.nw_tos h.nw_tos)
+    (fits m.nw_proto h.nw_proto) (fits_prefix m.nw_src h.nw_src) (fits_prefix m.nw_dst h.nw_dst)
+    (fits m.tp_src h.tp_src) (fits m.tp_dst h.tp_dst)
 
 -- where both ask for a value, they are equal
 abbrev pub agree_by : {A : Type 0} → (A → A → Bool) → Option A → Option A → Bool
@@ -49,12 +53,16 @@ is_longer q p = nat_le (32 - q.len) (32 - p.len)
 abbrev pub agree_prefix : Option Prefix → Option Prefix → Bool
 agree_prefix None y = true
 agree_prefix (Some p) None = true
-agree_prefix (Some p) (Some q) = if is_longer q p then (top_bits p.len p.addr == top_bits p.len q.addr) else (top_bits q.len p.addr == top_bits q.len q.addr)
+agree_prefix (Some p) (Some q) = if is_longer q p then (top_bits p.len p.addr == top_bits p.len q.addr)
+    else (top_bits q.len p.addr == top_bits q.len q.addr)
 
 -- no field is asked to have two values
 abbrev pub overlaps : MatchOf → MatchOf → Bool
 overlaps m n =
-    each (agree m.in_port n.in_port) (agree m.dl_src n.dl_src) (agree m.dl_dst n.dl_dst) (agree m.dl_vlan n.dl_vlan) (agree m.dl_vlan_pcp n.dl_vlan_pcp) (agree m.dl_type n.dl_type) (agree m.nw_tos n.nw_tos) (agree m.nw_proto n.nw_proto) (agree_prefix m.nw_src n.nw_src) (agree_prefix m.nw_dst n.nw_dst) (agree m.tp_src n.tp_src) (agree m.tp_dst n.tp_dst)
+    each (agree m.in_port n.in_port) (agree m.dl_src n.dl_src) (agree m.dl_dst n.dl_dst) (agree m.dl_vlan n.dl_vlan)
+    (agree m.dl_vlan_pcp n.dl_vlan_pcp) (agree m.dl_type n.dl_type) (agree m.nw_tos n.nw_tos)
+    (agree m.nw_proto n.nw_proto) (agree_prefix m.nw_src n.nw_src) (agree_prefix m.nw_dst n.nw_dst)
+    (agree m.tp_src n.tp_src) (agree m.tp_dst n.tp_dst)
 
 -- the value that either asks for, the first before the second
 abbrev pub either : Option ℕ → Option ℕ → Option ℕ
@@ -89,7 +97,20 @@ meet m n = if overlaps m n then Some (both m n) else None
 
 -- the match that names no field
 abbrev pub everything : MatchOf
-everything = record { in_port = None; dl_src = None; dl_dst = None; dl_vlan = None; dl_vlan_pcp = None; dl_type = None; nw_tos = None; nw_proto = None; nw_src = None; nw_dst = None; tp_src = None; tp_dst = None }
+everything = record {
+  in_port = None;
+  dl_src = None;
+  dl_dst = None;
+  dl_vlan = None;
+  dl_vlan_pcp = None;
+  dl_type = None;
+  nw_tos = None;
+  nw_proto = None;
+  nw_src = None;
+  nw_dst = None;
+  tp_src = None;
+  tp_dst = None;
+}
 
 -- the match of all headers that come by a port
 abbrev pub at_port : ℕ → MatchOf
@@ -103,7 +124,9 @@ is_address (Some p) = p.len == 32
 -- all twelve fields are named, so that the match holds one header
 abbrev pub is_one_header : MatchOf → Bool
 is_one_header m =
-    each (is_some m.in_port) (is_some m.dl_src) (is_some m.dl_dst) (is_some m.dl_vlan) (is_some m.dl_vlan_pcp) (is_some m.dl_type) (is_some m.nw_tos) (is_some m.nw_proto) (is_address m.nw_src) (is_address m.nw_dst) (is_some m.tp_src) (is_some m.tp_dst)
+    each (is_some m.in_port) (is_some m.dl_src) (is_some m.dl_dst) (is_some m.dl_vlan) (is_some m.dl_vlan_pcp)
+    (is_some m.dl_type) (is_some m.nw_tos) (is_some m.nw_proto) (is_address m.nw_src) (is_address m.nw_dst)
+    (is_some m.tp_src) (is_some m.tp_dst)
 
 -- where the first asks for a value, the second asks for an equal one
 abbrev pub asks_by : {A : Type 0} → (A → A → Bool) → Option A → Option A → Bool
@@ -124,4 +147,7 @@ asks_prefix (Some p) (Some q) = is_longer q p && top_bits p.len p.addr == top_bi
 -- the first holds all that the second holds
 abbrev pub covers : MatchOf → MatchOf → Bool
 covers m n =
-    each (asks m.in_port n.in_port) (asks m.dl_src n.dl_src) (asks m.dl_dst n.dl_dst) (asks m.dl_vlan n.dl_vlan) (asks m.dl_vlan_pcp n.dl_vlan_pcp) (asks m.dl_type n.dl_type) (asks m.nw_tos n.nw_tos) (asks m.nw_proto n.nw_proto) (asks_prefix m.nw_src n.nw_src) (asks_prefix m.nw_dst n.nw_dst) (asks m.tp_src n.tp_src) (asks m.tp_dst n.tp_dst)
+    each (asks m.in_port n.in_port) (asks m.dl_src n.dl_src) (asks m.dl_dst n.dl_dst) (asks m.dl_vlan n.dl_vlan)
+    (asks m.dl_vlan_pcp n.dl_vlan_pcp) (asks m.dl_type n.dl_type) (asks m.nw_tos n.nw_tos)
+    (asks m.nw_proto n.nw_proto) (asks_prefix m.nw_src n.nw_src) (asks_prefix m.nw_dst n.nw_dst)
+    (asks m.tp_src n.tp_src) (asks m.tp_dst n.tp_dst)

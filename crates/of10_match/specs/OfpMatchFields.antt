@@ -28,12 +28,16 @@ fields_in bs = record {
 -- the first 22 bytes: the fields of the port and of the Ethernet header
 abbrev pub link_bytes : OfpMatch → List ℕ
 link_bytes w =
-    big_bytes 4 w.wildcards ++ (big_bytes 2 w.in_port ++ (big_bytes 6 w.dl_src ++ (big_bytes 6 w.dl_dst ++ (big_bytes 2 w.dl_vlan ++ (w.dl_vlan_pcp ∷ 0 ∷ [])))))
+    big_bytes 4 w.wildcards
+    ++ (big_bytes 2 w.in_port
+    ++ (big_bytes 6 w.dl_src ++ (big_bytes 6 w.dl_dst ++ (big_bytes 2 w.dl_vlan ++ (w.dl_vlan_pcp ∷ 0 ∷ [])))))
 
 -- the last 18 bytes: the fields of what the Ethernet frame carries
 abbrev pub network_bytes : OfpMatch → List ℕ
 network_bytes w =
-    big_bytes 2 w.dl_type ++ (w.nw_tos ∷ w.nw_proto ∷ 0 ∷ 0 ∷ (big_bytes 4 w.nw_src ++ (big_bytes 4 w.nw_dst ++ (big_bytes 2 w.tp_src ++ big_bytes 2 w.tp_dst))))
+    big_bytes 2 w.dl_type
+    ++ (w.nw_tos ∷ w.nw_proto ∷ 0 ∷ 0
+    ∷ (big_bytes 4 w.nw_src ++ (big_bytes 4 w.nw_dst ++ (big_bytes 2 w.tp_src ++ big_bytes 2 w.tp_dst))))
 
 -- the 40 bytes of the fields, with zero padding
 abbrev pub bytes_of : OfpMatch → List ℕ

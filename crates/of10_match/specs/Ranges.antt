@@ -7,16 +7,68 @@ use Rattle.of10_match.specs.declared.header.Header.TheInside as Header
 use Rattle.of10_match.specs.declared.header.Match.TheInside as Match
 
 abbrev pub header_view : Header.Inside → HeaderOf
-header_view a = record { in_port = a.in_port; dl_src = a.dl_src; dl_dst = a.dl_dst; dl_vlan = a.dl_vlan; dl_vlan_pcp = a.dl_vlan_pcp; dl_type = a.dl_type; nw_tos = a.nw_tos; nw_proto = a.nw_proto; nw_src = a.nw_src; nw_dst = a.nw_dst; tp_src = a.tp_src; tp_dst = a.tp_dst }
+header_view a = record {
+  in_port = a.in_port;
+  dl_src = a.dl_src;
+  dl_dst = a.dl_dst;
+  dl_vlan = a.dl_vlan;
+  dl_vlan_pcp = a.dl_vlan_pcp;
+  dl_type = a.dl_type;
+  nw_tos = a.nw_tos;
+  nw_proto = a.nw_proto;
+  nw_src = a.nw_src;
+  nw_dst = a.nw_dst;
+  tp_src = a.tp_src;
+  tp_dst = a.tp_dst;
+}
 
 abbrev pub header_inside : HeaderOf → Header.Inside
-header_inside a = record { in_port = a.in_port; dl_src = a.dl_src; dl_dst = a.dl_dst; dl_vlan = a.dl_vlan; dl_vlan_pcp = a.dl_vlan_pcp; dl_type = a.dl_type; nw_tos = a.nw_tos; nw_proto = a.nw_proto; nw_src = a.nw_src; nw_dst = a.nw_dst; tp_src = a.tp_src; tp_dst = a.tp_dst }
+header_inside a = record {
+  in_port = a.in_port;
+  dl_src = a.dl_src;
+  dl_dst = a.dl_dst;
+  dl_vlan = a.dl_vlan;
+  dl_vlan_pcp = a.dl_vlan_pcp;
+  dl_type = a.dl_type;
+  nw_tos = a.nw_tos;
+  nw_proto = a.nw_proto;
+  nw_src = a.nw_src;
+  nw_dst = a.nw_dst;
+  tp_src = a.tp_src;
+  tp_dst = a.tp_dst;
+}
 
 abbrev pub match_view : Match.Inside → MatchOf
-match_view a = record { in_port = a.in_port; dl_src = a.dl_src; dl_dst = a.dl_dst; dl_vlan = a.dl_vlan; dl_vlan_pcp = a.dl_vlan_pcp; dl_type = a.dl_type; nw_tos = a.nw_tos; nw_proto = a.nw_proto; nw_src = a.nw_src; nw_dst = a.nw_dst; tp_src = a.tp_src; tp_dst = a.tp_dst }
+match_view a = record {
+  in_port = a.in_port;
+  dl_src = a.dl_src;
+  dl_dst = a.dl_dst;
+  dl_vlan = a.dl_vlan;
+  dl_vlan_pcp = a.dl_vlan_pcp;
+  dl_type = a.dl_type;
+  nw_tos = a.nw_tos;
+  nw_proto = a.nw_proto;
+  nw_src = a.nw_src;
+  nw_dst = a.nw_dst;
+  tp_src = a.tp_src;
+  tp_dst = a.tp_dst;
+}
 
 abbrev pub match_inside : MatchOf → Match.Inside
-match_inside a = record { in_port = a.in_port; dl_src = a.dl_src; dl_dst = a.dl_dst; dl_vlan = a.dl_vlan; dl_vlan_pcp = a.dl_vlan_pcp; dl_type = a.dl_type; nw_tos = a.nw_tos; nw_proto = a.nw_proto; nw_src = a.nw_src; nw_dst = a.nw_dst; tp_src = a.tp_src; tp_dst = a.tp_dst }
+match_inside a = record {
+  in_port = a.in_port;
+  dl_src = a.dl_src;
+  dl_dst = a.dl_dst;
+  dl_vlan = a.dl_vlan;
+  dl_vlan_pcp = a.dl_vlan_pcp;
+  dl_type = a.dl_type;
+  nw_tos = a.nw_tos;
+  nw_proto = a.nw_proto;
+  nw_src = a.nw_src;
+  nw_dst = a.nw_dst;
+  tp_src = a.tp_src;
+  tp_dst = a.tp_dst;
+}
 
 -- a VLAN number of twelve bits, or that of packets without a tag
 abbrev pub IsVlan : ℕ → Type 0

@@ -1,5 +1,6 @@
 -- What the wildcards of an `ofp_match` leave of its fields, and what a match is written as.
-use Rattle.std.specs.Prelude.{ℕ, Bool, ◌==◌, ◌+◌, ◌-◌, ◌*◌, ◌/◌, ◌%◌, ◌^◌, nat_lt, Option, Some, None, List, unwrap_or, if◌then◌else◌}
+use Rattle.std.specs.Prelude.{ℕ, Bool, ◌==◌, ◌+◌, ◌-◌, ◌*◌, ◌/◌, ◌%◌, ◌^◌, nat_lt, Option, Some, None, List, unwrap_or}
+use Rattle.std.specs.Prelude.{if◌then◌else◌}
 use Rattle.std.specs.Bool.{then_some}
 use Rattle.of10_match.specs.Fields.{MatchOf}
 use Rattle.of10_match.specs.OfpMatchFields.{fields_in, bytes_of}
@@ -63,7 +64,9 @@ address_of (Some p) = p.addr
 -- the wildcards of a match: each bit and each count in its place
 abbrev pub wildcards_of : MatchOf → ℕ
 wildcards_of m =
-    bit_of 0 m.in_port + bit_of 1 m.dl_vlan + bit_of 2 m.dl_src + bit_of 3 m.dl_dst + bit_of 4 m.dl_type + bit_of 5 m.nw_proto + bit_of 6 m.tp_src + bit_of 7 m.tp_dst + open_bits m.nw_src * 2 ^ 8 + open_bits m.nw_dst * 2 ^ 14 + bit_of 20 m.dl_vlan_pcp + bit_of 21 m.nw_tos
+    bit_of 0 m.in_port + bit_of 1 m.dl_vlan + bit_of 2 m.dl_src + bit_of 3 m.dl_dst + bit_of 4 m.dl_type + bit_of 5
+    m.nw_proto + bit_of 6 m.tp_src + bit_of 7 m.tp_dst + open_bits m.nw_src * 2 ^ 8 + open_bits m.nw_dst * 2 ^ 14 +
+    bit_of 20 m.dl_vlan_pcp + bit_of 21 m.nw_tos
 
 -- a match as it is written: absent fields have zero bytes
 abbrev pub written : MatchOf → OfpMatch

@@ -1,7 +1,13 @@
 //! Which headers a match holds, and what two matches hold together.
 ghost use Rattle.std.specs.Prelude.{ℕ, ◌≡◌, ◌≤◌, ◌-◌, ◌/◌, ◌^◌, IsTrue, ◌↔◌, IfSome, IsSome, Some, is_some};
 ghost use Rattle.of10_match.specs.Fields.{HeaderOf};
-ghost use Rattle.of10_match.specs.Matching.{agree_by, agree_prefix as agree_prefix_of, asks_by, asks_prefix as asks_prefix_of, at_port as at_port_of, both as both_of, covers as covers_of, everything as everything_of, fits_by, fits_prefix as fits_prefix_of, holds as holds_of, is_address as is_address_of, is_longer as is_longer_of, is_one_header as is_one_header_of, longer as longer_of, meet as meet_of, overlaps as overlaps_of, top_bits as top_bits_of};
+ghost use Rattle.of10_match.specs.Matching.{agree_by, agree_prefix as agree_prefix_of, asks_by};
+ghost use Rattle.of10_match.specs.Matching.{asks_prefix as asks_prefix_of, at_port as at_port_of, both as both_of};
+ghost use Rattle.of10_match.specs.Matching.{covers as covers_of, everything as everything_of, fits_by};
+ghost use Rattle.of10_match.specs.Matching.{fits_prefix as fits_prefix_of, holds as holds_of};
+ghost use Rattle.of10_match.specs.Matching.{is_address as is_address_of, is_longer as is_longer_of};
+ghost use Rattle.of10_match.specs.Matching.{is_one_header as is_one_header_of, longer as longer_of, meet as meet_of};
+ghost use Rattle.of10_match.specs.Matching.{overlaps as overlaps_of, top_bits as top_bits_of};
 ghost use Rattle.of10_match.specs.Sets.{Covers, IsMeet, Overlap};
 ghost use Rattle.of10_match.specs.Normal.{IsNormal};
 

@@ -1,6 +1,8 @@
 //! Normal matches, in which each field stands beside those that it needs.
 ghost use Rattle.std.specs.Prelude.{◌≡◌, ◌≤◌};
-ghost use Rattle.of10_match.specs.Normal.{has_ports as has_ports_of, is_ip as is_ip_of, is_ip_or_arp as is_ip_or_arp_of, is_tagged as is_tagged_of, IsNormal, kept as kept_of, normal as normal_fields};
+ghost use Rattle.of10_match.specs.Normal.{has_ports as has_ports_of, is_ip as is_ip_of};
+ghost use Rattle.of10_match.specs.Normal.{is_ip_or_arp as is_ip_or_arp_of, is_tagged as is_tagged_of, IsNormal};
+ghost use Rattle.of10_match.specs.Normal.{kept as kept_of, normal as normal_fields};
 ghost use Rattle.of10_match.specs.Numbers.{rank_by};
 
 use crate::header::Match;

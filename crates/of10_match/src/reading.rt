@@ -3,7 +3,8 @@ ghost use Rattle.std.specs.Prelude.{◌==◌, ◌≡◌, ◌<◌, ◌↔◌, ◌
 ghost use Rattle.of10_match.specs.OfpMatchFields.{fields_in};
 ghost use Rattle.of10_match.specs.Normal.{IsNormal};
 ghost use Rattle.of10_match.specs.Ranges.{IsPrefix, IsVlan};
-ghost use Rattle.of10_match.specs.Wildcards.{is_clear as is_clear_of, is_exact as is_exact_of, named as named_of, normal_of, prefix_by, vlan_of};
+ghost use Rattle.of10_match.specs.Wildcards.{is_clear as is_clear_of, is_exact as is_exact_of, named as named_of};
+ghost use Rattle.of10_match.specs.Wildcards.{normal_of, prefix_by, vlan_of};
 
 use crate::header::{Match, Prefix};
 use crate::normal::{Read, UNTAGGED};

@@ -3,7 +3,8 @@ ghost use Rattle.std.specs.Prelude.{◌≡◌, ◌<◌, ◌≤◌, ◌↔◌, �
 ghost use Rattle.of10_match.specs.Normal.{IsNormal};
 ghost use Rattle.of10_match.specs.OfpMatchFields.{fields_in};
 ghost use Rattle.of10_match.specs.Order.{by_bytes};
-ghost use Rattle.of10_match.specs.Wildcards.{address_of, bit_of, match_bytes, named, normal_of, open_bits as open_bits_of, wildcards_of};
+ghost use Rattle.of10_match.specs.Wildcards.{address_of, bit_of, match_bytes, named, normal_of};
+ghost use Rattle.of10_match.specs.Wildcards.{open_bits as open_bits_of, wildcards_of};
 
 use crate::header::{Match, Prefix};
 use crate::ofp_match::{OfpMatch, wildcard};

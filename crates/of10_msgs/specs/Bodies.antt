@@ -2,7 +2,12 @@
 use Rattle.of10_msgs.specs.declared.kind.Kind.{Kind}
 use Rattle.of10_msgs.specs.declared.kind.Kind.TheVariants as kinds
 use Rattle.of10_msgs.specs.declared.message.Body.{Body}
-use Rattle.of10_msgs.specs.declared.message.Body.TheVariants.{Hello, Error, EchoRequest, EchoReply, FeaturesRequest, FeaturesReply, GetConfigRequest, GetConfigReply, SetConfig, PacketIn, FlowRemoved, PortStatus, PacketOut, FlowMod, PortMod, StatsRequest, StatsReply, BarrierRequest, BarrierReply, QueueGetConfigRequest, QueueGetConfigReply}
+use Rattle.of10_msgs.specs.declared.message.Body.TheVariants.{Hello, Error, EchoRequest, EchoReply, FeaturesRequest}
+use Rattle.of10_msgs.specs.declared.message.Body.TheVariants.{FeaturesReply, GetConfigRequest, GetConfigReply}
+use Rattle.of10_msgs.specs.declared.message.Body.TheVariants.{SetConfig, PacketIn, FlowRemoved, PortStatus, PacketOut}
+use Rattle.of10_msgs.specs.declared.message.Body.TheVariants.{FlowMod, PortMod, StatsRequest, StatsReply}
+use Rattle.of10_msgs.specs.declared.message.Body.TheVariants.{BarrierRequest, BarrierReply, QueueGetConfigRequest}
+use Rattle.of10_msgs.specs.declared.message.Body.TheVariants.{QueueGetConfigReply}
 
 abbrev pub kind_of : Body → Kind
 kind_of (Hello bytes) = kinds.Hello
@@ -15,7 +20,8 @@ kind_of GetConfigRequest = kinds.GetConfigRequest
 kind_of (GetConfigReply flags miss_send_len) = kinds.GetConfigReply
 kind_of (SetConfig flags miss_send_len) = kinds.SetConfig
 kind_of (PacketIn buffer_id total_len in_port reason bytes) = kinds.PacketIn
-kind_of (FlowRemoved m cookie priority reason duration_sec duration_nsec idle_timeout packet_count byte_count) = kinds.FlowRemoved
+kind_of (FlowRemoved m cookie priority reason duration_sec duration_nsec idle_timeout packet_count byte_count) =
+    kinds.FlowRemoved
 kind_of (PortStatus reason port) = kinds.PortStatus
 kind_of (PacketOut out) = kinds.PacketOut
 kind_of (FlowMod change) = kinds.FlowMod

@@ -1,13 +1,20 @@
 -- The types of messages, with their numbers, and the lengths that each may have.
 use Rattle.std.specs.Prelude.{ℕ, ◌-◌, ◌%◌, Bool, List, [], ◌∷◌, Option, slice_get, nat_le, ◌==◌, ◌&&◌}
 use Rattle.of10_msgs.specs.declared.kind.Kind.{Kind}
-use Rattle.of10_msgs.specs.declared.kind.Kind.TheVariants.{Hello, Error, EchoRequest, EchoReply, Vendor, FeaturesRequest, FeaturesReply, GetConfigRequest, GetConfigReply, SetConfig, PacketIn, FlowRemoved, PortStatus, PacketOut, FlowMod, PortMod, StatsRequest, StatsReply, BarrierRequest, BarrierReply, QueueGetConfigRequest, QueueGetConfigReply}
+use Rattle.of10_msgs.specs.declared.kind.Kind.TheVariants.{Hello, Error, EchoRequest, EchoReply, Vendor}
+use Rattle.of10_msgs.specs.declared.kind.Kind.TheVariants.{FeaturesRequest, FeaturesReply, GetConfigRequest}
+use Rattle.of10_msgs.specs.declared.kind.Kind.TheVariants.{GetConfigReply, SetConfig, PacketIn, FlowRemoved, PortStatus}
+use Rattle.of10_msgs.specs.declared.kind.Kind.TheVariants.{PacketOut, FlowMod, PortMod, StatsRequest, StatsReply}
+use Rattle.of10_msgs.specs.declared.kind.Kind.TheVariants.{BarrierRequest, BarrierReply, QueueGetConfigRequest}
+use Rattle.of10_msgs.specs.declared.kind.Kind.TheVariants.{QueueGetConfigReply}
 use Rattle.of10_msgs.specs.declared.kind.Lengths.{Lengths}
 use Rattle.of10_msgs.specs.declared.kind.Lengths.TheVariants.{Exactly, AtLeast, WithPorts}
 
 -- the types, by their numbers from 0
 abbrev pub kinds : List Kind
-kinds = Hello ∷ Error ∷ EchoRequest ∷ EchoReply ∷ Vendor ∷ FeaturesRequest ∷ FeaturesReply ∷ GetConfigRequest ∷ GetConfigReply ∷ SetConfig ∷ PacketIn ∷ FlowRemoved ∷ PortStatus ∷ PacketOut ∷ FlowMod ∷ PortMod ∷ StatsRequest ∷ StatsReply ∷ BarrierRequest ∷ BarrierReply ∷ QueueGetConfigRequest ∷ QueueGetConfigReply ∷ []
+kinds = Hello ∷ Error ∷ EchoRequest ∷ EchoReply ∷ Vendor ∷ FeaturesRequest ∷ FeaturesReply ∷ GetConfigRequest
+    ∷ GetConfigReply ∷ SetConfig ∷ PacketIn ∷ FlowRemoved ∷ PortStatus ∷ PacketOut ∷ FlowMod ∷ PortMod ∷ StatsRequest
+    ∷ StatsReply ∷ BarrierRequest ∷ BarrierReply ∷ QueueGetConfigRequest ∷ QueueGetConfigReply ∷ []
 
 -- the type of a number
 abbrev pub kind_at : ℕ → Option Kind

@@ -5,7 +5,8 @@ use Rattle.of10_msgs.specs.Bodies.{kind_of}
 use Rattle.of10_msgs.specs.Kinds.{is_among, lengths_of}
 use Rattle.of10_msgs.specs.Spelling.{clear_match, body_bytes}
 use Rattle.of10_msgs.specs.declared.message.Body.{Body}
-use Rattle.of10_msgs.specs.declared.message.Body.TheVariants.{Error, FeaturesReply, GetConfigReply, SetConfig, PacketIn, FlowRemoved, PortStatus, PacketOut, FlowMod}
+use Rattle.of10_msgs.specs.declared.message.Body.TheVariants.{Error, FeaturesReply, GetConfigReply, SetConfig, PacketIn}
+use Rattle.of10_msgs.specs.declared.message.Body.TheVariants.{FlowRemoved, PortStatus, PacketOut, FlowMod}
 use Rattle.of10_msgs.specs.declared.message.FlowMod.{FlowMod as FlowModOf}
 use Rattle.of10_msgs.specs.declared.message.Message.{Message}
 use Rattle.of10_msgs.specs.declared.message.PacketOut.{PacketOut as PacketOutOf}
@@ -23,7 +24,8 @@ HasAddress port = port.hw_addr < 2 ^ 48
 abbrev pub IsInRange : Body → Type 0
 IsInRange (FeaturesReply datapath_id n_buffers n_tables capabilities actions ports) = All HasAddress ports
 IsInRange (PortStatus reason port) = HasAddress port
-IsInRange (FlowRemoved m cookie priority reason duration_sec duration_nsec idle_timeout packet_count byte_count) = IsClear m
+IsInRange (FlowRemoved m cookie priority reason duration_sec duration_nsec idle_timeout packet_count byte_count) =
+    IsClear m
 IsInRange (PacketOut p) = AreInRange p.actions
 IsInRange (FlowMod f) = IsClear f.m × AreInRange f.actions
 IsInRange _ = Unit {0}
@@ -71,9 +73,11 @@ FitsTypes (FeaturesReply datapath_id n_buffers n_tables capabilities actions por
     (datapath_id < 2 ^ 64) × (n_buffers < 2 ^ 32) × (capabilities < 2 ^ 32) × (actions < 2 ^ 32) × All PortFits ports
 FitsTypes (GetConfigReply flags miss_send_len) = (flags < 2 ^ 16) × (miss_send_len < 2 ^ 16)
 FitsTypes (SetConfig flags miss_send_len) = (flags < 2 ^ 16) × (miss_send_len < 2 ^ 16)
-FitsTypes (PacketIn buffer_id total_len in_port reason bytes) = (buffer_id < 2 ^ 32) × (total_len < 2 ^ 16) × (in_port < 2 ^ 16)
+FitsTypes (PacketIn buffer_id total_len in_port reason bytes) = (buffer_id < 2 ^ 32) × (total_len < 2 ^ 16)
+    × (in_port < 2 ^ 16)
 FitsTypes (FlowRemoved m cookie priority reason duration_sec duration_nsec idle_timeout packet_count byte_count) =
-    (length m ≡ 40) × (cookie < 2 ^ 64) × (priority < 2 ^ 16) × (duration_sec < 2 ^ 32) × (duration_nsec < 2 ^ 32) × (idle_timeout < 2 ^ 16) × (packet_count < 2 ^ 64) × (byte_count < 2 ^ 64)
+    (length m ≡ 40) × (cookie < 2 ^ 64) × (priority < 2 ^ 16) × (duration_sec < 2 ^ 32) × (duration_nsec < 2 ^ 32)
+    × (idle_timeout < 2 ^ 16) × (packet_count < 2 ^ 64) × (byte_count < 2 ^ 64)
 FitsTypes (PortStatus reason port) = PortFits port
 FitsTypes (PacketOut p) = PacketOutFits p
 FitsTypes (FlowMod f) = FlowModFits f

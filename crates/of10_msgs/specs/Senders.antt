@@ -1,11 +1,17 @@
 -- Who sends the messages of a type.
-use Rattle.std.specs.Prelude.{ℕ, Bool, true, false, ◌==◌, ◌&&◌, List, slice_index, Option, Some, None, Result, Err, if◌then◌else◌}
+use Rattle.std.specs.Prelude.{ℕ, Bool, true, false, ◌==◌, ◌&&◌, List, slice_index, Option, Some, None, Result, Err}
+use Rattle.std.specs.Prelude.{if◌then◌else◌}
 use Rattle.of10_msgs.specs.Kinds.{kind_at}
 use Rattle.of10_msgs.specs.Reading.{reading}
 use Rattle.of10_msgs.specs.declared.fault.FormFault.{FormFault}
 use Rattle.of10_msgs.specs.declared.fault.FormFault.TheVariants.{BadType}
 use Rattle.of10_msgs.specs.declared.kind.Kind.{Kind}
-use Rattle.of10_msgs.specs.declared.kind.Kind.TheVariants.{Hello, Error, EchoRequest, EchoReply, Vendor, FeaturesRequest, FeaturesReply, GetConfigRequest, GetConfigReply, SetConfig, PacketIn, FlowRemoved, PortStatus, PacketOut, FlowMod, PortMod, StatsRequest, StatsReply, BarrierRequest, BarrierReply, QueueGetConfigRequest, QueueGetConfigReply}
+use Rattle.of10_msgs.specs.declared.kind.Kind.TheVariants.{Hello, Error, EchoRequest, EchoReply, Vendor}
+use Rattle.of10_msgs.specs.declared.kind.Kind.TheVariants.{FeaturesRequest, FeaturesReply, GetConfigRequest}
+use Rattle.of10_msgs.specs.declared.kind.Kind.TheVariants.{GetConfigReply, SetConfig, PacketIn, FlowRemoved, PortStatus}
+use Rattle.of10_msgs.specs.declared.kind.Kind.TheVariants.{PacketOut, FlowMod, PortMod, StatsRequest, StatsReply}
+use Rattle.of10_msgs.specs.declared.kind.Kind.TheVariants.{BarrierRequest, BarrierReply, QueueGetConfigRequest}
+use Rattle.of10_msgs.specs.declared.kind.Kind.TheVariants.{QueueGetConfigReply}
 use Rattle.of10_msgs.specs.declared.message.Message.{Message}
 use Rattle.of10_msgs.specs.declared.sender.Sender.{Sender}
 use Rattle.of10_msgs.specs.declared.sender.Sender.TheVariants.{Either, Controller, Switch}
@@ -47,4 +53,5 @@ is_of_switch (Some kind) = is_switch (sender_of kind)
 -- a type that only switches send is refused of a controller, whatever the frame's length
 abbrev pub reading_of_controller : List ℕ → Result Message FormFault
 reading_of_controller frame =
-    if (slice_index frame 0 == 1) && is_of_switch (kind_at (slice_index frame 1)) then Err (BadType (slice_index frame 1)) else reading frame
+    if (slice_index frame 0 == 1) && is_of_switch (kind_at (slice_index frame 1))
+    then Err (BadType (slice_index frame 1)) else reading frame

@@ -7,7 +7,12 @@ use Rattle.of10_frames.specs.Wire.{header_bytes}
 use Rattle.of10_msgs.specs.Bodies.{kind_of}
 use Rattle.of10_msgs.specs.Kinds.{number_of}
 use Rattle.of10_msgs.specs.declared.message.Body.{Body}
-use Rattle.of10_msgs.specs.declared.message.Body.TheVariants.{Hello, Error, EchoRequest, EchoReply, FeaturesRequest, FeaturesReply, GetConfigRequest, GetConfigReply, SetConfig, PacketIn, FlowRemoved, PortStatus, PacketOut, FlowMod, PortMod, StatsRequest, StatsReply, BarrierRequest, BarrierReply, QueueGetConfigRequest, QueueGetConfigReply}
+use Rattle.of10_msgs.specs.declared.message.Body.TheVariants.{Hello, Error, EchoRequest, EchoReply, FeaturesRequest}
+use Rattle.of10_msgs.specs.declared.message.Body.TheVariants.{FeaturesReply, GetConfigRequest, GetConfigReply}
+use Rattle.of10_msgs.specs.declared.message.Body.TheVariants.{SetConfig, PacketIn, FlowRemoved, PortStatus, PacketOut}
+use Rattle.of10_msgs.specs.declared.message.Body.TheVariants.{FlowMod, PortMod, StatsRequest, StatsReply}
+use Rattle.of10_msgs.specs.declared.message.Body.TheVariants.{BarrierRequest, BarrierReply, QueueGetConfigRequest}
+use Rattle.of10_msgs.specs.declared.message.Body.TheVariants.{QueueGetConfigReply}
 use Rattle.of10_msgs.specs.declared.message.FlowMod.{FlowMod as FlowModOf}
 use Rattle.of10_msgs.specs.declared.message.Message.{Message}
 use Rattle.of10_msgs.specs.declared.message.PacketOut.{PacketOut as PacketOutOf}
@@ -26,11 +31,20 @@ clear_match bytes = slice_set (slice_set (slice_set bytes 21 0) 26 0) 27 0
 
 -- a port, 48 bytes
 unfoldable pub port_bytes : PhyPort → List ℕ
-port_bytes p = big_bytes 2 p.port_no ++ (big_bytes 6 p.hw_addr ++ (p.name ++ (big_bytes 4 p.config ++ (big_bytes 4 p.state ++ (big_bytes 4 p.curr ++ (big_bytes 4 p.advertised ++ (big_bytes 4 p.supported ++ big_bytes 4 p.peer)))))))
+port_bytes p = big_bytes 2 p.port_no
+    ++ (big_bytes 6 p.hw_addr
+    ++ (p.name
+    ++ (big_bytes 4 p.config
+    ++ (big_bytes 4 p.state
+    ++ (big_bytes 4 p.curr ++ (big_bytes 4 p.advertised ++ (big_bytes 4 p.supported ++ big_bytes 4 p.peer)))))))
 
 -- a FLOW_MOD between its match and its actions, 24 bytes
 unfoldable pub flow_mod_fields : FlowModOf → List ℕ
-flow_mod_fields f = big_bytes 8 f.cookie ++ (big_bytes 2 f.command ++ (big_bytes 2 f.idle_timeout ++ (big_bytes 2 f.hard_timeout ++ (big_bytes 2 f.priority ++ (big_bytes 4 f.buffer_id ++ (big_bytes 2 f.out_port ++ big_bytes 2 f.flags))))))
+flow_mod_fields f = big_bytes 8 f.cookie
+    ++ (big_bytes 2 f.command
+    ++ (big_bytes 2 f.idle_timeout
+    ++ (big_bytes 2 f.hard_timeout
+    ++ (big_bytes 2 f.priority ++ (big_bytes 4 f.buffer_id ++ (big_bytes 2 f.out_port ++ big_bytes 2 f.flags))))))
 
 -- a PACKET_OUT before its actions, of which there are so many bytes
 unfoldable pub packet_out_fields : PacketOutOf → ℕ → List ℕ
@@ -44,14 +58,23 @@ body_with (EchoRequest bytes) free = bytes
 body_with (EchoReply bytes) free = bytes
 body_with FeaturesRequest free = []
 body_with (FeaturesReply datapath_id n_buffers n_tables capabilities actions ports) free =
-    big_bytes 8 datapath_id ++ (big_bytes 4 n_buffers ++ (n_tables ∷ (free.pad ++ (big_bytes 4 capabilities ++ (big_bytes 4 actions ++ flat_map port_bytes ports)))))
+    big_bytes 8 datapath_id
+    ++ (big_bytes 4 n_buffers
+    ++ (n_tables ∷ (free.pad ++ (big_bytes 4 capabilities ++ (big_bytes 4 actions ++ flat_map port_bytes ports)))))
 body_with GetConfigRequest free = []
 body_with (GetConfigReply flags miss_send_len) free = big_bytes 2 flags ++ big_bytes 2 miss_send_len
 body_with (SetConfig flags miss_send_len) free = big_bytes 2 flags ++ big_bytes 2 miss_send_len
 body_with (PacketIn buffer_id total_len in_port reason bytes) free =
     big_bytes 4 buffer_id ++ (big_bytes 2 total_len ++ (big_bytes 2 in_port ++ (reason ∷ (free.pad ++ bytes))))
 body_with (FlowRemoved m cookie priority reason duration_sec duration_nsec idle_timeout packet_count byte_count) free =
-    free.m ++ (big_bytes 8 cookie ++ (big_bytes 2 priority ++ (reason ∷ (take 1 free.pad ++ (big_bytes 4 duration_sec ++ (big_bytes 4 duration_nsec ++ (big_bytes 2 idle_timeout ++ (drop 1 free.pad ++ (big_bytes 8 packet_count ++ big_bytes 8 byte_count)))))))))
+    free.m
+    ++ (big_bytes 8 cookie
+    ++ (big_bytes 2 priority
+    ++ (reason
+    ∷ (take 1 free.pad
+    ++ (big_bytes 4 duration_sec
+    ++ (big_bytes 4 duration_nsec
+    ++ (big_bytes 2 idle_timeout ++ (drop 1 free.pad ++ (big_bytes 8 packet_count ++ big_bytes 8 byte_count)))))))))
 body_with (PortStatus reason port) free = reason ∷ (free.pad ++ port_bytes port)
 body_with (PacketOut p) free = packet_out_fields p (length free.actions) ++ (free.actions ++ p.bytes)
 body_with (FlowMod f) free = free.m ++ (flow_mod_fields f ++ free.actions)
@@ -94,7 +117,9 @@ body_bytes b = body_with b (written b)
 -- a message of some version, with these free bytes
 abbrev pub with_free : ℕ → Message → Free → List ℕ
 with_free version m free =
-    version ∷ (number_of (kind_of m.body) ∷ (big_bytes 2 (8 + length (body_with m.body free)) ++ (big_bytes 4 m.xid ++ body_with m.body free)))
+    version
+    ∷ (number_of (kind_of m.body)
+    ∷ (big_bytes 2 (8 + length (body_with m.body free)) ++ (big_bytes 4 m.xid ++ body_with m.body free)))
 
 -- a message as it is written
 abbrev pub spelling : Message → List ℕ

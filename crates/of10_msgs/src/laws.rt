@@ -31,7 +31,8 @@ pub fn numbers_meet()
 /// What is read is spelled so and can be written, whatever is spelled so is read, and so is what is
 /// written.
 pub fn grammar()
-    ensures only_spellings { (frame : List ℕ) (m : Message) → IsBytes frame → IsFrame frame → reading frame ≡ Ok m → Spells m frame × IsMessage m }
+    ensures only_spellings { (frame : List ℕ) (m : Message) → IsBytes frame → IsFrame frame → reading frame ≡ Ok m
+        → Spells m frame × IsMessage m }
     ensures all_spellings { (frame : List ℕ) (m : Message) → IsMessage m → Spells m frame → reading frame ≡ Ok m }
     ensures round_trip { (m : Message) → IsMessage m → reading (spelling m) ≡ Ok m }
 {}

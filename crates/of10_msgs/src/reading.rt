@@ -5,7 +5,8 @@ ghost use Rattle.of10_frames.specs.Frames.{IsFrame};
 ghost use Rattle.of10_msgs.specs.Kinds.{is_among, lengths_of};
 ghost use Rattle.of10_msgs.specs.Ranges.{IsMessage};
 ghost use Rattle.of10_msgs.specs.Spelling.{Spells};
-ghost use Rattle.of10_msgs.specs.Reading.{Gives, body_at, flow_mod_of, flow_removed_of, listed, packet_out_at, packet_out_of, port_at as port_of, ports_at as ports_of, reading, typed};
+ghost use Rattle.of10_msgs.specs.Reading.{Gives, body_at, flow_mod_of, flow_removed_of, listed, packet_out_at};
+ghost use Rattle.of10_msgs.specs.Reading.{packet_out_of, port_at as port_of, ports_at as ports_of, reading, typed};
 
 use crate::fault::FormFault;
 use crate::field::{array_at, match_at, rest_at};

@@ -3,9 +3,11 @@ ghost use Rattle.std.specs.Prelude.{◌≡◌, ◌↔◌, ◌++◌, ◌∷◌, �
 ghost use Rattle.std.specs.List.{flat_map};
 ghost use Rattle.byteorder.specs.Endian.{big_bytes};
 ghost use Rattle.of10_actions.specs.Spelling.{spellings};
-ghost use Rattle.of10_msgs.specs.Ranges.{CanWrite, FitsTypes, FlowModFits, HasAddress, IsClear, IsInRange, PacketOutFits, PortFits};
+ghost use Rattle.of10_msgs.specs.Ranges.{CanWrite, FitsTypes, FlowModFits, HasAddress, IsClear, IsInRange};
+ghost use Rattle.of10_msgs.specs.Ranges.{PacketOutFits, PortFits};
 ghost use Rattle.of10_msgs.specs.Reading.{reading};
-ghost use Rattle.of10_msgs.specs.Spelling.{body_bytes, flow_mod_fields as flow_mod_fields_of, packet_out_fields as packet_out_fields_of, port_bytes, spelling};
+ghost use Rattle.of10_msgs.specs.Spelling.{body_bytes, flow_mod_fields as flow_mod_fields_of};
+ghost use Rattle.of10_msgs.specs.Spelling.{packet_out_fields as packet_out_fields_of, port_bytes, spelling};
 
 use crate::field::cleared;
 use crate::message::{Body, FlowMod, MATCH, Message, PacketOut, PhyPort};
@@ -258,8 +260,10 @@ fn write_flow_mod(f: &FlowMod, out: &mut Bytes) -> Result<(), Memory>
 #[tactic(auto, unfolding(crate::specs::Spelling::flow_mod_fields))]
 fn flow_mod_fields(f: &FlowMod) -> [u8; 24]
     ensures value { result ≡ flow_mod_fields_of f.now }
-    ensures long { (f.now.cookie < 2 ^ 64) × (f.now.buffer_id < 2 ^ 32) × (f.now.command < 2 ^ 16) × (f.now.priority < 2 ^ 16) }
-    ensures short { (f.now.idle_timeout < 2 ^ 16) × (f.now.hard_timeout < 2 ^ 16) × (f.now.out_port < 2 ^ 16) × (f.now.flags < 2 ^ 16) }
+    ensures long { (f.now.cookie < 2 ^ 64) × (f.now.buffer_id < 2 ^ 32) × (f.now.command < 2 ^ 16)
+        × (f.now.priority < 2 ^ 16) }
+    ensures short { (f.now.idle_timeout < 2 ^ 16) × (f.now.hard_timeout < 2 ^ 16) × (f.now.out_port < 2 ^ 16)
+        × (f.now.flags < 2 ^ 16) }
 {
     let FlowMod {
         cookie,
@@ -337,7 +341,8 @@ fn removed_entry(cookie: u64, priority: u16, reason: u8) -> [u8; 12]
 
 /// How long the entry of a FLOW_REMOVED was there, and its timeout.
 fn removed_times(duration_sec: u32, duration_nsec: u32, idle_timeout: u16) -> [u8; 12]
-    ensures { result ≡ big_bytes 4 duration_sec ++ (big_bytes 4 duration_nsec ++ (big_bytes 2 idle_timeout ++ 0 ∷ 0 ∷ [])) }
+    ensures { result ≡ big_bytes 4 duration_sec
+        ++ (big_bytes 4 duration_nsec ++ (big_bytes 2 idle_timeout ++ 0 ∷ 0 ∷ [])) }
 {
     let mut bytes = [0; 12];
     BigEndian::write_u32(&mut bytes, duration_sec);

@@ -17,11 +17,17 @@ and_both true b e = (refl, e)
 and_both false b e = absurd cc
 
 -- an entry that is read has the length that it says
-pub size_of_entry : (bytes : List ℕ) → 88 ≤ u16_at 0 bytes → u16_at 0 bytes ≤ length bytes → entry_size (entry_of bytes) ≡ u16_at 0 bytes
+pub size_of_entry : (bytes : List ℕ) → 88 ≤ u16_at 0 bytes → u16_at 0 bytes ≤ length bytes
+    → entry_size (entry_of bytes) ≡ u16_at 0 bytes
 unfolding entry_of
 size_of_entry bytes least within =
     let n = u16_at 0 bytes in
-    omega (arith, length_clear (span 4 40 bytes), length_part 40 4 bytes (omega (arith, least, within)), length_part (n - 88) 88 bytes (omega (arith, least, within)))
+    omega (
+      arith,
+      length_clear (span 4 40 bytes),
+      length_part 40 4 bytes (omega (arith, least, within)),
+      length_part (n - 88) 88 bytes (omega (arith, least, within)),
+    )
 
 pub record IsWhole (bytes : List ℕ) (e : FlowStat) : Type 0 where
   pub least : 88 ≤ u16_at 0 bytes
@@ -31,11 +37,18 @@ pub record IsWhole (bytes : List ℕ) (e : FlowStat) : Type 0 where
 
 pub entry_whole : (bytes : List ℕ) (e : FlowStat) → entry_at bytes ≡ Some e → IsWhole bytes e
 entry_whole bytes e read =
-    let found = cond_some (nat_le 88 (u16_at 0 bytes) && nat_le (u16_at 0 bytes) (length bytes)) (entry_of bytes) e read in
+    let found = cond_some (nat_le 88 (u16_at 0 bytes) && nat_le (u16_at 0 bytes) (length bytes)) (entry_of bytes) e
+    read in
     let both = and_both (nat_le 88 (u16_at 0 bytes)) (nat_le (u16_at 0 bytes) (length bytes)) found.0 in
     let least = leb-true _ _ both.0 in
     let within = leb-true _ _ both.1 in
-    record { least = least; within = within; size = ap entry_size (sym found.1) ∙ size_of_entry bytes least within; is = found.1 }
+    record {
+      least = least;
+      within = within;
+      size = ap entry_size (sym found.1)
+          ∙ size_of_entry bytes least within;
+      is = found.1;
+    }
 
 pub port_whole : (bytes : List ℕ) (p : PortStat) → port_at bytes ≡ Some p → (104 ≤ length bytes) × (port_of bytes ≡ p)
 port_whole bytes p read =

@@ -1,5 +1,6 @@
 -- How a long FLOW reply is cut into parts.
-use Rattle.std.specs.Prelude.{◌≡◌, ◌<◌, ◌≤◌, ◌+◌, ◌-◌, ◌==◌, ◌||◌, ◌⊎◌, ℕ, zero, suc, true, false, Bool, List, [], ◌∷◌, length, nat_le, sum_by, take, if◌then◌else◌}
+use Rattle.std.specs.Prelude.{◌≡◌, ◌<◌, ◌≤◌, ◌+◌, ◌-◌, ◌==◌, ◌||◌, ◌⊎◌, ℕ, zero, suc, true, false, Bool, List, [], ◌∷◌}
+use Rattle.std.specs.Prelude.{length, nat_le, sum_by, take, if◌then◌else◌}
 use Rattle.of10_stats.specs.Spelling.{entry_size}
 use Rattle.of10_stats.specs.declared.reply.FlowStat.{FlowStat}
 use Rattle.of10_stats.specs.declared.reply.ReplyBody.{ReplyBody}

@@ -84,5 +84,6 @@ IsBody (bodies.Desc texts) = map length texts ≡ widths
 IsBody (bodies.Flow entries) = All IsEntry entries
 IsBody (bodies.Aggregate packets bytes flows) = (packets < 2 ^ 64) × (bytes < 2 ^ 64) × (flows < 2 ^ 32)
 IsBody (bodies.Table table_id name wildcards max_entries active lookup matched) =
-    (length name ≡ 32) × (wildcards < 2 ^ 32) × (max_entries < 2 ^ 32) × (active < 2 ^ 32) × (lookup < 2 ^ 64) × (matched < 2 ^ 64)
+    (length name ≡ 32) × (wildcards < 2 ^ 32) × (max_entries < 2 ^ 32) × (active < 2 ^ 32) × (lookup < 2 ^ 64)
+    × (matched < 2 ^ 64)
 IsBody (bodies.Port ports) = All IsPort ports

@@ -1,6 +1,7 @@
 -- Reading a body from its type on: the request or the reply, or the first fault in the order in which
 -- faults are looked for.
-use Rattle.std.specs.Prelude.{◌≡◌, ℕ, zero, suc, ◌-◌, ◌%◌, Bool, List, [], ◌∷◌, length, take, drop, slice_index, Option, Some, None, option_map, Result, Ok, Err, nat_le, ◌==◌, ◌&&◌, if◌then◌else◌}
+use Rattle.std.specs.Prelude.{◌≡◌, ℕ, zero, suc, ◌-◌, ◌%◌, Bool, List, [], ◌∷◌, length, take, drop, slice_index, Option}
+use Rattle.std.specs.Prelude.{Some, None, option_map, Result, Ok, Err, nat_le, ◌==◌, ◌&&◌, if◌then◌else◌}
 use Rattle.of10_actions.specs.Reading.{u16_at, u32_at, u64_at}
 use Rattle.of10_msgs.specs.Reading.{match_at, span}
 use Rattle.of10_stats.specs.Kinds.{kind_at, request_length}
@@ -101,7 +102,8 @@ texts_of (width ∷ widths) bytes = take width bytes ∷ texts_of widths (drop w
 -- ---- replies
 
 unfoldable pub table_of : List ℕ → ReplyBody
-table_of rest = bodies.Table (slice_index rest 0) (span 4 32 rest) (u32_at 36 rest) (u32_at 40 rest) (u32_at 44 rest) (u64_at 48 rest) (u64_at 56 rest)
+table_of rest = bodies.Table (slice_index rest 0) (span 4 32 rest) (u32_at 36 rest) (u32_at 40 rest) (u32_at 44 rest)
+    (u64_at 48 rest) (u64_at 56 rest)
 
 -- what follows the flags, as a reply of this type; none where it hasn't a length of its type
 abbrev pub body_at : StatsKind → List ℕ → Option ReplyBody

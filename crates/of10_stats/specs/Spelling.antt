@@ -1,6 +1,7 @@
 -- The bytes that stand for a request and for a reply (section 5.3.5 of the OpenFlow Switch
 -- Specification 1.0.0).
-use Rattle.std.specs.Prelude.{◌≡◌, ◌<◌, ◌^◌, ◌+◌, ◌%◌, ◌==◌, ℕ, Bool, true, false, List, [], ◌∷◌, ◌++◌, length, replicate}
+use Rattle.std.specs.Prelude.{◌≡◌, ◌<◌, ◌^◌, ◌+◌, ◌%◌, ◌==◌, ℕ, Bool, true, false, List, [], ◌∷◌, ◌++◌, length}
+use Rattle.std.specs.Prelude.{replicate}
 use Rattle.std.specs.List.{flat_map}
 use Rattle.byteorder.specs.Endian.{big_bytes}
 use Rattle.of10_frames.specs.Wire.{header_bytes}
@@ -43,7 +44,8 @@ start number flags = big_bytes 2 number ++ big_bytes 2 flags
 
 -- a request from its type on, as it is written
 abbrev pub request_bytes : StatsRequest → List ℕ
-request_bytes r = start (number_of (request_kind r)) 0 ++ request_with r (request_match r) (replicate (request_padding r) 0)
+request_bytes r = start (number_of (request_kind r)) 0 ++ request_with r (request_match r)
+    (replicate (request_padding r) 0)
 
 -- the message of a request: its type is 16
 abbrev pub request_message : ℕ → StatsRequest → List ℕ
@@ -68,7 +70,15 @@ entry_size e = 48 + length e.m + length e.actions
 -- an entry, with these bytes of the match and of the padding: one behind the table, six behind the timeouts
 unfoldable pub entry_with : FlowStat → List ℕ → ℕ → List ℕ → List ℕ
 entry_with e m pad pads =
-    big_bytes 2 (entry_size e) ++ (e.table_id ∷ (pad ∷ (m ++ (big_bytes 4 e.duration_sec ++ (big_bytes 4 e.duration_nsec ++ (big_bytes 2 e.priority ++ (big_bytes 2 e.idle ++ (big_bytes 2 e.hard ++ (pads ++ (big_bytes 8 e.cookie ++ (big_bytes 8 e.packets ++ (big_bytes 8 e.bytes ++ e.actions))))))))))))
+    big_bytes 2 (entry_size e)
+    ++ (e.table_id
+    ∷ (pad
+    ∷ (m ++ (big_bytes 4 e.duration_sec
+    ++ (big_bytes 4 e.duration_nsec
+    ++ (big_bytes 2 e.priority
+    ++ (big_bytes 2 e.idle
+    ++ (big_bytes 2 e.hard
+    ++ (pads ++ (big_bytes 8 e.cookie ++ (big_bytes 8 e.packets ++ (big_bytes 8 e.bytes ++ e.actions))))))))))))
 
 -- an entry as it is written
 abbrev pub entry_bytes : FlowStat → List ℕ
@@ -89,7 +99,18 @@ port_size p = 104
 -- a port, with these bytes of padding
 unfoldable pub port_with : PortStat → List ℕ → List ℕ
 port_with p pad =
-    big_bytes 2 p.port_no ++ (pad ++ (big_bytes 8 p.rx_packets ++ (big_bytes 8 p.tx_packets ++ (big_bytes 8 p.rx_bytes ++ (big_bytes 8 p.tx_bytes ++ (big_bytes 8 p.rx_dropped ++ (big_bytes 8 p.tx_dropped ++ (big_bytes 8 p.rx_errors ++ (big_bytes 8 p.tx_errors ++ (big_bytes 8 p.rx_frame_err ++ (big_bytes 8 p.rx_over_err ++ (big_bytes 8 p.rx_crc_err ++ big_bytes 8 p.collisions))))))))))))
+    big_bytes 2 p.port_no
+    ++ (pad
+    ++ (big_bytes 8 p.rx_packets
+    ++ (big_bytes 8 p.tx_packets
+    ++ (big_bytes 8 p.rx_bytes
+    ++ (big_bytes 8 p.tx_bytes
+    ++ (big_bytes 8 p.rx_dropped
+    ++ (big_bytes 8 p.tx_dropped
+    ++ (big_bytes 8 p.rx_errors
+    ++ (big_bytes 8 p.tx_errors
+    ++ (big_bytes 8 p.rx_frame_err
+    ++ (big_bytes 8 p.rx_over_err ++ (big_bytes 8 p.rx_crc_err ++ big_bytes 8 p.collisions))))))))))))
 
 -- a port as it is written
 abbrev pub port_bytes : PortStat → List ℕ
@@ -116,9 +137,14 @@ joined texts = flat_map (λ text. text) texts
 abbrev pub body_with : ReplyBody → List ℕ → List ℕ
 body_with (bodies.Desc texts) pad = joined texts
 body_with (bodies.Flow entries) pad = flat_map entry_bytes entries
-body_with (bodies.Aggregate packets bytes flows) pad = big_bytes 8 packets ++ (big_bytes 8 bytes ++ (big_bytes 4 flows ++ pad))
+body_with (bodies.Aggregate packets bytes flows) pad =
+    big_bytes 8 packets ++ (big_bytes 8 bytes ++ (big_bytes 4 flows ++ pad))
 body_with (bodies.Table table_id name wildcards max_entries active lookup matched) pad =
-    table_id ∷ (pad ++ (name ++ (big_bytes 4 wildcards ++ (big_bytes 4 max_entries ++ (big_bytes 4 active ++ (big_bytes 8 lookup ++ big_bytes 8 matched))))))
+    table_id
+    ∷ (pad
+    ++ (name
+    ++ (big_bytes 4 wildcards
+    ++ (big_bytes 4 max_entries ++ (big_bytes 4 active ++ (big_bytes 8 lookup ++ big_bytes 8 matched))))))
 body_with (bodies.Port ports) pad = flat_map port_bytes ports
 
 -- how many bytes of padding a reply has, that in entries and ports left out

@@ -31,7 +31,19 @@ FaultsAreFirst = (request_in (0 ∷ 5 ∷ 0 ∷ 0 ∷ []) ≡ Err (BadStat 5))
 
 -- an entry with one action
 abbrev pub entry : FlowStat
-entry = record { table_id = 0; m = everything; duration_sec = 0; duration_nsec = 0; priority = 0; idle = 0; hard = 0; cookie = 0; packets = 0; bytes = 0; actions = replicate 8 0 }
+entry = record {
+  table_id = 0;
+  m = everything;
+  duration_sec = 0;
+  duration_nsec = 0;
+  priority = 0;
+  idle = 0;
+  hard = 0;
+  cookie = 0;
+  packets = 0;
+  bytes = 0;
+  actions = replicate 8 0;
+}
 
 -- twenty-two entries of 96 bytes make parts of 2028 and 108 bytes
 abbrev pub TwoAndTwenty : Type 0

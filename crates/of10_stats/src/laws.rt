@@ -17,8 +17,10 @@ ghost use Rattle.of10_stats.specs.Spelling.{SpellsReply, SpellsRequest, reply_me
 pub fn requests()
     ensures only_spellings { (bytes : List ℕ) (r : StatsRequest) → IsBytes bytes → 4 ≤ length bytes →
         request_in bytes ≡ Ok r → SpellsRequest r bytes × IsRequest r }
-    ensures all_spellings { (bytes : List ℕ) (r : StatsRequest) → IsRequest r → SpellsRequest r bytes → request_in bytes ≡ Ok r }
-    ensures round_trip { (xid : ℕ) (r : StatsRequest) → IsRequest r → request_in (drop 8 (request_message xid r)) ≡ Ok r }
+    ensures all_spellings { (bytes : List ℕ) (r : StatsRequest) → IsRequest r → SpellsRequest r bytes
+        → request_in bytes ≡ Ok r }
+    ensures round_trip { (xid : ℕ) (r : StatsRequest) → IsRequest r
+        → request_in (drop 8 (request_message xid r)) ≡ Ok r }
 {}
 
 /// What is read as a reply is spelled so, whatever is spelled so is read, and so is the body of each
@@ -26,7 +28,8 @@ pub fn requests()
 pub fn replies()
     ensures only_spellings { (bytes : List ℕ) (r : StatsReply) → IsBytes bytes → 4 ≤ length bytes →
         reply_in bytes ≡ Ok r → SpellsReply r bytes × IsBody r.body }
-    ensures all_spellings { (bytes : List ℕ) (r : StatsReply) → IsBody r.body → SpellsReply r bytes → reply_in bytes ≡ Ok r }
+    ensures all_spellings { (bytes : List ℕ) (r : StatsReply) → IsBody r.body → SpellsReply r bytes
+        → reply_in bytes ≡ Ok r }
     ensures round_trip { (xid : ℕ) (body : ReplyBody) → IsBody body →
         All (λ r. reply_in (drop 8 (reply_message xid r)) ≡ Ok r) (replies_of body) }
     // What is read of a message, which has 8 bytes before it, can be written.

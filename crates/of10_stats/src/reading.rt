@@ -3,7 +3,8 @@ ghost use Rattle.std.specs.Prelude.{◌≡◌, ◌≤◌, ◌<◌, ◌^◌, IfOk
 ghost use Rattle.of10_actions.specs.Reading.{u16_at as u16_of};
 ghost use Rattle.of10_stats.specs.Kinds.{request_length};
 ghost use Rattle.of10_stats.specs.Ranges.{widths};
-ghost use Rattle.of10_stats.specs.Reading.{Gives, body_at, entry_at, entry_of, items_at, port_at, port_of, reply_in, request_at, request_in, request_of, table_of, texts_of};
+ghost use Rattle.of10_stats.specs.Reading.{Gives, body_at, entry_at, entry_of, items_at, port_at, port_of, reply_in};
+ghost use Rattle.of10_stats.specs.Reading.{request_at, request_in, request_of, table_of, texts_of};
 ghost use Rattle.of10_stats.specs.Spelling.{entry_size, port_size};
 
 use crate::fault::StatsFault;

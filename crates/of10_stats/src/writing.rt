@@ -1,5 +1,6 @@
 //! From requests and replies to messages.
-ghost use Rattle.std.specs.Prelude.{◌≡◌, ◌≤◌, ◌<◌, ◌*◌, ◌+◌, ◌^◌, ◌++◌, ◌∷◌, [], All, false, IfOk, OnOk, length, map, replicate};
+ghost use Rattle.std.specs.Prelude.{◌≡◌, ◌≤◌, ◌<◌, ◌*◌, ◌+◌, ◌^◌, ◌++◌, ◌∷◌, [], All, false, IfOk, OnOk, length, map};
+ghost use Rattle.std.specs.Prelude.{replicate};
 ghost use Rattle.std.specs.List.{flat_map, sum_by};
 ghost use Rattle.byteorder.specs.Endian.{big_bytes};
 ghost use Rattle.of10_frames.specs.Wire.{header_bytes};
@@ -7,7 +8,9 @@ ghost use Rattle.of10_msgs.specs.Kinds.{number_of as message_number};
 ghost use Rattle.of10_stats.specs.Kinds.{number_of, request_kind};
 ghost use Rattle.of10_stats.specs.Parts.{bytes_of, part_replies, parts, replies_of};
 ghost use Rattle.of10_stats.specs.Ranges.{CanWriteBody, CanWriteEntry, CanWriteReply, CanWriteRequest, widths};
-ghost use Rattle.of10_stats.specs.Spelling.{body_bytes, entry_bytes, entry_size, joined, more_flag, port_bytes, reply_message, request_match, request_message, request_padding, request_with, start};
+ghost use Rattle.of10_stats.specs.Spelling.{body_bytes, entry_bytes, entry_size, joined, more_flag, port_bytes};
+ghost use Rattle.of10_stats.specs.Spelling.{reply_message, request_match, request_message, request_padding};
+ghost use Rattle.of10_stats.specs.Spelling.{request_with, start};
 
 use crate::kind::StatsKind;
 use crate::parts::{HEAD, part_length};
@@ -102,7 +105,8 @@ fn write_parts(
 /// One part of a FLOW reply.
 fn write_part(alloc: Global, part: &[FlowStat], more: bool, xid: u32) -> Result<Bytes, Memory>
     requires { 12 + bytes_of part.now < 2 ^ 16 }
-    ensures { IfOk result (λ message. message ≡ reply_message xid (record { more = more; body = ReplyBody.Flow part.now })) }
+    ensures { IfOk result (λ message. message ≡ reply_message xid
+        (record { more = more; body = ReplyBody.Flow part.now })) }
 {
     let length = HEAD + entries_length(part);
     let mut out = Bytes::with_capacity(alloc, length)?;

@@ -35,9 +35,12 @@ Tells f None = (h : HeaderOf) → f h ≡ false
 Tells f (Some m) = (h : HeaderOf) → holds m h ≡ f h
 
 module _ (f : HeaderOf → Bool) (m : MatchOf) where
-  meet_by : (n : MatchOf) → ((h : HeaderOf) → holds n h ≡ f h) → (b : Bool) → overlaps m n ≡ b → Tells (λ h. holds m h && f h) (if b then Some (both m n) else None)
-  meet_by n t true e = λ h. sym (and-true (holds (both m n) h)) ∙ (ap (λ b. holds (both m n) h && b) (sym e) ∙ (holds-both m n h ∙ ap (λ b. holds m h && b) (t h)))
-  meet_by n t false e = λ h. ap (λ b. holds m h && b) (sym (t h)) ∙ (sym (holds-both m n h) ∙ (ap (λ b. holds (both m n) h && b) e ∙ and-false (holds (both m n) h)))
+  meet_by : (n : MatchOf) → ((h : HeaderOf) → holds n h ≡ f h) → (b : Bool) → overlaps m n ≡ b
+      → Tells (λ h. holds m h && f h) (if b then Some (both m n) else None)
+  meet_by n t true e = λ h. sym (and-true (holds (both m n) h))
+      ∙ (ap (λ b. holds (both m n) h && b) (sym e) ∙ (holds-both m n h ∙ ap (λ b. holds m h && b) (t h)))
+  meet_by n t false e = λ h. ap (λ b. holds m h && b) (sym (t h))
+      ∙ (sym (holds-both m n h) ∙ (ap (λ b. holds (both m n) h && b) e ∙ and-false (holds (both m n) h)))
 
   meet_tells : (p : Option MatchOf) → Tells f p → Tells (λ h. holds m h && f h) (option_and_then (meet m) p)
   meet_tells None t = λ h. ap (λ b. holds m h && b) (t h) ∙ and-false (holds m h)
@@ -48,35 +51,47 @@ abbrev pub RuleTells : (HeaderOf → Bool) → Option Rule → Type 0
 RuleTells f None = (h : HeaderOf) → f h ≡ false
 RuleTells f (Some r) = (h : HeaderOf) → holds r.m h ≡ f h
 
-rule_tells : (f : HeaderOf → Bool) (g : MatchOf → Rule) → ((m : MatchOf) → (g m).m ≡ m) → (o : Option MatchOf) → Tells f o → RuleTells f (option_map g o)
+rule_tells : (f : HeaderOf → Bool) (g : MatchOf → Rule) → ((m : MatchOf) → (g m).m ≡ m) → (o : Option MatchOf)
+    → Tells f o → RuleTells f (option_map g o)
 rule_tells f g same None t = t
 rule_tells f g same (Some m) t = λ h. ap (λ n. holds n h) (same m) ∙ t h
 
-pulled_tells : (r : RewriteOf) (m : MatchOf) (p : Option MatchOf) → IsPullBack r m p → Tells (λ h. holds m (apply r h)) p
+pulled_tells : (r : RewriteOf) (m : MatchOf) (p : Option MatchOf) → IsPullBack r m p
+    → Tells (λ h. holds m (apply r h)) p
 pulled_tells r m None t = t
 pulled_tells r m (Some n) t = t
 
 module _ (size : ℕ) (a b : Rule) (n : IsNormal b.m) where
-  passed_tells : (t : Tail) → Joins Seq t → RuleTells (λ h. holds a.m h && holds b.m (after_tail t h)) (passed t size a b)
+  passed_tells : (t : Tail) → Joins Seq t
+      → RuleTells (λ h. holds a.m h && holds b.m (after_tail t h)) (passed t size a b)
   passed_tells Nothing j = absurd j
   passed_tells (Link r p) j = absurd j
   passed_tells (Pass r) j =
-      rule_tells _ (chained size r a b) (λ m. refl) _ (meet_tells (λ h. holds b.m (apply r h)) a.m (pull r b.m) (pulled_tells r b.m (pull r b.m) (pull_exact r b.m n)))
+      rule_tells _ (chained size r a b) (λ m. refl) _
+      (meet_tells (λ h. holds b.m (apply r h)) a.m (pull r b.m)
+      (pulled_tells r b.m (pull r b.m) (pull_exact r b.m n)))
 
-  crossed_tells : (t : Tail) → Joins Hop t → RuleTells (λ h. holds a.m h && holds (without_port b.m) (after_tail t h)) (crossed t size a b)
+  crossed_tells : (t : Tail) → Joins Hop t
+      → RuleTells (λ h. holds a.m h && holds (without_port b.m) (after_tail t h)) (crossed t size a b)
   crossed_tells Nothing j = absurd j
   crossed_tells (Pass r) j = absurd j
   crossed_tells (Link r p) j =
-      rule_tells _ (hopped size r a b) (λ m. refl) _ (meet_tells (λ h. holds (without_port b.m) (apply r h)) a.m (pull r (without_port b.m)) (pulled_tells r (without_port b.m) (pull r (without_port b.m)) (pull_exact r (without_port b.m) (normal-without_port b.m n))))
+      rule_tells _ (hopped size r a b) (λ m. refl) _
+      (meet_tells (λ h. holds (without_port b.m) (apply r h)) a.m (pull r (without_port b.m))
+      (pulled_tells r (without_port b.m) (pull r (without_port b.m))
+      (pull_exact r (without_port b.m) (normal-without_port b.m n))))
 
-  pub joined_tells : (op : Op) → Joins op a.tail → RuleTells (λ h. holds a.m h && holds (asked op b.m) (onward op a.tail h)) (joined op size a b)
-  joined_tells Par j = rule_tells _ (summed a b) (λ m. refl) _ (meet_tells (λ h. holds b.m h) a.m (Some b.m) (λ h. refl))
+  pub joined_tells : (op : Op) → Joins op a.tail
+      → RuleTells (λ h. holds a.m h && holds (asked op b.m) (onward op a.tail h)) (joined op size a b)
+  joined_tells Par j = rule_tells _ (summed a b) (λ m. refl) _
+      (meet_tells (λ h. holds b.m h) a.m (Some b.m) (λ h. refl))
   joined_tells Seq j = passed_tells a.tail j
   joined_tells Over j = absurd j
   joined_tells Hop j = crossed_tells a.tail j
 
 -- what is known of the rule of a pair
-pub holds_both : (op : Op) (a b : Rule) (o : Option Rule) → RuleTells (λ h. holds a.m h && holds (asked op b.m) (onward op a.tail h)) o → IfSome o (HoldsBoth op a b)
+pub holds_both : (op : Op) (a b : Rule) (o : Option Rule)
+    → RuleTells (λ h. holds a.m h && holds (asked op b.m) (onward op a.tail h)) o → IfSome o (HoldsBoth op a b)
 holds_both op a b None t = tt
 holds_both op a b (Some r) t = t
 
@@ -84,14 +99,23 @@ some_header : (op : Op) (a b r : Rule) → IsMatch r.m → HoldsBoth op a b r �
 some_header op a b r i t =
     let o = (overlaps_exact true r.m r.m i i (sym (overlaps_self r.m))).0 refl in
     let e = sym (t o.header) ∙ o.in_first in
-    record { header = o.header; is_header = o.is_header; in_left = and-first (holds a.m o.header) (holds (asked op b.m) (onward op a.tail o.header)) e; in_right = and-second (holds a.m o.header) (holds (asked op b.m) (onward op a.tail o.header)) e }
+    record {
+      header = o.header;
+      is_header = o.is_header;
+      in_left = and-first (holds a.m o.header) (holds (asked op b.m) (onward op a.tail o.header)) e;
+      in_right = and-second (holds a.m o.header) (holds (asked op b.m) (onward op a.tail o.header)) e;
+    }
 
-pub some_in_both : (op : Op) (a b : Rule) (o : Option Rule) → RuleTells (λ h. holds a.m h && holds (asked op b.m) (onward op a.tail h)) o → IfSome o (λ r. IsMatch r.m) → IsSome o ↔ SomeIsInBoth op a b
+pub some_in_both : (op : Op) (a b : Rule) (o : Option Rule)
+    → RuleTells (λ h. holds a.m h && holds (asked op b.m) (onward op a.tail h)) o → IfSome o (λ r. IsMatch r.m)
+    → IsSome o ↔ SomeIsInBoth op a b
 some_in_both op a b (Some r) t i = (λ s. some_header op a b r i t, λ s. refl)
-some_in_both op a b None t i = (λ s. absurd (false≢true s), λ s. absurd (false≢true (sym (t s.header) ∙ rw (s.in_left, s.in_right))))
+some_in_both op a b None t i =
+    (λ s. absurd (false≢true s), λ s. absurd (false≢true (sym (t s.header) ∙ rw (s.in_left, s.in_right))))
 
 -- the meet of normal matches, and the rule that is made of it, are normal
-met-normal : (m : MatchOf) (p : Option MatchOf) → IsNormal m → IfSome p IsNormal → IfSome (option_and_then (meet m) p) IsNormal
+met-normal : (m : MatchOf) (p : Option MatchOf) → IsNormal m → IfSome p IsNormal
+    → IfSome (option_and_then (meet m) p) IsNormal
 met-normal m None a b = tt
 met-normal m (Some n) a b = by_test (overlaps m n) refl
   where
@@ -99,7 +123,8 @@ met-normal m (Some n) a b = by_test (overlaps m n) refl
     by_test true e = IsNormal-both m n e a b
     by_test false e = tt
 
-made-normal : (g : MatchOf → Rule) → ((m : MatchOf) → (g m).m ≡ m) → (o : Option MatchOf) → IfSome o IsNormal → IfSome (option_map g o) (λ (r : Rule). IsNormal r.m)
+made-normal : (g : MatchOf → Rule) → ((m : MatchOf) → (g m).m ≡ m) → (o : Option MatchOf) → IfSome o IsNormal
+    → IfSome (option_map g o) (λ (r : Rule). IsNormal r.m)
 made-normal g same None n = tt
 made-normal g same (Some m) n = subst IsNormal (sym (same m)) n
 
@@ -107,12 +132,14 @@ module _ (size : ℕ) (a b : Rule) (p : IsNormal a.m) (q : IsNormal b.m) where
   passed-normal : (t : Tail) → IfSome (passed t size a b) (λ (r : Rule). IsNormal r.m)
   passed-normal Nothing = tt
   passed-normal (Link r port) = tt
-  passed-normal (Pass r) = made-normal (chained size r a b) (λ m. refl) _ (met-normal a.m (pull r b.m) p (pull_normal r b.m q))
+  passed-normal (Pass r) = made-normal (chained size r a b) (λ m. refl) _
+      (met-normal a.m (pull r b.m) p (pull_normal r b.m q))
 
   crossed-normal : (t : Tail) → IfSome (crossed t size a b) (λ (r : Rule). IsNormal r.m)
   crossed-normal Nothing = tt
   crossed-normal (Pass r) = tt
-  crossed-normal (Link r port) = made-normal (hopped size r a b) (λ m. refl) _ (met-normal a.m (pull r (without_port b.m)) p (pull_normal r (without_port b.m) (normal-without_port b.m q)))
+  crossed-normal (Link r port) = made-normal (hopped size r a b) (λ m. refl) _
+      (met-normal a.m (pull r (without_port b.m)) p (pull_normal r (without_port b.m) (normal-without_port b.m q)))
 
   pub joined-normal : (op : Op) → IfSome (joined op size a b) (λ (r : Rule). IsNormal r.m)
   joined-normal Par = made-normal (summed a b) (λ m. refl) _ (met-normal a.m (Some b.m) p q)
@@ -122,8 +149,10 @@ module _ (size : ℕ) (a b : Rule) (p : IsNormal a.m) (q : IsNormal b.m) where
 
 -- the same of a result that is the rule of the pair
 module _ (op : Op) (size : ℕ) (a b : Rule) (o : Option Rule) (e : o ≡ joined op size a b) where
-  result_tells : Joins op a.tail → IsNormal b.m → RuleTells (λ h. holds a.m h && holds (asked op b.m) (onward op a.tail h)) o
-  result_tells j n = subst (RuleTells (λ h. holds a.m h && holds (asked op b.m) (onward op a.tail h))) (sym e) (joined_tells size a b n op j)
+  result_tells : Joins op a.tail → IsNormal b.m
+      → RuleTells (λ h. holds a.m h && holds (asked op b.m) (onward op a.tail h)) o
+  result_tells j n = subst (RuleTells (λ h. holds a.m h && holds (asked op b.m) (onward op a.tail h))) (sym e)
+      (joined_tells size a b n op j)
 
   pub none_at : Joins op a.tail → IsNormal b.m → IfSome o (λ (r : Rule). IsMatch r.m) → IsSome o ↔ SomeIsInBoth op a b
   none_at j n i = some_in_both op a b o (result_tells j n) i

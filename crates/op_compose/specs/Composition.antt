@@ -16,7 +16,8 @@ use Rattle.op_compose.specs.declared.op.Side.TheVariants.{Left, Right}
 
 -- the rule of a leaf
 abbrev pub leaf_rule : MatchOf → ℕ → Bool → Effects → Leaf → Rule
-leaf_rule m level touched effects leaf = record { m = m; level = level; touched = touched; outs = effects.outs; tail = effects.tail; ancestry = leaf ∷ [] }
+leaf_rule m level touched effects leaf =
+    record { m = m; level = level; touched = touched; outs = effects.outs; tail = effects.tail; ancestry = leaf ∷ [] }
 
 -- the left rules that an operator joins with right ones: any of `+`, those that pass packets on of `>>`, those that
 -- lead over a link of a hop; `|>` joins none

@@ -40,7 +40,9 @@ module _ (h : HeaderOf) where
   by-bare t None = refl
   by-bare t (Some e) = refl
 
-  leaf-by : (t : LeafTable) (b : Bool) → (if b then by_entry (bare_table t) (best_entry (map bare_entry t.entries) h) else outside) ≡ (if b then by_entry t (best_entry t.entries h) else outside)
+  leaf-by : (t : LeafTable) (b : Bool)
+      → (if b then by_entry (bare_table t) (best_entry (map bare_entry t.entries) h) else outside)
+      ≡ (if b then by_entry t (best_entry t.entries h) else outside)
   leaf-by t true = rw (best-bare t.entries) (by-bare t (best_entry t.entries h))
   leaf-by t false = refl
 
@@ -51,15 +53,20 @@ module _ (h : HeaderOf) where
   meaning-by None = refl
   meaning-by (Some t) = leaf-bare t
 
-  pub meaning-bare : (tables : List LeafTable) (i : ℕ) → table_meaning (slice_get (map bare_table tables) i) h ≡ table_meaning (slice_get tables i) h
+  pub meaning-bare : (tables : List LeafTable) (i : ℕ)
+      → table_meaning (slice_get (map bare_table tables) i) h ≡ table_meaning (slice_get tables i) h
   meaning-bare tables i = rw slice_get-map (meaning-by (slice_get tables i))
 
 module _ (net : Network) where
-  means-by : (o : Option SwitchOf) (h : HeaderOf) → switch_meaning (bare net).tables (option_map bare_switch o) h ≡ switch_meaning net.tables o h
+  means-by : (o : Option SwitchOf) (h : HeaderOf)
+      → switch_meaning (bare net).tables (option_map bare_switch o) h ≡ switch_meaning net.tables o h
   means-by None h = refl
-  means-by (Some s) h = ap (λ (leaf : ℕ → HeaderOf → Meaning). evaluate leaf s.expr h) (λ j i k. meaning-bare k net.tables i j)
+  means-by (Some s) h = ap (λ (leaf : ℕ → HeaderOf → Meaning). evaluate leaf s.expr h)
+      (λ j i k. meaning-bare k net.tables i j)
 
-  means-bare : (v : ℕ) (h : HeaderOf) → switch_meaning (bare net).tables (slice_get (bare net).switches v) h ≡ switch_meaning net.tables (slice_get net.switches v) h
+  means-bare : (v : ℕ) (h : HeaderOf)
+      → switch_meaning (bare net).tables (slice_get (bare net).switches v) h
+      ≡ switch_meaning net.tables (slice_get net.switches v) h
   means-bare v h = rw slice_get-map (means-by (slice_get net.switches v) h)
 
   links-by : (o : Option SwitchOf) → switch_links (option_map bare_switch o) ≡ switch_links o
@@ -77,7 +84,11 @@ module _ (net : Network) where
   spread-bare v = rw slice_get-map (spread-by (slice_get net.switches v))
 
   ground-bare : ground_of (bare net) ≡ ground_of net
-  ground-bare = λ j. record { means = λ v h. means-bare v h j; links = λ v. links-bare v j; spread = λ v. spread-bare v j }
+  ground-bare = λ j. record {
+    means = λ v h. means-bare v h j;
+    links = λ v. links-bare v j;
+    spread = λ v. spread-bare v j;
+  }
 
 pub walks_are_bare : WalksAreBare
 walks_are_bare a b e n v h =

@@ -18,9 +18,11 @@ table_of m = leaf_table no_levels m.number m.grant.now m.table.now.table.entries
 abbrev pub Answers : Member → HeaderOf → Answer → Type 0
 Answers m h Outside = is_inside (table_of m) h ≡ false
 Answers m h Miss = (is_inside (table_of m) h ≡ true) × (best_entry (table_of m).entries h ≡ None)
-Answers m h (Entry e) = (is_inside (table_of m) h ≡ true) × (best_entry (table_of m).entries h ≡ Some (leaf_entry no_levels m.number m.grant.now.ports e.now))
+Answers m h (Entry e) = (is_inside (table_of m) h ≡ true)
+    × (best_entry (table_of m).entries h ≡ Some (leaf_entry no_levels m.number m.grant.now.ports e.now))
 
--- the numbers of the actions of the entry that is met are in their ranges, and its serial leaves room for the kind of its leaf
+-- the numbers of the actions of the entry that is met are in their ranges, and its serial leaves room for the kind of
+-- its leaf
 abbrev pub HasInRange : Answer → Type 0
 HasInRange Outside = Unit {0}
 HasInRange Miss = Unit {0}

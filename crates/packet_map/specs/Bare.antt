@@ -31,7 +31,8 @@ bare net = record { tables = map bare_table net.tables; switches = map bare_swit
 
 -- networks that differ in nothing else have the same walks
 abbrev pub WalksAreBare : Type 0
-WalksAreBare = (a b : Network) → bare a ≡ bare b → (n v : ℕ) (h : HeaderOf) → walk (ground_of a) n v h ≡ walk (ground_of b) n v h
+WalksAreBare = (a b : Network) → bare a ≡ bare b → (n v : ℕ) (h : HeaderOf)
+    → walk (ground_of a) n v h ≡ walk (ground_of b) n v h
 
 -- the entry that a member's table finds is the best one of its leaf, whatever the levels
 abbrev pub BestIsTheLeafs : Type 0

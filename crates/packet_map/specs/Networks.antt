@@ -1,5 +1,6 @@
 -- The machine's policy and tables, as evaluation, rules and walks read them.
-use Rattle.std.specs.Prelude.{ℕ, ◌==◌, Option, Some, None, if◌then◌else◌, List, ◌++◌, map, filter_map, slice_get, zip, All}
+use Rattle.std.specs.Prelude.{ℕ, ◌==◌, Option, Some, None, if◌then◌else◌, List, ◌++◌, map, filter_map, slice_get, zip}
+use Rattle.std.specs.Prelude.{All}
 use Rattle.std.specs.List.{enumerate_from}
 use Rattle.of10_match.specs.Fields.{HeaderOf}
 use Rattle.of10_actions.specs.Effects.{effects_of}
@@ -29,7 +30,13 @@ pub record LevelsOf : Type 0 where
 
 -- an entry of the member of this number, which sees these ports
 abbrev pub leaf_entry : LevelsOf → ℕ → PortView → Entry → LeafEntry
-leaf_entry levels i view e = record { serial = e.serial; rank = e.rank; m = e.normal; level = levels.level e.rank; effects = effects_of view i e.actions }
+leaf_entry levels i view e = record {
+  serial = e.serial;
+  rank = e.rank;
+  m = e.normal;
+  level = levels.level e.rank;
+  effects = effects_of view i e.actions;
+}
 
 -- the entries of the member of this number in their order, with what its grant lets it see
 abbrev pub leaf_table : LevelsOf → ℕ → Grant → List Entry → LeafTable
@@ -80,7 +87,10 @@ switches_of plan exprs = map (numbered_switch plan) (enumerate_from 0 exprs)
 
 -- the network that is read to follow packets
 abbrev pub network_of : World → Network
-network_of w = record { tables = tables_of w.grants.now w.tables.now; switches = switches_of w.topology.now w.exprs.now }
+network_of w = record {
+  tables = tables_of w.grants.now w.tables.now;
+  switches = switches_of w.topology.now w.exprs.now;
+}
 
 -- what an expression does there
 abbrev pub meant : World → Policy → HeaderOf → Meaning

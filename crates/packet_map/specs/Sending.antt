@@ -1,6 +1,8 @@
--- What a PACKET_OUT of a member gives (section 5.3.6 of the standard): its actions are done as if the packet had come by
+-- What a PACKET_OUT of a member gives (section 5.3.6 of the standard): its actions are done as if the packet had come
+-- by
 -- its in_port, and where the list ends at a link port or at TABLE, the policy takes the packet up.
-use Rattle.std.specs.Prelude.{ℕ, nat_lt, Option, Some, None, if◌then◌else◌, List, [], ◌∷◌, filter_map, option_map, slice_get}
+use Rattle.std.specs.Prelude.{ℕ, nat_lt, Option, Some, None, if◌then◌else◌, List, [], ◌∷◌, filter_map, option_map}
+use Rattle.std.specs.Prelude.{slice_get}
 use Rattle.std.specs.Option.{option_or}
 use Rattle.of10_match.specs.Fields.{HeaderOf}
 use Rattle.of10_actions.specs.Effects.{effects_of, set_by}
@@ -53,13 +55,15 @@ at_table v in_port r = record { rewrite = r; place = record { v = v; port = in_p
 
 -- where the policy takes the packet up: beyond the link, or at the in_port
 abbrev pub taken_up : List Link → ℕ → Tail → PacketOut → Option Onward
-taken_up links v tail m = option_or (leads tail links m.in_port) (option_map (at_table v m.in_port) (table_from no_rewrite m.actions))
+taken_up links v tail m = option_or (leads tail links m.in_port)
+    (option_map (at_table v m.in_port) (table_from no_rewrite m.actions))
 
 -- what a PACKET_OUT of the member of this number, which sees these ports, gives for data of this header
 abbrev pub sent_by : World → ℕ → PortView → PacketOut → HeaderOf → Walked
 sent_by w member view m h =
     both_walked (given view.v (ingress_of m.in_port) m.in_port (effects_of view member m.actions).outs)
-    (what_follows (taken_up (links_of w.topology.now view.v) view.v (effects_of view member m.actions).tail m) (walk (ground_of (network_of w)) w.hops) h)
+    (what_follows (taken_up (links_of w.topology.now view.v) view.v (effects_of view member m.actions).tail m)
+    (walk (ground_of (network_of w)) w.hops) h)
 
 -- without a grant there is no member
 abbrev pub sent_under : Option Grant → World → ℕ → PacketOut → HeaderOf → Walked

@@ -36,7 +36,8 @@ leave_by ports = record { outs = map (λ p. record { v = 0; port = p; rewrite = 
 
 -- the first member is told
 abbrev pub told_with : ℕ → Walked
-told_with in_port = record { outs = []; told = record { member = 0; in_port = in_port; reason = 1; rewrite = no_rewrite } ∷ [] }
+told_with in_port =
+    record { outs = []; told = record { member = 0; in_port = in_port; reason = 1; rewrite = no_rewrite } ∷ [] }
 
 -- FLOOD and ALL leave out the in_port, and nothing where it is no port
 abbrev pub FloodsAreSent : Type 0
@@ -47,7 +48,8 @@ FloodsAreSent =
 
 -- IN_PORT is the in_port, and nothing where that is no port; an output to the in_port by its number is none
 abbrev pub IngressIsSent : Type 0
-IngressIsSent = (sends 2 IN_PORT ≡ leave_by (2 ∷ [])) × (sends NONE IN_PORT ≡ leave_by []) × (sends 2 2 ≡ leave_by []) × (sends NONE 2 ≡ leave_by (2 ∷ []))
+IngressIsSent = (sends 2 IN_PORT ≡ leave_by (2 ∷ [])) × (sends NONE IN_PORT ≡ leave_by []) × (sends 2 2 ≡ leave_by [])
+    × (sends NONE 2 ≡ leave_by (2 ∷ []))
 
 -- who is told is told the in_port as it was given
 abbrev pub InPortIsTold : Type 0
@@ -61,11 +63,33 @@ TableTakesUp =
 
 -- a member that sees four ports and may act on all headers
 abbrev pub grant : Bool → Grant
-grant misses = record { fields = 0xfff; src_max = 32; dst_max = 32; actions = 0x7ff; ports = four; regions = everything ∷ []; misses = misses; packet_out = true }
+grant misses = record {
+  fields = 0xfff;
+  src_max = 32;
+  dst_max = 32;
+  actions = 0x7ff;
+  ports = four;
+  regions = everything ∷ [];
+  misses = misses;
+  packet_out = true;
+}
 
 -- an entry of priority 100
 abbrev pub entry : MatchOf → List Action → Entry
-entry m actions = record { serial = 1; raw = []; normal = m; priority = 100; rank = 100; cookie = 0; idle = 0; hard = 0; flags = 0; actions = actions; added = 0; last = 0 }
+entry m actions = record {
+  serial = 1;
+  raw = [];
+  normal = m;
+  priority = 100;
+  rank = 100;
+  cookie = 0;
+  idle = 0;
+  hard = 0;
+  flags = 0;
+  actions = actions;
+  added = 0;
+  last = 0;
+}
 
 abbrev pub holding : List Entry → Held
 holding entries = record { table = record { entries = entries; next = 2; limit = 8 }; room = 0 }
@@ -74,12 +98,23 @@ holding entries = record { table = record { entries = entries; next = 2; limit =
 abbrev pub monitored : Network
 monitored = record {
   tables = tables_of (grant false ∷ grant false ∷ grant true ∷ [])
-      (holding (entry everything (Output CONTROLLER 0 ∷ []) ∷ []) ∷ holding (entry (to_net 0x01020304 32) (SetNwDst 0x02000001 ∷ Output NORMAL 0 ∷ []) ∷ []) ∷ holding [] ∷ []);
-  switches = record { expr = parallel (member 0) (sequential (member 1) (member 2)); outside = 1 ∷ 2 ∷ 3 ∷ 4 ∷ []; links = []; spread = false; whole = true } ∷ [];
+      (holding (entry everything (Output CONTROLLER 0 ∷ []) ∷ [])
+      ∷ holding (entry (to_net 0x01020304 32) (SetNwDst 0x02000001 ∷ Output NORMAL 0 ∷ []) ∷ []) ∷ holding [] ∷ []);
+  switches = record {
+    expr = parallel (member 0) (sequential (member 1) (member 2));
+    outside = 1 ∷ 2 ∷ 3 ∷ 4 ∷ [];
+    links = [];
+    spread = false;
+    whole = true;
+  } ∷ [];
 }
 
 -- the monitor is told of the packet as it came, and then the router of what the balancer made of it
 abbrev pub TwoAreTold : Type 0
 TwoAreTold =
     walk (ground_of monitored) 4 0 (packet_to 0x01020304)
-    ≡ record { outs = []; told = record { member = 0; in_port = 1; reason = 1; rewrite = no_rewrite } ∷ record { member = 2; in_port = 1; reason = 0; rewrite = to_server } ∷ [] }
+    ≡ record {
+      outs = [];
+      told = record { member = 0; in_port = 1; reason = 1; rewrite = no_rewrite }
+          ∷ record { member = 2; in_port = 1; reason = 0; rewrite = to_server } ∷ [];
+    }

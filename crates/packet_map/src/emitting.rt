@@ -89,7 +89,9 @@ fn add_left(
     rewrite: &Rewrite,
     outs: &List<Out>,
 ) -> Result<(), Memory>
-    ensures { OnOk result (left.new ≡ left.old ++ filter_map (λ (o : Out). emitted_of gate.now.v gate.now.ingress (and_then rewrite.now o.rewrite) o.dest) outs.now) }
+    ensures { OnOk result
+        (left.new ≡ left.old ++ filter_map
+        (λ (o : Out). emitted_of gate.now.v gate.now.ingress (and_then rewrite.now o.rewrite) o.dest) outs.now) }
 {
     for out in outs.as_slice() {
         left.push_some(emitted(gate, &rewrite.then(&out.rewrite), &out.dest))?;
@@ -104,7 +106,9 @@ fn add_told(
     rewrite: &Rewrite,
     outs: &List<Out>,
 ) -> Result<(), Memory>
-    ensures { OnOk result (told.new ≡ told.old ++ filter_map (λ (o : Out). telling_of in_port (and_then rewrite.now o.rewrite) o.dest) outs.now) }
+    ensures { OnOk result
+        (told.new ≡ told.old ++ filter_map (λ (o : Out). telling_of in_port (and_then rewrite.now o.rewrite) o.dest)
+        outs.now) }
 {
     for out in outs.as_slice() {
         told.push_some(telling(in_port, &rewrite.then(&out.rewrite), &out.dest))?;
@@ -119,7 +123,8 @@ pub(crate) fn add_outs(
     rewrite: &Rewrite,
     outs: &List<Out>,
 ) -> Result<(), Memory>
-    ensures { OnOk result (walked.new ≡ with_more walked.old rewrite.now (given gate.now.v gate.now.ingress gate.now.in_port outs.now)) }
+    ensures { OnOk result (walked.new ≡ with_more walked.old rewrite.now
+        (given gate.now.v gate.now.ingress gate.now.in_port outs.now)) }
 {
     add_left(&mut walked.outs, gate, rewrite, outs)?;
     add_told(&mut walked.told, gate.in_port, rewrite, outs)?;

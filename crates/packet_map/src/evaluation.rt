@@ -31,7 +31,8 @@ fn act(
 ) -> Result<Acted, Memory>
     requires in_range { AreInRange entry.now.actions }
     requires rising { AreRising member.now.grant.now.ports }
-    ensures acted { IfOk result (λ acted. acted ≡ record { touched = true; tail = (entry_effects member.now entry.now).tail }) }
+    ensures acted { IfOk result
+        (λ acted. acted ≡ record { touched = true; tail = (entry_effects member.now entry.now).tail }) }
     ensures walked { OnOk result (walked.new ≡ with_outs walked.old hop.now (entry_effects member.now entry.now).outs) }
 {
     let effects = effects(alloc, &entry.actions, &member.grant.ports, member.number)?;
@@ -66,7 +67,8 @@ fn miss(member: &Member, hop: &Hop, walked: &mut Walked) -> Result<(), Memory>
 fn ask(alloc: Global, member: &Member, hop: &Hop, walked: &mut Walked) -> Result<Acted, Memory>
     requires { AreRising member.now.grant.now.ports }
     ensures acted { IfOk result (λ acted. acted ≡ acted_of (leaf_meaning (table_of member.now) hop.now.header)) }
-    ensures walked { OnOk result (walked.new ≡ with_outs walked.old hop.now (leaf_meaning (table_of member.now) hop.now.header).outs) }
+    ensures walked { OnOk result
+        (walked.new ≡ with_outs walked.old hop.now (leaf_meaning (table_of member.now) hop.now.header).outs) }
 {
     match member.answer(&hop.header) {
         Answer::Outside => Ok(Acted::nothing()),
@@ -88,7 +90,8 @@ pub(crate) fn evaluate(
 ) -> Result<Acted, Memory>
     requires { SeeRising world.now }
     ensures acted { IfOk result (λ acted. acted ≡ acted_of (meant world.now (policy_of expr.now) hop.now.header)) }
-    ensures walked { OnOk result (walked.new ≡ with_outs walked.old hop.now (meant world.now (policy_of expr.now) hop.now.header).outs) }
+    ensures walked { OnOk result
+        (walked.new ≡ with_outs walked.old hop.now (meant world.now (policy_of expr.now) hop.now.header).outs) }
 {
     match expr {
         Expr::Member { index } => match world.member(*index) {

@@ -33,7 +33,8 @@ pub(crate) fn follow(
     walked: &mut Walked,
 ) -> Result<(), Memory>
     requires { SeeRising world.now }
-    ensures { OnOk result (walked.new ≡ with_more walked.old hop.now.rewrite (walk (ground_of (network_of world.now)) hops hop.now.v hop.now.header)) }
+    ensures { OnOk result (walked.new ≡ with_more walked.old hop.now.rewrite
+        (walk (ground_of (network_of world.now)) hops hop.now.v hop.now.header)) }
 {
     if hops == 0 {
         return Ok(());
@@ -62,7 +63,8 @@ pub fn tellings(
     h: &Header,
 ) -> Result<Walked, Memory>
     requires { SeeRising world.now }
-    ensures { IfOk result (λ walked. walked ≡ walk (ground_of (network_of world.now)) world.now.hops v (record h.now { in_port = port })) }
+    ensures { IfOk result (λ walked. walked ≡ walk (ground_of (network_of world.now)) world.now.hops v
+        (record h.now { in_port = port })) }
 {
     let mut walked = nowhere(alloc);
     let hop = Hop {

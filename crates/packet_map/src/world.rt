@@ -67,7 +67,8 @@ impl<'a> World<'a> {
 
     /// A member by number, if it has a grant and a table.
     pub fn member(&self, number: u32) -> Option<Member<'a>>
-        ensures table { option_map table_of result ≡ slice_get (tables_of self.now.grants.now self.now.tables.now) number }
+        ensures table { option_map table_of result
+            ≡ slice_get (tables_of self.now.grants.now self.now.tables.now) number }
         ensures number { IfSome result (λ m. m.number ≡ number) }
         ensures grant { IfSome result (λ m. slice_get self.now.grants.now number ≡ Some m.grant.now) }
     {

@@ -16,10 +16,12 @@ checksum_place-same : (ip : Ipv4) (xs ys : List ℕ) → length xs ≡ length ys
 unfolding checksum_place
 checksum_place-same ip xs ys e = rw e refl
 
-apart_found : (r : RewriteOf) (k : ℕ) (xs : List ℕ) (found : Option Ipv4) → ipv4_of xs ≡ found → has 14 xs ≡ true → IsApart r xs k
+apart_found : (r : RewriteOf) (k : ℕ) (xs : List ℕ) (found : Option Ipv4) → ipv4_of xs ≡ found → has 14 xs ≡ true
+    → IsApart r xs k
     → slice_index (rewritten r xs) k ≡ slice_index xs k
 apart_found r k xs None is long apart =
-    ap (λ (zs : List ℕ). slice_index zs k) (plain_rewritten r xs long is) ∙ get-with_dl r k xs (leb-true 14 (length xs) long) apart.dl_dst apart.dl_src
+    ap (λ (zs : List ℕ). slice_index zs k) (plain_rewritten r xs long is)
+    ∙ get-with_dl r k xs (leb-true 14 (length xs) long) apart.dl_dst apart.dl_src
 apart_found r k xs (Some ip) is long apart =
     let p : Packet xs ip = record { long = long; is = is } in
     let a = after_of r xs ip p in
@@ -39,19 +41,23 @@ apart_found r k xs (Some ip) is long apart =
     ∙ apart-with_ip ip r k zs (inside_after r xs ip a.long a.inside) in_ip'
     ∙ get-with_dl r k xs a.long apart.dl_dst apart.dl_src
 
-pub apart_stays : (r : RewriteOf) (xs : List ℕ) (k : ℕ) → IsApart r xs k → slice_index (rewritten r xs) k ≡ slice_index xs k
+pub apart_stays : (r : RewriteOf) (xs : List ℕ) (k : ℕ) → IsApart r xs k
+    → slice_index (rewritten r xs) k ≡ slice_index xs k
 apart_stays r xs k apart =
     elim (cases_Bool (has 14 xs)) [
       | inl e ↦ apart_found r k xs (ipv4_of xs) refl e apart
       | inr e ↦ ap (λ (zs : List ℕ). slice_index zs k) (short_rewritten r xs e)
     ]
 
-length_found : (r : RewriteOf) (xs : List ℕ) (found : Option Ipv4) → ipv4_of xs ≡ found → has 14 xs ≡ true → length (rewritten r xs) ≡ length xs
-length_found r xs None is long = ap length (plain_rewritten r xs long is) ∙ length-with_dl r xs (leb-true 14 (length xs) long)
+length_found : (r : RewriteOf) (xs : List ℕ) (found : Option Ipv4) → ipv4_of xs ≡ found → has 14 xs ≡ true
+    → length (rewritten r xs) ≡ length xs
+length_found r xs None is long = ap length (plain_rewritten r xs long is)
+    ∙ length-with_dl r xs (leb-true 14 (length xs) long)
 length_found r xs (Some ip) is long =
     let p : Packet xs ip = record { long = long; is = is } in
     let a = after_of r xs ip p in
-    ap length (packet_rewritten r xs ip p) ∙ length-with_ip ip r (with_dl r xs) (inside_after r xs ip a.long a.inside) ∙ length-with_dl r xs a.long
+    ap length (packet_rewritten r xs ip p) ∙ length-with_ip ip r (with_dl r xs) (inside_after r xs ip a.long a.inside)
+    ∙ length-with_dl r xs a.long
 
 pub length_stays : (r : RewriteOf) (xs : List ℕ) → length (rewritten r xs) ≡ length xs
 length_stays r xs =

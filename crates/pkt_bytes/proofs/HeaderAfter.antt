@@ -12,10 +12,12 @@ use Rattle.pkt_bytes.specs.Touched.{AreWhole, IsRewrite}
 use Rattle.pkt_bytes.proofs.PacketAfter.{packet_after}
 use Rattle.pkt_bytes.proofs.PlainAfter.{after_plain, after_short}
 
-carried : (r : RewriteOf) (in_port : ℕ) (xs : List ℕ) (found : Option Ipv4) → ipv4_of xs ≡ found → IsRewrite r → AreWhole r xs → has 14 xs ≡ true
+carried : (r : RewriteOf) (in_port : ℕ) (xs : List ℕ) (found : Option Ipv4) → ipv4_of xs ≡ found → IsRewrite r
+    → AreWhole r xs → has 14 xs ≡ true
     → header_in in_port (rewritten r xs) ≡ apply r (header_in in_port xs)
 carried r in_port xs None is fits whole long = after_plain r in_port xs fits whole long is
-carried r in_port xs (Some ip) is fits whole long = packet_after r in_port xs ip fits whole (record { long = long; is = is })
+carried r in_port xs (Some ip) is fits whole long =
+    packet_after r in_port xs ip fits whole (record { long = long; is = is })
 
 pub header_after : (r : RewriteOf) (in_port : ℕ) (xs : List ℕ) → IsRewrite r → AreWhole r xs
     → header_in in_port (rewritten r xs) ≡ apply r (header_in in_port xs)

@@ -1,7 +1,10 @@
 -- Numbers at places of a list in which others were put.
-use Rattle.std.proofs.Common.{◌≡◌, ◌<◌, ◌≤◌, ◌+◌, ◌-◌, ◌^◌, ℕ, zero, suc, true, List, [], ◌++◌, length, take, drop, slice_index, get_or, Option, Some, None, refl, sym, subst, ap, ◌∙◌, inl, inr, arith}
+use Rattle.std.proofs.Common.{◌≡◌, ◌<◌, ◌≤◌, ◌+◌, ◌-◌, ◌^◌, ℕ, zero, suc, true, List, [], ◌++◌, length, take, drop}
+use Rattle.std.proofs.Common.{slice_index, get_or, Option, Some, None, refl, sym, subst, ap, ◌∙◌, inl, inr, arith}
 use Rattle.std.specs.Prelude.{OnSome, IfSome}
-use Rattle.std.proofs.lemmas.List.{append-nil, length-append, length-take, length-drop, drop-drop, drop_all, drop_at, take_rest, length-take-le, get_or_append_left, get_or-append_right, get_or-take, get_or-drop}
+use Rattle.std.proofs.lemmas.List.{append-nil, length-append, length-take, length-drop, drop-drop, drop_all, drop_at}
+use Rattle.std.proofs.lemmas.List.{take_rest, length-take-le, get_or_append_left, get_or-append_right, get_or-take}
+use Rattle.std.proofs.lemmas.List.{get_or-drop}
 use Rattle.std.proofs.lemmas.Bool.{cases_lt}
 use Rattle.std.specs.Int.{byte_at, bytes_high_first}
 use Rattle.of10_actions.specs.Spelling.{IsBytes}
@@ -18,9 +21,13 @@ pub part_written : (place n value : ℕ) (xs ys : List ℕ) → place ≤ length
     → put_mid place (length xs - place) xs ys ≡ put place n value xs
 unfolding put
 part_written place n value xs ys h e =
-    let nothing : drop (length xs - place) (drop place xs) ≡ [] = drop_all (length xs - place) (drop place xs) (omega (arith, length-drop place xs)) in
-    let written : ys ≡ big_bytes n value ++ drop (place + n) xs = e ∙ (ap (λ (zs : List ℕ). big_bytes n value ++ drop n zs) (take_rest xs place) ∙ ap (λ (zs : List ℕ). big_bytes n value ++ zs) (drop-drop n place xs)) in
-    ap (λ (zs : List ℕ). take place xs ++ (ys ++ zs)) nothing ∙ ap (λ (zs : List ℕ). take place xs ++ zs) (append-nil ys ∙ written)
+    let nothing : drop (length xs - place) (drop place xs) ≡ [] =
+    drop_all (length xs - place) (drop place xs) (omega (arith, length-drop place xs)) in
+    let written : ys ≡ big_bytes n value ++ drop (place + n) xs = e
+    ∙ (ap (λ (zs : List ℕ). big_bytes n value ++ drop n zs) (take_rest xs place)
+    ∙ ap (λ (zs : List ℕ). big_bytes n value ++ zs) (drop-drop n place xs)) in
+    ap (λ (zs : List ℕ). take place xs ++ (ys ++ zs)) nothing
+    ∙ ap (λ (zs : List ℕ). take place xs ++ zs) (append-nil ys ∙ written)
 
 pub length-put : (place n value : ℕ) (xs : List ℕ) → place + n ≤ length xs → length (put place n value xs) ≡ length xs
 unfolding put
@@ -33,7 +40,8 @@ get-put_before : (place n value k : ℕ) (xs : List ℕ) → place + n ≤ lengt
 unfolding put
 get-put_before place n value k xs h before =
     let front : length (take place xs) ≡ place = length-take-le place xs (omega arith) in
-    get_or_append_left (take place xs) (big_bytes n value ++ drop (place + n) xs) 0 k (omega arith) ∙ get_or-take place xs k 0 before
+    get_or_append_left (take place xs) (big_bytes n value ++ drop (place + n) xs) 0 k (omega arith)
+    ∙ get_or-take place xs k 0 before
 
 -- the bytes behind
 get-put_behind : (place n value k : ℕ) (xs : List ℕ) → place + n ≤ length xs → place + n ≤ k
@@ -41,18 +49,25 @@ get-put_behind : (place n value k : ℕ) (xs : List ℕ) → place + n ≤ lengt
 unfolding put
 get-put_behind place n value k xs h behind =
     let rest : place + n + (k - place - n) ≡ k = omega arith in
-    get_or-append_right (take place xs) (big_bytes n value ++ drop (place + n) xs) place k 0 (length-take-le place xs (omega arith)) (omega arith)
-    ∙ get_or-append_right (big_bytes n value) (drop (place + n) xs) n (k - place) 0 (length-bytes_high_first n value) (omega arith)
+    get_or-append_right (take place xs) (big_bytes n value ++ drop (place + n) xs) place k 0
+    (length-take-le place xs (omega arith)) (omega arith)
+    ∙ get_or-append_right (big_bytes n value) (drop (place + n) xs) n (k - place) 0 (length-bytes_high_first n value)
+    (omega arith)
     ∙ get_or-drop (place + n) xs (k - place - n) 0
     ∙ ap (λ (i : ℕ). get_or xs i 0) rest
 
 pub get-put_other : (place n value k : ℕ) (xs : List ℕ) → place + n ≤ length xs → IsOutside place n k
     → slice_index (put place n value xs) k ≡ slice_index xs k
 get-put_other place n value k xs h outside =
-    elim outside [ inl before ↦ get-put_before place n value k xs h before | inr behind ↦ get-put_behind place n value k xs h behind ]
+    elim outside [
+      | inl before ↦ get-put_before place n value k xs h before
+      | inr behind ↦ get-put_behind place n value k
+          xs h behind
+    ]
 
 -- numbers of the same bytes
-pub number_at-same : (place n : ℕ) (xs ys : List ℕ) → ((k : ℕ) → place ≤ k → k < place + n → slice_index xs k ≡ slice_index ys k)
+pub number_at-same : (place n : ℕ) (xs ys : List ℕ)
+    → ((k : ℕ) → place ≤ k → k < place + n → slice_index xs k ≡ slice_index ys k)
     → number_at place n xs ≡ number_at place n ys
 number_at-same place zero xs ys h = refl
 number_at-same place (suc n) xs ys h =
@@ -77,20 +92,24 @@ number_at-put place n value xs h fits =
     let bytes : List ℕ = big_bytes n value ++ drop (place + n) xs in
     ap (λ (i : ℕ). number_at i n (take place xs ++ bytes)) (sym whole)
     ∙ sym (big_from-drop 0 n place (take place xs ++ bytes))
-    ∙ ap (λ (zs : List ℕ). big_from 0 n zs) (drop_at (take place xs) bytes place (length-take-le place xs (omega arith)))
+    ∙ ap (λ (zs : List ℕ). big_from 0 n zs)
+    (drop_at (take place xs) bytes place (length-take-le place xs (omega arith)))
     ∙ big_number-reads_back n value (drop (place + n) xs) fits
 
 -- the same of a number that may be put
-pub length-put_if : (place n : ℕ) (value : Option ℕ) (xs : List ℕ) → place + n ≤ length xs → length (put_if place n value xs) ≡ length xs
+pub length-put_if : (place n : ℕ) (value : Option ℕ) (xs : List ℕ) → place + n ≤ length xs
+    → length (put_if place n value xs) ≡ length xs
 length-put_if place n None xs h = refl
 length-put_if place n (Some value) xs h = length-put place n value xs h
 
-pub get-put_if : (place n : ℕ) (value : Option ℕ) (k : ℕ) (xs : List ℕ) → place + n ≤ length xs → OnSome value (IsOutside place n k)
+pub get-put_if : (place n : ℕ) (value : Option ℕ) (k : ℕ) (xs : List ℕ) → place + n ≤ length xs
+    → OnSome value (IsOutside place n k)
     → slice_index (put_if place n value xs) k ≡ slice_index xs k
 get-put_if place n None k xs h outside = refl
 get-put_if place n (Some value) k xs h outside = get-put_other place n value k xs h outside
 
-pub number_at-put_if : (place n : ℕ) (value : Option ℕ) (xs : List ℕ) → place + n ≤ length xs → IfSome value (λ v. v < 256 ^ n)
+pub number_at-put_if : (place n : ℕ) (value : Option ℕ) (xs : List ℕ) → place + n ≤ length xs
+    → IfSome value (λ v. v < 256 ^ n)
     → number_at place n (put_if place n value xs) ≡ set_to true value (number_at place n xs)
 number_at-put_if place n None xs h fits = refl
 number_at-put_if place n (Some value) xs h fits = number_at-put place n value xs h fits
@@ -106,7 +125,8 @@ get-put_in : (place n value k : ℕ) (xs : List ℕ) → place + n ≤ length xs
 unfolding put
 get-put_in place n value k xs h lo hi =
     let long = length-bytes_high_first n value in
-    get_or-append_right (take place xs) (big_bytes n value ++ drop (place + n) xs) place k 0 (length-take-le place xs (omega arith)) lo
+    get_or-append_right (take place xs) (big_bytes n value ++ drop (place + n) xs) place k 0
+    (length-take-le place xs (omega arith)) lo
     ∙ get_or_append_left (big_bytes n value) (drop (place + n) xs) 0 (k - place) (omega arith)
 
 digit-lt : (n x : ℕ) → byte_at n x < 256
@@ -119,7 +139,8 @@ digits-lt (suc n) x zero = digit-lt n x
 digits-lt (suc n) x (suc k) = digits-lt n x k
 
 -- bytes with a number in them are bytes
-pub IsBytes-put : (place n value : ℕ) (xs : List ℕ) → place + n ≤ length xs → IsBytes xs → IsBytes (put place n value xs)
+pub IsBytes-put : (place n value : ℕ) (xs : List ℕ) → place + n ≤ length xs → IsBytes xs
+    → IsBytes (put place n value xs)
 IsBytes-put place n value xs h bytes k =
     let P : ℕ → Type 0 = λ (v : ℕ). v < 256 in
     elim (cases_lt k place) [
@@ -130,6 +151,7 @@ IsBytes-put place n value xs h bytes k =
       ]
     ]
 
-pub IsBytes-put_if : (place n : ℕ) (value : Option ℕ) (xs : List ℕ) → place + n ≤ length xs → IsBytes xs → IsBytes (put_if place n value xs)
+pub IsBytes-put_if : (place n : ℕ) (value : Option ℕ) (xs : List ℕ) → place + n ≤ length xs → IsBytes xs
+    → IsBytes (put_if place n value xs)
 IsBytes-put_if place n None xs h bytes = bytes
 IsBytes-put_if place n (Some value) xs h bytes = IsBytes-put place n value xs h bytes

@@ -39,7 +39,8 @@ change_is old new fits =
     ]
 
 -- and a mended checksum takes it away
-pub mended_is : (checksum changes : ℕ) → checksum < 65536 → (q : ℕ) × (mended checksum changes + changes ≡ checksum + 65535 * q)
+pub mended_is : (checksum changes : ℕ) → checksum < 65536
+    → (q : ℕ) × (mended checksum changes + changes ≡ checksum + 65535 * q)
 unfolding mended
 mended_is checksum changes fits =
     let sum = ones_sum_is (complement checksum + changes) in
@@ -64,7 +65,8 @@ zero_sum total e =
     ]
 
 -- numbers up to 65535 that are equal modulo 65535, and zero together
-same_sum : (u v a b : ℕ) → u ≤ 65535 → v ≤ 65535 → u + 65535 * a ≡ v + 65535 * b → (u ≡ 0 → v ≡ 0) → (v ≡ 0 → u ≡ 0) → u ≡ v
+same_sum : (u v a b : ℕ) → u ≤ 65535 → v ≤ 65535 → u + 65535 * a ≡ v + 65535 * b → (u ≡ 0 → v ≡ 0) → (v ≡ 0 → u ≡ 0)
+    → u ≡ v
 same_sum u v a b lu lv e f g =
     elim (cases_eq u 0) [
       | inl z ↦ z ∙ sym (f z)
@@ -76,27 +78,34 @@ ones_sum_add x y =
     let inner = ones_sum_is x in
     let outer = ones_sum_is (ones_sum x + y) in
     let whole = ones_sum_is (x + y) in
-    same_sum (ones_sum (ones_sum x + y)) (ones_sum (x + y)) (outer.0 + inner.0) whole.0 (ones_sum-le (ones_sum x + y)) (ones_sum-le (x + y))
+    same_sum (ones_sum (ones_sum x + y)) (ones_sum (x + y)) (outer.0 + inner.0) whole.0 (ones_sum-le (ones_sum x + y))
+    (ones_sum-le (x + y))
     (omega (arith, inner.1, outer.1, whole.1))
-    (λ z. let both = zero_sum (ones_sum x + y) z in let none = zero_sum x (omega arith) in sum_zero (x + y) (omega arith))
-    (λ z. let both = zero_sum (x + y) z in let none = sum_zero x (omega arith) in sum_zero (ones_sum x + y) (omega arith))
+    (λ z. let both = zero_sum (ones_sum x + y) z in let none = zero_sum x (omega arith) in
+    sum_zero (x + y) (omega arith))
+    (λ z. let both = zero_sum (x + y) z in let none = sum_zero x (omega arith) in
+    sum_zero (ones_sum x + y) (omega arith))
 
 -- one word after the other is all at once
-pub mended_twice : (checksum first second : ℕ) → mended (mended checksum first) second ≡ mended checksum (first + second)
+pub mended_twice : (checksum first second : ℕ)
+    → mended (mended checksum first) second ≡ mended checksum (first + second)
 unfolding mended
 mended_twice checksum first second =
     let below = ones_sum-le (complement checksum + first) in
-    let back : complement (complement (ones_sum (complement checksum + first))) ≡ ones_sum (complement checksum + first) = omega arith in
+    let back : complement (complement (ones_sum (complement checksum + first)))
+    ≡ ones_sum (complement checksum + first) = omega arith in
     let total : complement checksum + (first + second) ≡ complement checksum + first + second = omega arith in
     ap (λ (t : ℕ). complement (ones_sum (t + second))) back
     ∙ ap complement (ones_sum_add (complement checksum + first) second)
     ∙ ap (λ (t : ℕ). complement (ones_sum t)) (sym total)
 
 -- a word that changes beside others
-pub mended_right : (rest old new checksum : ℕ) → 0 < rest → old < 65536 → checksum < 65536 → IsRight (rest + old + checksum)
+pub mended_right : (rest old new checksum : ℕ) → 0 < rest → old < 65536 → checksum < 65536
+    → IsRight (rest + old + checksum)
     → IsRight (rest + new + mended checksum (change old new))
 mended_right rest old new checksum above old_fits fits right =
     let was = right_is (rest + old + checksum) right in
     let c = change_is old new old_fits in
     let m = mended_is checksum (change old new) fits in
-    right_from (rest + new + mended checksum (change old new)) (was.0 + 1 + m.0 - c.0) (omega arith) (omega (arith, was.1, c.1, m.1))
+    right_from (rest + new + mended checksum (change old new)) (was.0 + 1 + m.0 - c.0) (omega arith)
+    (omega (arith, was.1, c.1, m.1))

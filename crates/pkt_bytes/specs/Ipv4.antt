@@ -1,5 +1,6 @@
 -- An IPv4 packet (RFC 791): where its parts stand, whether it is a fragment, and its ports.
-use Rattle.std.specs.Prelude.{ℕ, ◌+◌, ◌-◌, ◌*◌, ◌/◌, ◌%◌, ◌^◌, ◌==◌, ◌&&◌, Bool, true, false, nat_le, List, slice_index, Option, Some, None, if◌then◌else◌}
+use Rattle.std.specs.Prelude.{ℕ, ◌+◌, ◌-◌, ◌*◌, ◌/◌, ◌%◌, ◌^◌, ◌==◌, ◌&&◌, Bool, true, false, nat_le, List, slice_index}
+use Rattle.std.specs.Prelude.{Option, Some, None, if◌then◌else◌}
 use Rattle.of10_match.specs.Numbers.{ICMP, IPV4}
 use Rattle.of10_actions.specs.Rewriting.{is_tcp_udp}
 use Rattle.pkt_bytes.specs.declared.ipv4.Fragment.{Fragment}

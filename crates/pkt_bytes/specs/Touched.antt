@@ -1,5 +1,6 @@
 -- Which layers a rewrite needs, and which bytes it may replace.
-use Rattle.std.specs.Prelude.{ℕ, ◌+◌, ◌^◌, ◌<◌, ◌≤◌, ◌≡◌, ◌⊎◌, ◌||◌, Bool, true, not, List, Option, Some, None, is_some, OnSome, IfSome, IsTrue}
+use Rattle.std.specs.Prelude.{ℕ, ◌+◌, ◌^◌, ◌<◌, ◌≤◌, ◌≡◌, ◌⊎◌, ◌||◌, Bool, true, not, List, Option, Some, None, is_some}
+use Rattle.std.specs.Prelude.{OnSome, IfSome, IsTrue}
 use Rattle.of10_match.specs.Numbers.{IPV4}
 use Rattle.of10_match.specs.Ranges.{IsTos}
 use Rattle.of10_actions.specs.Fields.{RewriteOf}

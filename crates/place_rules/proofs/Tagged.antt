@@ -35,4 +35,5 @@ tags_of plan few (j ∷ js) = (tag_in plan j.0.0 j.0.1 few, tags_of plan few js)
 -- where there are no more than 1,024 outside ports
 pub tags_in : (plan : TopologyPlan) → length (outside_joints plan) ≤ 1024
     → All (λ (o : Outside). IfSome o.tag (λ t. t < 4096)) (map (outside_from plan) (outside_joints plan))
-tags_in plan few = All-from_recursion (λ (o : Outside). IfSome o.tag (λ t. t < 4096)) (map (outside_from plan) (outside_joints plan)) (tags_of plan few (outside_joints plan))
+tags_in plan few = All-from_recursion (λ (o : Outside). IfSome o.tag (λ t. t < 4096))
+    (map (outside_from plan) (outside_joints plan)) (tags_of plan few (outside_joints plan))

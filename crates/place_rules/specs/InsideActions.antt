@@ -16,7 +16,8 @@ use Rattle.switch_meaning.specs.declared.wiring.Wiring.{Wiring}
 
 -- the outs that are written: of a rule for all ports none to the port that its match names
 abbrev pub outs_kept : Site → Option ℕ → List Out → List Out
-outs_kept site in_port outs = if site.whole then filter (λ (o : Out). not (is_silent site.v in_port o.dest)) outs else outs
+outs_kept site in_port outs = if site.whole then filter (λ (o : Out). not (is_silent site.v in_port o.dest)) outs
+    else outs
 
 -- a copy to the controller, where somebody is told
 abbrev pub copy_if : Bool → List Action
@@ -24,7 +25,8 @@ copy_if told = if told then Output CONTROLLER 65535 ∷ [] else []
 
 -- the way to where an out goes, unless it is left out
 abbrev pub way_kept : Wiring → Site → Option ℕ → Option ℕ → Dest → Option Way
-way_kept w site in_port ingress dest = if site.whole && is_silent site.v in_port dest then None else way_of w site.switch ingress dest
+way_kept w site in_port ingress dest = if site.whole && is_silent site.v in_port dest then None
+    else way_of w site.switch ingress dest
 
 -- the actions of outs that go by these ways
 abbrev pub actions_by : (Dest → Option Way) → RewriteOf → Option ℕ → List Out → List Action
@@ -33,4 +35,10 @@ actions_by way now tag (o ∷ os) = going (way o.dest) now tag o.rewrite (λ now
 
 -- the entry of a rule at a site, with this match
 abbrev pub entry_by : Wiring → Site → Option ℕ → MatchOf → Rule → PhysEntry
-entry_by w site ingress m r = record { m = m; priority = r.level + 1; actions = actions_of w site.switch ingress (outs_kept site r.m.in_port r.outs); ancestry = r.ancestry }
+entry_by w site ingress m r =
+    record {
+      m = m;
+      priority = r.level + 1;
+      actions = actions_of w site.switch ingress (outs_kept site r.m.in_port r.outs);
+      ancestry = r.ancestry;
+    }

@@ -9,4 +9,5 @@ use Rattle.switch_meaning.specs.declared.wiring.Wiring.{Wiring}
 -- those by which packets to the port come
 abbrev pub transits_by : Wiring → List SwitchPort → Outside → List PhysEntry
 transits_by w ends goal =
-    flat_map (λ (tag : ℕ). map (λ (s : SwitchPort). transit w s goal tag) (filter (λ (s : SwitchPort). passes w s goal) ends)) (option_to_list goal.tag)
+    flat_map (λ (tag : ℕ). map (λ (s : SwitchPort). transit w s goal tag)
+    (filter (λ (s : SwitchPort). passes w s goal) ends)) (option_to_list goal.tag)

@@ -13,7 +13,8 @@ pub record IsWiring (plan : TopologyPlan) : Type 0 where
       → outside_at (wiring_of plan) v port ≡ option_map (outside_at_spot plan v port) (outside_of plan v port)
   pub next_hop : (from to : ℕ) → next_hop (wiring_of plan) from to ≡ next_hop_of plan from to
   pub far_end : (switch port : ℕ)
-      → far_end (wiring_of plan) (record { switch = switch; port = port }) ≡ option_map port_at (far_end_of plan switch port)
+      → far_end (wiring_of plan) (record { switch = switch; port = port })
+      ≡ option_map port_at (far_end_of plan switch port)
 
 abbrev pub WiringsAgree : Type 0
 WiringsAgree = (plan : TopologyPlan) → IsWiring plan

@@ -5,7 +5,9 @@ ghost use Rattle.of10_actions.specs.Rewriting.{no_rewrite};
 ghost use Rattle.of10_actions.specs.declared.action.Action.{Action};
 ghost use Rattle.place_rules.specs.InsideActions.{actions_by, copy_if, outs_kept, way_kept as way_kept_of};
 ghost use Rattle.place_rules.specs.Joined.{wiring_of};
-ghost use Rattle.switch_meaning.specs.Placing.{actions_of as actions_of_of, field_sets as field_sets_of, going, is_silent as is_silent_of, is_telling as is_telling_of, retag as retag_of, set_unless, sets, tells as tells_of};
+ghost use Rattle.switch_meaning.specs.Placing.{actions_of as actions_of_of, field_sets as field_sets_of, going};
+ghost use Rattle.switch_meaning.specs.Placing.{is_silent as is_silent_of, is_telling as is_telling_of};
+ghost use Rattle.switch_meaning.specs.Placing.{retag as retag_of, set_unless, sets, tells as tells_of};
 
 use crate::look::way_of;
 use cv_io::{List, Memory};
@@ -102,7 +104,9 @@ fn push_out(
     way: Option<Way>,
     rewrite: &Rewrite,
 ) -> Result<(), Memory>
-    ensures { OnOk result ((later : RewriteOf → Option ℕ → List Action) → actions.new ++ later force.new.rewrite force.new.tag ≡ actions.old ++ going way force.old.rewrite force.old.tag rewrite.now later) }
+    ensures { OnOk result ((later : RewriteOf → Option ℕ → List Action)
+        → actions.new ++ later force.new.rewrite force.new.tag
+        ≡ actions.old ++ going way force.old.rewrite force.old.tag rewrite.now later) }
 {
     let way = match way {
         Some(way) => way,
@@ -162,7 +166,8 @@ fn push_outs(
     outs: &[Out],
 ) -> Result<(), Memory>
     requires { paths.now ≡ topology.now }
-    ensures { OnOk result (actions.new ≡ actions.old ++ actions_by (way_kept_of (wiring_of topology.now) site in_port ingress) no_rewrite None outs.now) }
+    ensures { OnOk result (actions.new ≡ actions.old ++ actions_by
+        (way_kept_of (wiring_of topology.now) site in_port ingress) no_rewrite None outs.now) }
 {
     let mut force = Force {
         rewrite: Rewrite::new(),
@@ -219,7 +224,8 @@ pub fn actions_of(
     outs: &[Out],
 ) -> Result<List<Action>, Memory>
     requires { paths.now ≡ topology.now }
-    ensures { IfOk result (λ actions. actions ≡ actions_of_of (wiring_of topology.now) site.switch ingress (outs_kept site in_port outs.now)) }
+    ensures { IfOk result (λ actions. actions ≡ actions_of_of (wiring_of topology.now) site.switch ingress
+        (outs_kept site in_port outs.now)) }
 {
     let mut actions = List::new(alloc);
     push_copy(&mut actions, tells(outs))?;

@@ -1,8 +1,10 @@
 //! What lies where, by the maps of a topology and its paths.
 ghost use Rattle.std.specs.Prelude.{◌≡◌};
 ghost use Rattle.place_rules.specs.Joined.{wiring_of};
-ghost use Rattle.switch_meaning.specs.Placing.{way_across as way_across_of, way_of as way_of_of, way_to as way_to_of, written_port as written_port_of};
-ghost use Rattle.switch_meaning.specs.Wirings.{far_end as far_end_of, next_hop as next_hop_of, outside_at as outside_at_of};
+ghost use Rattle.switch_meaning.specs.Placing.{way_across as way_across_of, way_of as way_of_of, way_to as way_to_of};
+ghost use Rattle.switch_meaning.specs.Placing.{written_port as written_port_of};
+ghost use Rattle.switch_meaning.specs.Wirings.{far_end as far_end_of, next_hop as next_hop_of};
+ghost use Rattle.switch_meaning.specs.Wirings.{outside_at as outside_at_of};
 
 use inner_paths::Paths;
 use of10_actions::Dest;

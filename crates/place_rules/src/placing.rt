@@ -6,7 +6,8 @@ ghost use Rattle.of10_match.specs.Fields.{MatchOf};
 ghost use Rattle.of10_match.specs.Matching.{meet};
 ghost use Rattle.place_rules.specs.InsideActions.{entry_by};
 ghost use Rattle.place_rules.specs.Joined.{wiring_of};
-ghost use Rattle.place_rules.specs.Placed.{first_port as first_port_of, home_of, placed_of, port_meant as port_meant_of};
+ghost use Rattle.place_rules.specs.Placed.{first_port as first_port_of, home_of, placed_of};
+ghost use Rattle.place_rules.specs.Placed.{port_meant as port_meant_of};
 ghost use Rattle.switch_meaning.specs.Placing.{entry_of, untagged as untagged_of};
 ghost use Rattle.switch_meaning.specs.Wirings.{outside_at};
 ghost use Rattle.switch_meaning.specs.declared.wiring.Outside.{Outside};
@@ -134,7 +135,9 @@ fn physical(topology: &Topology, v: u32, port: u16) -> Option<u16>
 
 /// The physical port that a rule names, if it names one.
 fn ingress_of(topology: &Topology, v: u32, rule: &Rule) -> Option<u16>
-    ensures { result ≡ option_and_then (λ p. option_map (λ (o : Outside). o.at.port) (outside_at (wiring_of topology.now) v p)) rule.now.m.in_port }
+    ensures { result
+        ≡ option_and_then (λ p. option_map (λ (o : Outside). o.at.port) (outside_at (wiring_of topology.now) v p))
+        rule.now.m.in_port }
 {
     match rule.m.in_port {
         Some(port) => physical(topology, v, port),
@@ -154,7 +157,8 @@ fn untagged() -> Match
 
 /// The match as it is written, or none where no header is left.
 fn match_written(spread: bool, ingress: Option<u16>, m: &Match) -> Option<Match>
-    ensures { result ≡ option_map (λ (n : MatchOf). record n { in_port = ingress }) (if spread then meet m.now untagged_of else Some m.now) }
+    ensures { result ≡ option_map (λ (n : MatchOf). record n { in_port = ingress })
+        (if spread then meet m.now untagged_of else Some m.now) }
 {
     let met = if spread {
         m.meet(&untagged())

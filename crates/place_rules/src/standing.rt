@@ -1,7 +1,8 @@
 //! The entries that are put on a switch whatever the tables of members have.
 ghost use Rattle.std.specs.Prelude.{◌≡◌, IfOk};
 ghost use Rattle.place_rules.specs.Joined.{wiring_of};
-ghost use Rattle.place_rules.specs.Placed.{fixed_of, is_whole_at as is_whole_at_of, is_whole_of, ports_of as ports_of_of};
+ghost use Rattle.place_rules.specs.Placed.{fixed_of, is_whole_at as is_whole_at_of, is_whole_of};
+ghost use Rattle.place_rules.specs.Placed.{ports_of as ports_of_of};
 ghost use Rattle.switch_meaning.specs.Fixed.{drops as drops_of};
 
 use crate::joining::wiring;

@@ -2,7 +2,9 @@
 ghost use Rattle.std.specs.Prelude.{◌≡◌, ◌<◌, ◌==◌, ◌++◌, [], ◌∷◌, IfOk, OnOk, IfSome, filter, map};
 ghost use Rattle.std.specs.List.{list_any};
 ghost use Rattle.place_rules.specs.Joined.{wiring_of};
-ghost use Rattle.switch_meaning.specs.Fixed.{AreTagsInRange, arrivals, ends_at as ends_at_of, passes as passes_of, step as step_of, transit as transit_of, transit_actions as transit_actions_of, transits as transits_of};
+ghost use Rattle.switch_meaning.specs.Fixed.{AreTagsInRange, arrivals, ends_at as ends_at_of, passes as passes_of};
+ghost use Rattle.switch_meaning.specs.Fixed.{step as step_of, transit as transit_of};
+ghost use Rattle.switch_meaning.specs.Fixed.{transit_actions as transit_actions_of, transits as transits_of};
 ghost use Rattle.place_rules.specs.InsideTransits.{transits_by};
 ghost use Rattle.switch_meaning.specs.Wirings.{same_spot as same_spot_of};
 ghost use Rattle.switch_meaning.specs.declared.wiring.SwitchPort.{SwitchPort};
@@ -76,7 +78,8 @@ fn push_transit(
     requires paths { paths.now ≡ topology.now }
     requires wiring { wiring.now ≡ wiring_of topology.now }
     requires tag { tag < 4096 }
-    ensures { OnOk result (entries.new ≡ entries.old ++ map (λ (s : SwitchPort). transit_of wiring.now s goal.now tag) (filter (λ (s : SwitchPort). passes_of wiring.now s goal.now) (spot ∷ []))) }
+    ensures { OnOk result (entries.new ≡ entries.old ++ map (λ (s : SwitchPort). transit_of wiring.now s goal.now tag)
+        (filter (λ (s : SwitchPort). passes_of wiring.now s goal.now) (spot ∷ []))) }
 {
     if !passes(topology, paths, wiring, spot, goal) {
         return Ok(());

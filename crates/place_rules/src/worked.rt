@@ -1,5 +1,6 @@
 //! Worked examples, each computed by the checker.
-ghost use Rattle.place_rules.specs.Worked.{FloodIsPlaced, IngressIsWritten, OthersAreDropped, OthersAreNot, TagsAreCarried};
+ghost use Rattle.place_rules.specs.Worked.{FloodIsPlaced, IngressIsWritten, OthersAreDropped, OthersAreNot};
+ghost use Rattle.place_rules.specs.Worked.{TagsAreCarried};
 
 /// FLOOD over three switches with the fixed entries of each, hops that end at the port where the packet
 /// came in, and a virtual switch that is all of its switch.

@@ -1,9 +1,11 @@
 -- What reading gives is what the grammar and the rules say.
-use Rattle.std.proofs.Common.{◌≡◌, ◌∙◌, ℕ, ◌≤◌, inl, inr, Bool, true, false, List, [], length, nat_lt, Option, None, Some, Result, Ok, Err, if◌then◌else◌, refl, sym, ap, subst}
+use Rattle.std.proofs.Common.{◌≡◌, ◌∙◌, ℕ, ◌≤◌, inl, inr, Bool, true, false, List, [], length, nat_lt, Option, None}
+use Rattle.std.proofs.Common.{Some, Result, Ok, Err, if◌then◌else◌, refl, sym, ap, subst}
 use Rattle.std.proofs.lemmas.Bool.{ltb-true, ltb-false, le-ltb}
 use Rattle.policy_expr.specs.declared.member.MemberName.{MemberName}
 use Rattle.policy_expr.specs.declared.fault.ExprFault.{ExprFault}
-use Rattle.policy_expr.specs.declared.fault.ExprFault.TheVariants.{Syntax, Unknown, Twice, Unused, TooMany, ParallelLeft, Memory}
+use Rattle.policy_expr.specs.declared.fault.ExprFault.TheVariants.{Syntax, Unknown, Twice, Unused, TooMany}
+use Rattle.policy_expr.specs.declared.fault.ExprFault.TheVariants.{ParallelLeft, Memory}
 use Rattle.policy_expr.specs.Policy.{Policy}
 use Rattle.std.specs.Option.{option_map, option_or}
 use Rattle.policy_expr.specs.Members.{first_unknown, first_repeated, first_unused, first_left, left_leaves}
@@ -19,7 +21,10 @@ use Rattle.policy_expr.proofs.FirstFault.{first_fault}
 -- no rule on names has a fault of syntax
 never_syntax :
     (a b c : Option (List ℕ)) (d : Bool) (n : ℕ) (e : Option (List ℕ)) (at : ℕ)
-    → option_or (option_map Unknown a) (option_or (option_map Twice b) (option_or (option_map Unused c) (option_or (if d then Some (TooMany n) else None) (option_map ParallelLeft e)))) ≡ Some (Syntax at) → ⊥
+    → option_or (option_map Unknown a)
+    (option_or (option_map Twice b)
+    (option_or (option_map Unused c)
+    (option_or (if d then Some (TooMany n) else None) (option_map ParallelLeft e)))) ≡ Some (Syntax at) → ⊥
 never_syntax (Some x) b c d n e at same = cc
 never_syntax None (Some x) c d n e at same = cc
 never_syntax None None (Some x) d n e at same = cc
@@ -37,10 +42,12 @@ module _ (members : List MemberName) (text : List ℕ) where
   Says (Err fault) = IsFaultIn members text fault
 
   -- a refusal is never want of memory, nor of syntax
-  refused : (o : Option ExprFault) (read : Read) → length text ≤ 1024 → ran ≡ Ok read → refusal members read ≡ o → Says (unless o read.policy)
+  refused : (o : Option ExprFault) (read : Read) → length text ≤ 1024 → ran ≡ Ok read → refusal members read ≡ o
+      → Says (unless o read.policy)
   refused o read short done judged = by_fault o judged
     where
-      derivation : Derives members 32 over (bare (signs_of text)) read.policy × (read.names ≡ names_in (bare (signs_of text)))
+      derivation : Derives members 32 over (bare (signs_of text)) read.policy
+          × (read.names ≡ names_in (bare (signs_of text)))
       derivation = read_derives members (length text) (signs_of text) read done
 
       expression : IsExpression members text read.policy
@@ -56,7 +63,10 @@ module _ (members : List MemberName) (text : List ℕ) where
       by_fault (Some (Unused n)) judged = (read.policy, expression, ap (refusal members) (sym same) ∙ judged)
       by_fault (Some (TooMany n)) judged = (read.policy, expression, ap (refusal members) (sym same) ∙ judged)
       by_fault (Some (ParallelLeft n)) judged = (read.policy, expression, ap (refusal members) (sym same) ∙ judged)
-      by_fault (Some (Syntax at)) judged = absurd (never_syntax (first_unknown members read.names) (first_repeated [] read.names) (first_unused read.names members) (nat_lt 12 (length read.names)) (length read.names) (first_left members (left_leaves false read.policy) read.names) at judged)
+      by_fault (Some (Syntax at)) judged =
+          absurd (never_syntax (first_unknown members read.names) (first_repeated [] read.names)
+          (first_unused read.names members) (nat_lt 12 (length read.names)) (length read.names)
+          (first_left members (left_leaves false read.policy) read.names) at judged)
       by_fault (Some Memory) judged = tt
 
   says_run : (r : Result Read ℕ) → length text ≤ 1024 → ran ≡ r → Says (judged members r)
@@ -66,7 +76,8 @@ module _ (members : List MemberName) (text : List ℕ) where
   says : Says (reading members text)
   says = by_length (nat_lt 1024 (length text)) refl
     where
-      by_length : (b : Bool) → nat_lt 1024 (length text) ≡ b → Says (if b then Err (Syntax 1024) else judged members ran)
+      by_length : (b : Bool) → nat_lt 1024 (length text) ≡ b
+          → Says (if b then Err (Syntax 1024) else judged members ran)
       by_length true long = inl (ltb-true _ _ long, refl)
       by_length false short = says_run ran (ltb-false _ _ short) refl
 
@@ -88,11 +99,13 @@ module _ (members : List MemberName) (text : List ℕ) where
   pub accepted_reading : (p : Policy) → IsAccepted members text p → reading members text ≡ Ok p
   accepted_reading p a =
       let short : nat_lt 1024 (length text) ≡ false = le-ltb _ _ a.expression.short in
-      let done : ran ≡ Ok (read_as text p) = derived_read members (length text) (signs_of text) p a.expression.derives in
+      let done : ran ≡ Ok (read_as text p) =
+      derived_read members (length text) (signs_of text) p a.expression.derives in
       rw (short, done, a.rules) refl
 
   -- a text that is accepted has no fault
-  pub accepted_fault : (p : Policy) (fault : ExprFault) → IsAccepted members text p → IsFaultOf (reading members text) fault → fault ≡ Memory
+  pub accepted_fault : (p : Policy) (fault : ExprFault) → IsAccepted members text p
+      → IsFaultOf (reading members text) fault → fault ≡ Memory
   accepted_fault p Memory a given = refl
   accepted_fault p (Syntax at) a given = let done = accepted_reading p a in cc
   accepted_fault p (Unknown n) a given = let done = accepted_reading p a in cc

@@ -34,26 +34,32 @@ pub sum_measured :
     (p q : Policy) (bits after : List ℕ) (a b : ℕ) → Measured p q bits after a b
     → capped (sum_size a b) ≡ capped (size_by_leaf bits (parallel p q))
 sum_measured p q bits after a b m =
-    rw (m.left, m.right, m.between) (sum_size-capped _ _ (size_is_positive p bits) (size_is_positive q (drop (leaf_count p) bits)))
+    rw (m.left, m.right, m.between)
+    (sum_size-capped _ _ (size_is_positive p bits) (size_is_positive q (drop (leaf_count p) bits)))
 
 pub concat_measured :
     (p q : Policy) (bits after : List ℕ) (a b : ℕ) → Measured p q bits after a b
     → capped (concat_size a b) ≡ capped (size_by_leaf bits (sequential p q))
 concat_measured p q bits after a b m =
-    rw (m.left, m.right, m.between) (concat_size-capped _ _ (size_is_positive p bits) (size_is_positive q (drop (leaf_count p) bits)))
+    rw (m.left, m.right, m.between)
+    (concat_size-capped _ _ (size_is_positive p bits) (size_is_positive q (drop (leaf_count p) bits)))
 
 -- the sizes of two operands, from the bits of both
 both :
     (combine : ℕ → ℕ → ℕ) (bits : ℕ → ℕ) (a b : Policy) (more : List ℕ)
     → ((rest : List ℕ) → size_by_leaf (map bits (members_of a) ++ rest) a ≡ size_of (λ i. 2 ^ bits i) a)
     → ((rest : List ℕ) → size_by_leaf (map bits (members_of b) ++ rest) b ≡ size_of (λ i. 2 ^ bits i) b)
-    → combine (size_by_leaf (map bits (members_of a ++ members_of b) ++ more) a) (size_by_leaf (drop (leaf_count a) (map bits (members_of a ++ members_of b) ++ more)) b)
+    → combine (size_by_leaf (map bits (members_of a ++ members_of b) ++ more) a)
+    (size_by_leaf (drop (leaf_count a) (map bits (members_of a ++ members_of b) ++ more)) b)
     ≡ combine (size_of (λ i. 2 ^ bits i) a) (size_of (λ i. 2 ^ bits i) b)
 both combine bits a b more left right =
-    let together : map bits (members_of a ++ members_of b) ++ more ≡ map bits (members_of a) ++ (map bits (members_of b) ++ more) =
+    let together : map bits (members_of a ++ members_of b) ++ more
+    ≡ map bits (members_of a) ++ (map bits (members_of b) ++ more) =
     rw (map-append, append_assoc) refl in
-    let between : drop (leaf_count a) (map bits (members_of a ++ members_of b) ++ more) ≡ map bits (members_of b) ++ more =
-    rw (together, ← length-map (members_of a) bits) (drop-append_seam (map bits (members_of a)) (map bits (members_of b) ++ more)) in
+    let between : drop (leaf_count a) (map bits (members_of a ++ members_of b) ++ more)
+    ≡ map bits (members_of b) ++ more =
+    rw (together, ← length-map (members_of a) bits)
+    (drop-append_seam (map bits (members_of a)) (map bits (members_of b) ++ more)) in
     rw (between, together, left, right) refl
 
 -- bits that follow those of the policy's leaves change nothing
@@ -61,6 +67,9 @@ pub size_by_leaf-map :
     (bits : ℕ → ℕ) (p : Policy) (more : List ℕ)
     → size_by_leaf (map bits (members_of p) ++ more) p ≡ size_of (λ i. 2 ^ bits i) p
 size_by_leaf-map bits (member index) more = refl
-size_by_leaf-map bits (parallel a b) more = both sum_size bits a b more (size_by_leaf-map bits a) (size_by_leaf-map bits b)
-size_by_leaf-map bits (sequential a b) more = both concat_size bits a b more (size_by_leaf-map bits a) (size_by_leaf-map bits b)
-size_by_leaf-map bits (override a b) more = both shift_size bits a b more (size_by_leaf-map bits a) (size_by_leaf-map bits b)
+size_by_leaf-map bits (parallel a b) more =
+    both sum_size bits a b more (size_by_leaf-map bits a) (size_by_leaf-map bits b)
+size_by_leaf-map bits (sequential a b) more =
+    both concat_size bits a b more (size_by_leaf-map bits a) (size_by_leaf-map bits b)
+size_by_leaf-map bits (override a b) more =
+    both shift_size bits a b more (size_by_leaf-map bits a) (size_by_leaf-map bits b)

@@ -2,7 +2,8 @@
 use Rattle.std.specs.Prelude.{◌≡◌, ℕ, ◌<◌, ◌≤◌, ◌⊎◌, List, None, Some, length}
 use Rattle.policy_expr.specs.declared.member.MemberName.{MemberName}
 use Rattle.policy_expr.specs.declared.fault.ExprFault.{ExprFault}
-use Rattle.policy_expr.specs.declared.fault.ExprFault.TheVariants.{Syntax, Unknown, Twice, Unused, TooMany, ParallelLeft, Memory}
+use Rattle.policy_expr.specs.declared.fault.ExprFault.TheVariants.{Syntax, Unknown, Twice, Unused, TooMany}
+use Rattle.policy_expr.specs.declared.fault.ExprFault.TheVariants.{ParallelLeft, Memory}
 use Rattle.policy_expr.specs.Policy.{Policy}
 use Rattle.policy_expr.specs.Signs.{signs_of}
 use Rattle.policy_expr.specs.Reading.{Read, refusal}
@@ -19,12 +20,14 @@ pub record IsAccepted (members : List MemberName) (text : List ℕ) (p : Policy)
 
 -- the text derives from the grammar, and the first rule that it breaks is this one
 abbrev pub BreaksRule : List MemberName → List ℕ → ExprFault → Type 0
-BreaksRule members text fault = (p : Policy) × IsExpression members text p × (refusal members (read_as text p) ≡ Some fault)
+BreaksRule members text fault = (p : Policy) × IsExpression members text p
+    × (refusal members (read_as text p) ≡ Some fault)
 
 -- a text that is too long, or the first place at which it does not go on as an expression
 abbrev pub IsSyntaxFault : List MemberName → List ℕ → ℕ → Type 0
 IsSyntaxFault members text at =
-    ((1024 < length text) × (at ≡ 1024)) ⊎ ((length text ≤ 1024) × IsFirstFault members (length text) (signs_of text) at)
+    ((1024 < length text) × (at ≡ 1024))
+    ⊎ ((length text ≤ 1024) × IsFirstFault members (length text) (signs_of text) at)
 
 -- the fault of a text; want of memory is none
 abbrev pub IsFaultIn : List MemberName → List ℕ → ExprFault → Type 0
@@ -38,4 +41,5 @@ IsFaultIn members text Memory = Unit {0}
 
 -- a text has one tree at most
 abbrev pub HasOneTree : Type 0
-HasOneTree = (members : List MemberName) (text : List ℕ) (p q : Policy) → IsExpression members text p → IsExpression members text q → p ≡ q
+HasOneTree = (members : List MemberName) (text : List ℕ) (p q : Policy) → IsExpression members text p
+    → IsExpression members text q → p ≡ q

@@ -10,11 +10,20 @@ use Rattle.policy_expr.specs.Reading.{Pending, State, Read}
 
 -- what is pending
 abbrev pub pending_of : pending.Pending → Pending
-pending_of f = record { over = option_map policy_of f.over; par = option_map policy_of f.par; seq = option_map policy_of f.seq }
+pending_of f = record {
+  over = option_map policy_of f.over;
+  par = option_map policy_of f.par;
+  seq = option_map policy_of f.seq;
+}
 
 -- the state round an operand; the vector has the innermost parenthesis last
 abbrev pub state_at : context.Context → Option Policy → State
-state_at c operand = record { outside = reverse (map pending_of c.outside.items); inside = pending_of c.inside; operand = operand; names = c.names }
+state_at c operand = record {
+  outside = reverse (map pending_of c.outside.items);
+  inside = pending_of c.inside;
+  operand = operand;
+  names = c.names;
+}
 
 -- the state of reading
 abbrev pub state_of : progress.Progress → State

@@ -17,13 +17,20 @@ pub data Strength : Type 0 where
 -- The signs derive from the grammar with this policy as their tree. Parentheses are nested at most `depth` deep.
 pub data Derives (members : List MemberName) : ℕ → Strength → List Sign → Policy → Type 0 where
   named : (depth : ℕ) (n : List ℕ) → Derives members depth atom (name n ∷ []) (member (index_of members n))
-  nested : (depth : ℕ) (signs : List Sign) (p : Policy) → Derives members depth over signs p → Derives members (suc depth) atom (opening ∷ (signs ++ closing ∷ [])) p
-  one_atom : (depth : ℕ) (signs : List Sign) (p : Policy) → Derives members depth atom signs p → Derives members depth seq signs p
-  one_seq : (depth : ℕ) (signs : List Sign) (p : Policy) → Derives members depth seq signs p → Derives members depth par signs p
-  one_par : (depth : ℕ) (signs : List Sign) (p : Policy) → Derives members depth par signs p → Derives members depth over signs p
-  more_atoms : (depth : ℕ) (left right : List Sign) (p q : Policy) → Derives members depth seq left p → Derives members depth atom right q → Derives members depth seq (left ++ chain ∷ right) (sequential p q)
-  more_seqs : (depth : ℕ) (left right : List Sign) (p q : Policy) → Derives members depth par left p → Derives members depth seq right q → Derives members depth par (left ++ plus ∷ right) (parallel p q)
-  more_pars : (depth : ℕ) (left right : List Sign) (p q : Policy) → Derives members depth over left p → Derives members depth par right q → Derives members depth over (left ++ fallback ∷ right) (override p q)
+  nested : (depth : ℕ) (signs : List Sign) (p : Policy) → Derives members depth over signs p
+      → Derives members (suc depth) atom (opening ∷ (signs ++ closing ∷ [])) p
+  one_atom : (depth : ℕ) (signs : List Sign) (p : Policy) → Derives members depth atom signs p
+      → Derives members depth seq signs p
+  one_seq : (depth : ℕ) (signs : List Sign) (p : Policy) → Derives members depth seq signs p
+      → Derives members depth par signs p
+  one_par : (depth : ℕ) (signs : List Sign) (p : Policy) → Derives members depth par signs p
+      → Derives members depth over signs p
+  more_atoms : (depth : ℕ) (left right : List Sign) (p q : Policy) → Derives members depth seq left p
+      → Derives members depth atom right q → Derives members depth seq (left ++ chain ∷ right) (sequential p q)
+  more_seqs : (depth : ℕ) (left right : List Sign) (p q : Policy) → Derives members depth par left p
+      → Derives members depth seq right q → Derives members depth par (left ++ plus ∷ right) (parallel p q)
+  more_pars : (depth : ℕ) (left right : List Sign) (p q : Policy) → Derives members depth over left p
+      → Derives members depth par right q → Derives members depth over (left ++ fallback ∷ right) (override p q)
 
 -- the signs without their places
 abbrev pub bare : List (ℕ × Sign) → List Sign

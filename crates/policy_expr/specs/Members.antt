@@ -1,5 +1,6 @@
 -- The members that an expression may name.
-use Rattle.std.specs.Prelude.{ℕ, Bool, true, false, ◌&&◌, List, [], ◌∷◌, ◌++◌, Option, None, Some, if◌then◌else◌, nat_eq, not, map}
+use Rattle.std.specs.Prelude.{ℕ, Bool, true, false, ◌&&◌, List, [], ◌∷◌, ◌++◌, Option, None, Some, if◌then◌else◌}
+use Rattle.std.specs.Prelude.{nat_eq, not, map}
 use Rattle.std.specs.Cmp.Lexicographic.{pointwise}
 use Rattle.policy_expr.specs.declared.member.MemberName.{MemberName}
 use Rattle.policy_expr.specs.Policy.{Policy, member, parallel, sequential, override}

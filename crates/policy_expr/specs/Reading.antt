@@ -1,9 +1,11 @@
 -- What reading a text gives: the policy that it stands for, or the first fault.
-use Rattle.std.specs.Prelude.{ℕ, false, List, [], ◌∷◌, ◌++◌, Option, None, Some, Result, Ok, Err, if◌then◌else◌, nat_lt, length}
+use Rattle.std.specs.Prelude.{ℕ, false, List, [], ◌∷◌, ◌++◌, Option, None, Some, Result, Ok, Err, if◌then◌else◌, nat_lt}
+use Rattle.std.specs.Prelude.{length}
 use Rattle.std.specs.Option.{option_map, option_or}
 use Rattle.policy_expr.specs.declared.member.MemberName.{MemberName}
 use Rattle.policy_expr.specs.declared.fault.ExprFault.{ExprFault}
-use Rattle.policy_expr.specs.declared.fault.ExprFault.TheVariants.{Syntax, Unknown, Twice, Unused, TooMany, ParallelLeft}
+use Rattle.policy_expr.specs.declared.fault.ExprFault.TheVariants.{Syntax, Unknown, Twice, Unused, TooMany}
+use Rattle.policy_expr.specs.declared.fault.ExprFault.TheVariants.{ParallelLeft}
 use Rattle.policy_expr.specs.Policy.{Policy, member, parallel, sequential, override}
 use Rattle.policy_expr.specs.Signs.{Sign, name, plus, chain, fallback, opening, closing, other, signs_of}
 use Rattle.policy_expr.specs.Members.{index_of, first_unknown, first_repeated, first_unused, left_leaves, first_left}
@@ -46,7 +48,13 @@ whole f p = joined override f.over (summed f p)
 
 -- an operand is wanted
 abbrev pub operand_step : List MemberName → State → Sign → Option State
-operand_step members s (name n) = Some (record { outside = s.outside; inside = s.inside; operand = Some (member (index_of members n)); names = s.names ++ n ∷ [] })
+operand_step members s (name n) =
+    Some (record {
+      outside = s.outside;
+      inside = s.inside;
+      operand = Some (member (index_of members n));
+      names = s.names ++ n ∷ [];
+    })
 operand_step members s opening =
     if nat_lt (length s.outside) 32
     then Some (record { outside = s.inside ∷ s.outside; inside = nothing; operand = None; names = s.names })
@@ -70,13 +78,17 @@ after_fallback f p = record { over = Some (whole f p); par = None; seq = None }
 -- a parenthesis is closed
 abbrev pub closed : List Pending → Pending → Policy → List (List ℕ) → Option State
 closed [] inside p names = None
-closed (f ∷ fs) inside p names = Some (record { outside = fs; inside = f; operand = Some (whole inside p); names = names })
+closed (f ∷ fs) inside p names =
+    Some (record { outside = fs; inside = f; operand = Some (whole inside p); names = names })
 
 -- an operand was read
 abbrev pub operator_step : Policy → State → Sign → Option State
-operator_step p s chain = Some (record { outside = s.outside; inside = after_chain s.inside p; operand = None; names = s.names })
-operator_step p s plus = Some (record { outside = s.outside; inside = after_plus s.inside p; operand = None; names = s.names })
-operator_step p s fallback = Some (record { outside = s.outside; inside = after_fallback s.inside p; operand = None; names = s.names })
+operator_step p s chain =
+    Some (record { outside = s.outside; inside = after_chain s.inside p; operand = None; names = s.names })
+operator_step p s plus =
+    Some (record { outside = s.outside; inside = after_plus s.inside p; operand = None; names = s.names })
+operator_step p s fallback =
+    Some (record { outside = s.outside; inside = after_fallback s.inside p; operand = None; names = s.names })
 operator_step p s closing = closed s.outside s.inside p s.names
 operator_step p s (name n) = None
 operator_step p s opening = None
@@ -138,4 +150,5 @@ judged members (Ok read) = unless (refusal members read) read.policy
 -- what a text gives
 abbrev pub reading : List MemberName → List ℕ → Result Policy ExprFault
 reading members text =
-    if nat_lt 1024 (length text) then Err (Syntax 1024) else judged members (run members (length text) start (signs_of text))
+    if nat_lt 1024 (length text) then Err (Syntax 1024)
+    else judged members (run members (length text) start (signs_of text))

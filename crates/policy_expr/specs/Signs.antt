@@ -1,5 +1,6 @@
 -- The signs of a text, from left to right, with their places.
-use Rattle.std.specs.Prelude.{ℕ, zero, suc, ◌+◌, ◌-◌, ◌==◌, ◌&&◌, ◌||◌, Bool, List, [], ◌∷◌, if◌then◌else◌, nat_le, slice_index, take}
+use Rattle.std.specs.Prelude.{ℕ, zero, suc, ◌+◌, ◌-◌, ◌==◌, ◌&&◌, ◌||◌, Bool, List, [], ◌∷◌, if◌then◌else◌, nat_le}
+use Rattle.std.specs.Prelude.{slice_index, take}
 
 -- what the grammar sees: a name; `+`, `>>`, `|>`; a parenthesis; or anything else
 pub data Sign : Type 0 where

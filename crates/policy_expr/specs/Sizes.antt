@@ -24,4 +24,5 @@ size_by_leaf bits (override a b) = shift_size (size_by_leaf bits a) (size_by_lea
 
 -- where the bits are those that a function gives the members of the leaves, the size is by that function
 abbrev pub HasBitsOf : ℕ → List ℕ → Policy → Type 0
-HasBitsOf size bits p = (bits_of : ℕ → ℕ) → bits ≡ map bits_of (members_of p) → size ≡ capped (size_of (λ i. 2 ^ bits_of i) p)
+HasBitsOf size bits p = (bits_of : ℕ → ℕ) → bits ≡ map bits_of (members_of p)
+    → size ≡ capped (size_of (λ i. 2 ^ bits_of i) p)

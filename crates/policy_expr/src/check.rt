@@ -2,7 +2,8 @@
 ghost use Rattle.std.specs.Prelude.{◌≡◌, ◌≤◌, ◌&&◌, not, [], ◌++◌, None, IfOk, IfErr, OnOk, IsTrue, length};
 ghost use Rattle.std.specs.Option.{option_copied};
 ghost use Rattle.policy_expr.specs.Policy.{policy_of};
-ghost use Rattle.policy_expr.specs.Members.{is_plain, first_unknown, first_repeated, first_unused, left_leaves, first_left};
+ghost use Rattle.policy_expr.specs.Members.{is_plain, first_unknown, first_repeated, first_unused, left_leaves};
+ghost use Rattle.policy_expr.specs.Members.{first_left};
 ghost use Rattle.policy_expr.specs.Reading.{refusal};
 ghost use Rattle.policy_expr.specs.Contexts.{read_of};
 ghost use Rattle.policy_expr.specs.Outcomes.{IsRefusal};

@@ -25,7 +25,8 @@ pub fn parse(alloc: Global, text: &Text, members: &List<MemberName>) -> Result<E
     // What is accepted derives from the grammar with this tree, and breaks no rule.
     ensures found { IfOk result (λ expr. IsAccepted members.now text.now (policy_of expr)) }
     // What derives and breaks no rule is accepted, unless memory runs out.
-    ensures only { (p : Policy) → IsAccepted members.now text.now p → MatchResult result (λ expr. policy_of expr ≡ p) (λ fault. fault ≡ ExprFault.Memory) }
+    ensures only { (p : Policy) → IsAccepted members.now text.now p
+        → MatchResult result (λ expr. policy_of expr ≡ p) (λ fault. fault ≡ ExprFault.Memory) }
     // A fault is the first.
     ensures first { IfErr result (IsFaultIn members.now text.now) }
     // Which result it is, as a function of the text.

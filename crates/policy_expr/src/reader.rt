@@ -16,7 +16,8 @@ use std::alloc::Global;
 pub fn read(alloc: Global, text: &[u8], members: &[MemberName]) -> Result<Parsed, ExprFault>
     requires short { length text.now ≤ 1024 }
     requires ascii { IsAsciiText text.now }
-    ensures read { IfOk result (λ parsed. run members.now (length text.now) start (signs_of text.now) ≡ Ok (read_of parsed)) }
+    ensures read { IfOk result (λ parsed. run members.now (length text.now) start (signs_of text.now)
+        ≡ Ok (read_of parsed)) }
     ensures few { IfOk result (λ parsed. length parsed.names ≤ length text.now) }
     ensures fault { IfErr result (IsFaultOfRun (run members.now (length text.now) start (signs_of text.now))) }
 {

@@ -3,7 +3,8 @@ ghost use Rattle.std.specs.Prelude.{◌≡◌, ◌<◌, ◌≤◌, [], None, Som
 ghost use Rattle.std.specs.Option.{option_map};
 ghost use Rattle.cv_io.specs.Text.{IsAsciiText};
 ghost use Rattle.policy_expr.specs.Policy.{policy_of};
-ghost use Rattle.policy_expr.specs.Reading.{joined, after_chain, after_plus, after_fallback, whole, ended, operand_step, operator_step, step, start, nothing};
+ghost use Rattle.policy_expr.specs.Reading.{joined, after_chain, after_plus, after_fallback, whole, ended};
+ghost use Rattle.policy_expr.specs.Reading.{operand_step, operator_step, step, start, nothing};
 ghost use Rattle.policy_expr.specs.Contexts.{pending_of, state_at, state_of, read_of};
 ghost use Rattle.policy_expr.specs.Tokens.{seen, IsInside};
 ghost use Rattle.policy_expr.specs.Operators.{operator_of};
@@ -28,7 +29,8 @@ fn joined(
     left: Option<Expr>,
     right: Expr,
 ) -> Result<Expr, Memory>
-    ensures { IfOk result (λ e. policy_of e ≡ joined (operator_of operator) (option_map policy_of left) (policy_of right)) }
+    ensures { IfOk result (λ e. policy_of e ≡ joined (operator_of operator) (option_map policy_of left)
+        (policy_of right)) }
 {
     let Some(left) = left else {
         return Ok(right);
@@ -114,7 +116,8 @@ impl Context {
     ) -> Result<Option<Progress>, Memory>
         requires inside { IsInside bytes.now token }
         requires ascii { IsAsciiText bytes.now }
-        ensures { IfOk result (λ after. option_map state_of after ≡ operand_step members.now (state_at self None) (seen bytes.now token)) }
+        ensures { IfOk result (λ after. option_map state_of after
+            ≡ operand_step members.now (state_at self None) (seen bytes.now token)) }
     {
         let Context {
             mut outside,
@@ -161,7 +164,8 @@ impl Context {
         token: Token,
         bytes: &[u8],
     ) -> Result<Option<Progress>, Memory>
-        ensures { IfOk result (λ after. option_map state_of after ≡ operator_step (policy_of operand) (state_at self (Some (policy_of operand))) (seen bytes.now token)) }
+        ensures { IfOk result (λ after. option_map state_of after
+            ≡ operator_step (policy_of operand) (state_at self (Some (policy_of operand))) (seen bytes.now token)) }
     {
         let Context {
             mut outside,
@@ -224,7 +228,8 @@ impl Progress {
     ) -> Result<Option<Progress>, Memory>
         requires inside { IsInside bytes.now token }
         requires ascii { IsAsciiText bytes.now }
-        ensures { IfOk result (λ after. option_map state_of after ≡ step members.now (state_of self) (seen bytes.now token)) }
+        ensures { IfOk result (λ after. option_map state_of after
+            ≡ step members.now (state_of self) (seen bytes.now token)) }
     {
         let Progress { context, operand } = self;
         match operand {

@@ -1,5 +1,6 @@
 -- What checks of a file find, one after the other.
-use Rattle.std.proofs.Common.{◌≡◌, ◌∙◌, sym, subst, ◌≤◌, ◌⊎◌, inl, inr, ℕ, Bool, true, false, List, length, Option, Some, None, Result, Ok, Err, arith, refl}
+use Rattle.std.proofs.Common.{◌≡◌, ◌∙◌, sym, subst, ◌≤◌, ◌⊎◌, inl, inr, ℕ, Bool, true, false, List, length, Option}
+use Rattle.std.proofs.Common.{Some, None, Result, Ok, Err, arith, refl}
 use Rattle.std.specs.Prelude.{IsUtf8, nat_le, if◌then◌else◌}
 use Rattle.std.specs.Str.{is_utf8}
 use Rattle.std.proofs.lemmas.Bool.Decides.{nat_tests}
@@ -12,10 +13,12 @@ use Rattle.policy_file.specs.declared.fault.PolicyFault.TheVariants.{Memory, Lon
 use Rattle.policy_file.specs.declared.reading.Draft.{Draft}
 use Rattle.policy_file.specs.Listed.{unlisted_in, missing_in}
 use Rattle.policy_file.specs.Outcomes.{Gives, then_do, unless}
-use Rattle.policy_file.specs.Reading.{document_of, draft_of, fits, policy_in_bytes, policy_of, policy_of_document, whole}
+use Rattle.policy_file.specs.Reading.{document_of, draft_of, fits, policy_in_bytes, policy_of, policy_of_document}
+use Rattle.policy_file.specs.Reading.{whole}
 
 -- bytes that are no document
-refused_by : (bytes : List ℕ) (b : Bool) → is_utf8 bytes ≡ b → (IsUtf8 bytes → parse_document bytes ≡ None) → (if b then parse_document bytes else None) ≡ None
+refused_by : (bytes : List ℕ) (b : Bool) → is_utf8 bytes ≡ b → (IsUtf8 bytes → parse_document bytes ≡ None)
+    → (if b then parse_document bytes else None) ≡ None
 refused_by bytes true e f = f (IsUtf8-from_is_utf8 bytes e)
 refused_by bytes false e f = refl
 
@@ -23,24 +26,30 @@ pub refused_document : (bytes : List ℕ) → (IsUtf8 bytes → parse_document b
 refused_document bytes f = refused_by bytes (is_utf8 bytes) refl f
 
 -- steps over any answers: the definitions are long, so that no tactic should look into them
-step : {A B : Type 0} (r : Result A PolicyFault) (x : A) (next : A → Result B PolicyFault) → r ≡ Ok x → then_do r next ≡ next x
+step : {A B : Type 0} (r : Result A PolicyFault) (x : A) (next : A → Result B PolicyFault) → r ≡ Ok x
+    → then_do r next ≡ next x
 step r x next e i = then_do (e i) next
 
 pass : {A : Type 0} (o : Option PolicyFault) (rest : Result A PolicyFault) → o ≡ None → unless o rest ≡ rest
 pass o rest e i = unless (e i) rest
 
 -- what a step, a check that finds nothing, one that finds a fault, and the last check give
-pub step_gives : {A : Type 0} (read : Result A PolicyFault) (x : A) (next : A → Result (Unit {0}) PolicyFault) (r : Result (Unit {0}) PolicyFault) → read ≡ Ok x → Gives (next x) r → Gives (then_do read next) r
+pub step_gives : {A : Type 0} (read : Result A PolicyFault) (x : A) (next : A
+    → Result (Unit {0}) PolicyFault) (r : Result (Unit {0}) PolicyFault) → read ≡ Ok x → Gives (next x) r
+    → Gives (then_do read next) r
 step_gives read x next r e h = subst (λ (out : Result (Unit {0}) PolicyFault). Gives out r) (sym (step read x next e)) h
 
-pub pass_gives : (o : Option PolicyFault) (rest r : Result (Unit {0}) PolicyFault) → o ≡ None → Gives rest r → Gives (unless o rest) r
+pub pass_gives : (o : Option PolicyFault) (rest r : Result (Unit {0}) PolicyFault) → o ≡ None → Gives rest r
+    → Gives (unless o rest) r
 pass_gives o rest r none h = subst (λ (out : Result (Unit {0}) PolicyFault). Gives out r) (sym (pass o rest none)) h
 
-pub stop_gives : (o : Option PolicyFault) (rest : Result (Unit {0}) PolicyFault) (fault : PolicyFault) → (fault ≡ Memory) ⊎ (o ≡ Some fault) → (fault ≡ Memory) ⊎ (unless o rest ≡ Err fault)
+pub stop_gives : (o : Option PolicyFault) (rest : Result (Unit {0}) PolicyFault) (fault : PolicyFault)
+    → (fault ≡ Memory) ⊎ (o ≡ Some fault) → (fault ≡ Memory) ⊎ (unless o rest ≡ Err fault)
 stop_gives o rest fault (inl m) = inl m
 stop_gives o rest fault (inr s) = inr (λ i. unless (s i) rest)
 
-pub last_gives : (o : Option PolicyFault) (last r : Result (Unit {0}) PolicyFault) → last ≡ Ok tt → Answers Memory r o → Gives (unless o last) r
+pub last_gives : (o : Option PolicyFault) (last r : Result (Unit {0}) PolicyFault) → last ≡ Ok tt → Answers Memory r o
+    → Gives (unless o last) r
 last_gives o last (Ok x) is none = pass o last none ∙ is
 last_gives o last (Err fault) is (inl m) = inl m
 last_gives o last (Err fault) is (inr s) = inr (λ i. unless (s i) last)
@@ -49,7 +58,8 @@ short : (n most : ℕ) → n ≤ most → nat_le n most ≡ true
 short n most h = grind (arith, nat_tests)
 
 -- a file whose keys may all be so, and what doesn't fit together
-pub read_whole : (bytes : List ℕ) (file : Members) (d : Draft) (fault : PolicyFault) → length bytes ≤ 1048576 → document_of bytes ≡ Some file → unlisted_in file ≡ None → missing_in file ≡ None → draft_of file ≡ Ok d
+pub read_whole : (bytes : List ℕ) (file : Members) (d : Draft) (fault : PolicyFault) → length bytes ≤ 1048576
+    → document_of bytes ≡ Some file → unlisted_in file ≡ None → missing_in file ≡ None → draft_of file ≡ Ok d
     → (fault ≡ Memory) ⊎ (fits (policy_of d) ≡ Err fault) → (fault ≡ Memory) ⊎ (policy_in_bytes bytes ≡ Err fault)
 read_whole bytes file d fault le doc u m k (inl wanted) = inl wanted
 read_whole bytes file d fault le doc u m k (inr s) =

@@ -7,7 +7,8 @@ use Rattle.virtual_topology.specs.declared.fault.TopologyFault.TheVariants as to
 use Rattle.inner_paths.specs.declared.fault.PathFault.{PathFault}
 use Rattle.inner_paths.specs.declared.fault.PathFault.TheVariants as path
 use Rattle.policy_file.specs.declared.fault.PolicyFault.{PolicyFault}
-use Rattle.policy_file.specs.declared.fault.PolicyFault.TheVariants.{Long, Syntax, Key, Missing, Value, Expr, Topology, Paths, TooWide, Memory}
+use Rattle.policy_file.specs.declared.fault.PolicyFault.TheVariants.{Long, Syntax, Key, Missing, Value, Expr, Topology}
+use Rattle.policy_file.specs.declared.fault.PolicyFault.TheVariants.{Paths, TooWide, Memory}
 use Rattle.policy_file.specs.Sections.{shown}
 use Rattle.policy_file.specs.Terse.{expr_kind, topology_kind, path_kind, kind, inner_kind}
 use Rattle.std.specs.Option.{option_map}
@@ -46,9 +47,12 @@ path_shown (path.Unreachable from to) = refl
 path_shown path.Memory = refl
 
 pub inner_shown : (fault : PolicyFault) (word : List ℕ) → inner_kind fault ≡ Some word → shown word ≡ word
-inner_shown (Expr name fault) word e = let p : expr_kind fault ≡ word = cc e in subst (λ (w : List ℕ). shown w ≡ w) p (expr_shown fault)
-inner_shown (Topology fault) word e = let p : topology_kind fault ≡ word = cc e in subst (λ (w : List ℕ). shown w ≡ w) p (topology_shown fault)
-inner_shown (Paths fault) word e = let p : path_kind fault ≡ word = cc e in subst (λ (w : List ℕ). shown w ≡ w) p (path_shown fault)
+inner_shown (Expr name fault) word e = let p : expr_kind fault ≡ word = cc e in
+    subst (λ (w : List ℕ). shown w ≡ w) p (expr_shown fault)
+inner_shown (Topology fault) word e = let p : topology_kind fault ≡ word = cc e in
+    subst (λ (w : List ℕ). shown w ≡ w) p (topology_shown fault)
+inner_shown (Paths fault) word e = let p : path_kind fault ≡ word = cc e in
+    subst (λ (w : List ℕ). shown w ≡ w) p (path_shown fault)
 inner_shown Long word e = absurd (cc)
 inner_shown Syntax word e = absurd (cc)
 inner_shown (Key name) word e = absurd (cc)

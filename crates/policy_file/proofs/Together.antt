@@ -20,9 +20,13 @@ none_mapped f (Some x) e = absurd (cc)
 
 pub fits_together : (p : PolicyOf) → fits p ≡ Ok tt → FitsTogether p
 fits_together p e =
-    let a = done (exprs_of p.virtuals p.members) (λ exprs. unless (topology_fault (plan p)) (unless (path_fault (plan p)) (unless (too_wide_in (plan p) p.members exprs p.hops) (Ok tt)))) tt e in
-    let b = none_before (topology_fault (plan p)) (unless (path_fault (plan p)) (unless (too_wide_in (plan p) p.members a.value p.hops) (Ok tt))) tt a.second in
-    let c = none_before (path_fault (plan p)) (unless (too_wide_in (plan p) p.members a.value p.hops) (Ok tt)) tt b.rest in
+    let a = done (exprs_of p.virtuals p.members)
+    (λ exprs. unless (topology_fault (plan p))
+    (unless (path_fault (plan p)) (unless (too_wide_in (plan p) p.members exprs p.hops) (Ok tt)))) tt e in
+    let b = none_before (topology_fault (plan p))
+    (unless (path_fault (plan p)) (unless (too_wide_in (plan p) p.members a.value p.hops) (Ok tt))) tt a.second in
+    let c = none_before (path_fault (plan p)) (unless (too_wide_in (plan p) p.members a.value p.hops) (Ok tt)) tt
+    b.rest in
     let d = none_before (too_wide_in (plan p) p.members a.value p.hops) (Ok tt) tt c.rest in
     record {
       expressions = rw a.first refl;

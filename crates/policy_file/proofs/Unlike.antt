@@ -1,5 +1,6 @@
 -- Items that are unlike those before them, and the ports of switches.
-use Rattle.std.proofs.Common.{◌≡◌, ◌∙◌, sym, ap, subst, ℕ, ◌+◌, ◌≤◌, ◌==◌, ◌&&◌, ◌||◌, ◌++◌, Bool, true, false, not, List, [], ◌∷◌, Option, Some, None, Result, Ok, Err, codes, arith, refl}
+use Rattle.std.proofs.Common.{◌≡◌, ◌∙◌, sym, ap, subst, ℕ, ◌+◌, ◌≤◌, ◌==◌, ◌&&◌, ◌||◌, ◌++◌, Bool, true, false, not}
+use Rattle.std.proofs.Common.{List, [], ◌∷◌, Option, Some, None, Result, Ok, Err, codes, arith, refl}
 use Rattle.std.proofs.lemmas.Bool.Decides.{nat_tests}
 use Rattle.std.specs.List.{AllByRecursion, enumerate_from, list_any}
 use Rattle.std.specs.Prelude.{option_and_then, option_map, if◌then◌else◌}
@@ -21,18 +22,24 @@ use Rattle.policy_file.proofs.Outcomes.{done}
 use Rattle.policy_file.proofs.Kept.{number_within}
 
 -- each item that is read is so to those before it
-pub record IsReadApart {A : Type 0} (read : List A → Section → Members → Result A PolicyFault) (R : A → A → Type 0) : Type 0 where
-  pub each : (earlier : List A) (s : Section) (ms : Members) (x : A) → read earlier s ms ≡ Ok x → AllByRecursion (R x) earlier
+pub record IsReadApart {A : Type 0} (read : List A → Section → Members → Result A PolicyFault) (R : A → A
+    → Type 0) : Type 0 where
+  pub each : (earlier : List A) (s : Section) (ms : Members) (x : A) → read earlier s ms ≡ Ok x
+      → AllByRecursion (R x) earlier
 
-pub all_end : {A : Type 0} (P : A → Type 0) (xs : List A) (x : A) → AllByRecursion P xs → P x → AllByRecursion P (xs ++ x ∷ [])
+pub all_end : {A : Type 0} (P : A → Type 0) (xs : List A) (x : A) → AllByRecursion P xs → P x
+    → AllByRecursion P (xs ++ x ∷ [])
 all_end P [] x h p = (p, tt)
 all_end P (y ∷ ys) x h p = (h.0, all_end P ys x h.1 p)
 
-pub earlier_end : {A : Type 0} (R : A → A → Type 0) (xs : List A) (x : A) → EachToEarlier R xs → AllByRecursion (R x) xs → EachToEarlier R (xs ++ x ∷ [])
+pub earlier_end : {A : Type 0} (R : A → A → Type 0) (xs : List A) (x : A) → EachToEarlier R xs → AllByRecursion (R x) xs
+    → EachToEarlier R (xs ++ x ∷ [])
 earlier_end R [] x h k = (tt, tt)
 earlier_end R (y ∷ ys) x h k = (all_end (λ z. R z y) ys x h.0 k.0, earlier_end R ys x h.1 k.1)
 
-with_earlier : {A : Type 0} (read : List A → Section → Members → Result A PolicyFault) (R : A → A → Type 0) → IsReadApart read R → (s : Section) (earlier : List A) (d : Data) (xs : List A) → EachToEarlier R earlier → with_item read s earlier d ≡ Ok xs → EachToEarlier R xs
+with_earlier : {A : Type 0} (read : List A → Section → Members → Result A PolicyFault) (R : A → A → Type 0)
+    → IsReadApart read R → (s : Section) (earlier : List A) (d : Data) (xs : List A) → EachToEarlier R earlier
+    → with_item read s earlier d ≡ Ok xs → EachToEarlier R xs
 with_earlier read R g s earlier (table ms) xs h e =
     let r = done (read earlier s ms) (λ x. Ok (earlier ++ x ∷ [])) xs e in
     let p : earlier ++ r.value ∷ [] ≡ xs = cc r.second in
@@ -44,11 +51,14 @@ with_earlier read R g s earlier (boolean t) xs h e = let p : earlier ≡ xs = cc
 with_earlier read R g s earlier (datetime t) xs h e = let p : earlier ≡ xs = cc in subst (EachToEarlier R) p h
 with_earlier read R g s earlier (array t) xs h e = let p : earlier ≡ xs = cc in subst (EachToEarlier R) p h
 
-pub items_apart : {A : Type 0} (read : List A → Section → Members → Result A PolicyFault) (R : A → A → Type 0) → IsReadApart read R → (kind : ItemKind) (earlier : List A) (is : List (ℕ × Data)) (xs : List A) → EachToEarlier R earlier → items_after read kind earlier is ≡ Ok xs → EachToEarlier R xs
+pub items_apart : {A : Type 0} (read : List A → Section → Members → Result A PolicyFault) (R : A → A → Type 0)
+    → IsReadApart read R → (kind : ItemKind) (earlier : List A) (is : List (ℕ × Data)) (xs : List A)
+    → EachToEarlier R earlier → items_after read kind earlier is ≡ Ok xs → EachToEarlier R xs
 items_apart read R g kind earlier [] xs h e = let p : earlier ≡ xs = cc in subst (EachToEarlier R) p h
 items_apart read R g kind earlier (i ∷ is) xs h e =
     let r = done (with_item read (Item kind i.0) earlier i.1) (λ more. items_after read kind more is) xs e in
-    items_apart read R g kind r.value is xs (with_earlier read R g (Item kind i.0) earlier i.1 r.value h r.first) r.second
+    items_apart read R g kind r.value is xs (with_earlier read R g (Item kind i.0) earlier i.1 r.value h r.first)
+    r.second
 
 or_false : (a b : Bool) → a || b ≡ false → (a ≡ false) × (b ≡ false)
 or_false false b e = (refl, e)
@@ -59,26 +69,35 @@ pub not_any : {A : Type 0} (t : A → Bool) (xs : List A) → list_any t xs ≡ 
 not_any t [] e = tt
 not_any t (x ∷ xs) e = let h = or_false (t x) (list_any t xs) e in (h.0, not_any t xs h.1)
 
-new_one : {B : Type 0} (taken : B → Bool) (x y : B) (b : Bool) → taken x ≡ b → (if b then None else Some x) ≡ Some y → taken y ≡ false
+new_one : {B : Type 0} (taken : B → Bool) (x y : B) (b : Bool) → taken x ≡ b → (if b then None else Some x) ≡ Some y
+    → taken y ≡ false
 new_one taken x y true t e = absurd (cc)
 new_one taken x y false t e = let p : x ≡ y = cc in subst (λ (z : _). taken z ≡ false) p t
 
-pub not_taken : {B : Type 0} (taken : B → Bool) (o : Option B) (y : B) → option_and_then (if_new taken) o ≡ Some y → taken y ≡ false
+pub not_taken : {B : Type 0} (taken : B → Bool) (o : Option B) (y : B) → option_and_then (if_new taken) o ≡ Some y
+    → taken y ≡ false
 not_taken taken None y e = absurd (cc)
 not_taken taken (Some x) y e = new_one taken x y (taken x) refl e
 
-pub unlike_all : {A B : Type 0} (same : B → B → Bool) (value_of : A → B) (earlier : List A) (x : B) → is_taken same value_of earlier x ≡ false → AllByRecursion (λ item. same x (value_of item) ≡ false) earlier
+pub unlike_all : {A B : Type 0} (same : B → B → Bool) (value_of : A → B) (earlier : List A) (x : B)
+    → is_taken same value_of earlier x ≡ false → AllByRecursion (λ item. same x (value_of item) ≡ false) earlier
 unlike_all same value_of earlier x e = not_any (λ item. same x (value_of item)) earlier e
 
 -- the numbers of a list of ports
-each_next : {A B : Type 0} (read : A → Option B) (P : B → Type 0) (x : A) (o : Option B) (r : Option (List B)) (ys : List B) → read x ≡ o → ((y : B) → read x ≡ Some y → P y) → ((zs : List B) → r ≡ Some zs → AllByRecursion P zs) → option_and_then (λ y. option_map (λ ys. y ∷ ys) r) o ≡ Some ys → AllByRecursion P ys
+each_next : {A B : Type 0} (read : A → Option B) (P : B
+    → Type 0) (x : A) (o : Option B) (r : Option (List B)) (ys : List B) → read x ≡ o
+    → ((y : B) → read x ≡ Some y → P y) → ((zs : List B) → r ≡ Some zs → AllByRecursion P zs)
+    → option_and_then (λ y. option_map (λ ys. y ∷ ys) r) o ≡ Some ys → AllByRecursion P ys
 each_next read P x None r ys t f g e = absurd (cc)
 each_next read P x (Some y) None ys t f g e = absurd (cc)
-each_next read P x (Some y) (Some zs) ys t f g e = let p : y ∷ zs ≡ ys = cc in subst (AllByRecursion P) p (f y t, g zs refl)
+each_next read P x (Some y) (Some zs) ys t f g e = let p : y ∷ zs ≡ ys = cc in
+    subst (AllByRecursion P) p (f y t, g zs refl)
 
-pub each_all : {A B : Type 0} (read : A → Option B) (P : B → Type 0) → ((x : A) (y : B) → read x ≡ Some y → P y) → (xs : List A) (ys : List B) → each_of read xs ≡ Some ys → AllByRecursion P ys
+pub each_all : {A B : Type 0} (read : A → Option B) (P : B → Type 0) → ((x : A) (y : B) → read x ≡ Some y → P y)
+    → (xs : List A) (ys : List B) → each_of read xs ≡ Some ys → AllByRecursion P ys
 each_all read P f [] ys e = let p : [] ≡ ys = cc in subst (AllByRecursion P) p tt
-each_all read P f (x ∷ xs) ys e = each_next read P x (read x) (each_of read xs) ys refl (f x) (λ zs k. each_all read P f xs zs k) e
+each_all read P f (x ∷ xs) ys e = each_next read P x (read x) (each_of read xs) ys refl (f x)
+    (λ zs k. each_all read P f xs zs k) e
 
 distinct_is : (ns ms : List ℕ) → if_distinct (λ a b. a == b) ns ≡ Some ms → ns ≡ ms
 distinct_is ns ms e = grind arith
@@ -86,11 +105,14 @@ distinct_is ns ms e = grind arith
 port_number : (d : Data) (n : ℕ) → port d ≡ Some n → IsPortNumber n
 port_number d n e = let k = number_within 1 65279 d n e in (k.least_is, k.greatest_is)
 
-listed_ports : (o : Option (List ℕ)) (ns : List ℕ) → option_and_then (if_distinct (λ a b. a == b)) o ≡ Some ns → o ≡ Some ns
+listed_ports : (o : Option (List ℕ)) (ns : List ℕ) → option_and_then (if_distinct (λ a b. a == b)) o ≡ Some ns
+    → o ≡ Some ns
 listed_ports None ns e = absurd (cc)
 listed_ports (Some ms) ns e = ap Some (distinct_is ms ns e)
 
-ports_in : (o : Option (List Data)) (ns : List ℕ) → option_and_then (λ ds. option_and_then (if_distinct (λ a b. a == b)) (each_of port ds)) o ≡ Some ns → AllByRecursion IsPortNumber ns
+ports_in : (o : Option (List Data)) (ns : List ℕ)
+    → option_and_then (λ ds. option_and_then (if_distinct (λ a b. a == b)) (each_of port ds)) o ≡ Some ns
+    → AllByRecursion IsPortNumber ns
 ports_in None ns e = absurd (cc)
 ports_in (Some ds) ns e = each_all port IsPortNumber port_number ds ns (listed_ports (each_of port ds) ns e)
 

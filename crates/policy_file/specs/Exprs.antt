@@ -1,5 +1,6 @@
 -- The expressions of the virtual switches.
-use Rattle.std.specs.Prelude.{ℕ, ◌==◌, Bool, List, [], ◌∷◌, Option, Some, None, Result, Ok, Err, if◌then◌else◌, nat_lt, filter_map}
+use Rattle.std.specs.Prelude.{ℕ, ◌==◌, Bool, List, [], ◌∷◌, Option, Some, None, Result, Ok, Err, if◌then◌else◌, nat_lt}
+use Rattle.std.specs.Prelude.{filter_map}
 use Rattle.std.specs.List.{enumerate_from}
 use Rattle.policy_expr.specs.declared.member.MemberName.{MemberName}
 use Rattle.policy_expr.specs.declared.fault.ExprFault.{ExprFault}

@@ -1,8 +1,10 @@
 -- What the top keys say.
-use Rattle.std.specs.Prelude.{ℕ, Bool, true, false, codes, is_some, List, [], ◌∷◌, Option, Some, None, Result, Ok, Err, if◌then◌else◌, option_map}
+use Rattle.std.specs.Prelude.{ℕ, Bool, true, false, codes, is_some, List, [], ◌∷◌, Option, Some, None, Result, Ok, Err}
+use Rattle.std.specs.Prelude.{if◌then◌else◌, option_map}
 use Rattle.std.specs.List.{list_all}
 use Rattle.std.specs.Option.{option_map_or}
-use Rattle.toml.specs.Data.{Data, string, integer, float, boolean, datetime, array, table, as_table, Members, get_member}
+use Rattle.toml.specs.Data.{Data, string, integer, float, boolean, datetime, array, table, as_table, Members}
+use Rattle.toml.specs.Data.{get_member}
 use Rattle.policy_file.specs.declared.fault.PolicyFault.{PolicyFault}
 use Rattle.policy_file.specs.declared.head.Head.{Head}
 use Rattle.policy_file.specs.declared.keys.ItemKind.{ItemKind}
@@ -40,14 +42,16 @@ first_of file =
     then_do (items_at file Cable) (λ _.
     then_do (found Top (codes "hops") (or_absent 4 (number 1 4) (get_member (codes "hops") file))) (λ hops.
     then_do (items_at file Link) (λ _.
-    then_do (found Top (codes "listen") (or_absent (codes "127.0.0.1:6633") address (get_member (codes "listen") file))) (λ listen.
+    then_do (found Top (codes "listen") (or_absent (codes "127.0.0.1:6633") address (get_member (codes "listen") file)))
+    (λ listen.
     then_do (items_at file Member) (λ _.
     Ok (hops, listen))))))
 
 -- those from `rounds` to `virtual`: the rounds, the second proxy, and the version
 abbrev pub last_of : Members → Result (ℕ × Option (List ℕ) × Version) PolicyFault
 last_of file =
-    then_do (found Top (codes "rounds") (or_absent 1000 (number 1 1000000) (get_member (codes "rounds") file))) (λ rounds.
+    then_do (found Top (codes "rounds") (or_absent 1000 (number 1 1000000) (get_member (codes "rounds") file)))
+    (λ rounds.
     then_do (found Top (codes "standby") (if_there address (get_member (codes "standby") file))) (λ standby.
     then_do (items_at file Switch) (λ _.
     then_do (found Top (codes "version") (version_of file)) (λ version.

@@ -36,7 +36,8 @@ item_rows Link = needed (codes "a") ∷ needed (codes "b") ∷ []
 item_rows Member =
     optional (codes "actions") ∷ optional (codes "address") ∷ needed (codes "bits") ∷ needed (codes "controller") ∷
     optional (codes "entries") ∷ optional (codes "match") ∷ optional (codes "misses") ∷ optional (codes "packet_out") ∷
-    optional (codes "ports") ∷ only_in One (codes "region") ∷ only_in Two (codes "regions") ∷ needed (codes "virtual") ∷ []
+    optional (codes "ports") ∷ only_in One (codes "region") ∷ only_in Two (codes "regions") ∷ needed (codes "virtual")
+    ∷ []
 
 -- the top key that lists the items
 abbrev pub kind_key : ItemKind → List ℕ

@@ -1,8 +1,10 @@
 -- Keys that aren't listed, and keys that are missing.
-use Rattle.std.specs.Prelude.{ℕ, ℤ, pos, ◌==◌, ◌&&◌, not, Bool, true, false, codes, is_none, List, [], ◌∷◌, Option, Some, None, if◌then◌else◌, option_and_then, option_map, unwrap_or}
+use Rattle.std.specs.Prelude.{ℕ, ℤ, pos, ◌==◌, ◌&&◌, not, Bool, true, false, codes, is_none, List, [], ◌∷◌, Option}
+use Rattle.std.specs.Prelude.{Some, None, if◌then◌else◌, option_and_then, option_map, unwrap_or}
 use Rattle.std.specs.List.{enumerate_from, list_any}
 use Rattle.std.specs.Option.{option_or}
-use Rattle.toml.specs.Data.{Data, string, integer, float, boolean, datetime, array, table, as_integer, Members, get_member, same_key}
+use Rattle.toml.specs.Data.{Data, string, integer, float, boolean, datetime, array, table, as_integer, Members}
+use Rattle.toml.specs.Data.{get_member, same_key}
 use Rattle.virtual_topology.specs.Faults.{first_answer}
 use Rattle.policy_file.specs.declared.fault.PolicyFault.{PolicyFault}
 use Rattle.policy_file.specs.declared.fault.PolicyFault.TheVariants as faults
@@ -57,14 +59,16 @@ is_listed rows version key = list_any (is_row version key) rows
 
 -- a key that isn't listed
 abbrev pub unlisted_key : Section → Option Version → List ℕ → Option PolicyFault
-unlisted_key section version key = if is_listed (rows_of section) version key then None else Some (faults.Key (key_name section key))
+unlisted_key section version key = if is_listed (rows_of section) version key then None
+    else Some (faults.Key (key_name section key))
 
 abbrev pub unlisted : Option Version → Section → Members → Option PolicyFault
 unlisted version section ms = first_answer (unlisted_key section version) (keys_in ms)
 
 -- a key that has to stand and doesn't
 abbrev pub missing_row : Section → Members → Row → Option PolicyFault
-missing_row section ms row = if row.needed && is_none (get_member row.key ms) then Some (faults.Missing (key_name section row.key)) else None
+missing_row section ms row = if row.needed && is_none (get_member row.key ms)
+    then Some (faults.Missing (key_name section row.key)) else None
 
 abbrev pub missing : Section → Members → Option PolicyFault
 missing section ms = first_answer (missing_row section ms) (rows_of section)

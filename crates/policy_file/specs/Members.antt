@@ -1,5 +1,7 @@
 -- Members: controllers at virtual switches, and what they may do there.
-use Rattle.std.specs.Prelude.{ℕ, ◌==◌, ◌&&◌, not, Bool, true, false, codes, is_some, is_none, position, List, [], ◌∷◌, ◌++◌, Option, Some, None, Result, Ok, Err, if◌then◌else◌, nat_lt, nat_le, option_and_then, option_map, filter, map, slice_get}
+use Rattle.std.specs.Prelude.{ℕ, ◌==◌, ◌&&◌, not, Bool, true, false, codes, is_some, is_none, position, List, [], ◌∷◌}
+use Rattle.std.specs.Prelude.{◌++◌, Option, Some, None, Result, Ok, Err, if◌then◌else◌, nat_lt, nat_le, option_and_then}
+use Rattle.std.specs.Prelude.{option_map, filter, map, slice_get}
 use Rattle.std.specs.List.{list_all, list_any}
 use Rattle.std.specs.Option.{option_map_or}
 use Rattle.toml.specs.Data.{Data, as_str, as_bool, Members, get_member}
@@ -31,7 +33,8 @@ use Rattle.policy_file.specs.Words.{actions, fields, nothing}
 
 -- the number of the virtual switch that a member names, if it is there
 abbrev pub virtual_at : List VirtualItem → Members → Option ℕ
-virtual_at virtuals ms = option_and_then (λ s. position (λ (v : VirtualItem). same_name v.name s) virtuals) (read_at as_str (codes "virtual") ms)
+virtual_at virtuals ms = option_and_then (λ s. position (λ (v : VirtualItem). same_name v.name s) virtuals)
+    (read_at as_str (codes "virtual") ms)
 
 -- a member has a controller at a virtual switch of this name
 abbrev pub is_at : List ℕ → List ℕ → MemberItem → Bool
@@ -44,7 +47,8 @@ is_used earlier controller vsw = option_map_or (λ name. list_any (is_at control
 -- the controller, unless an earlier member has it at this virtual switch
 abbrev pub new_controller : List MemberItem → Members → Option (List ℕ)
 new_controller earlier ms =
-    option_and_then (if_new (λ c. is_used earlier c (read_at as_str (codes "virtual") ms))) (read_at name (codes "controller") ms)
+    option_and_then (if_new (λ c. is_used earlier c (read_at as_str (codes "virtual") ms)))
+    (read_at name (codes "controller") ms)
 
 -- a virtual switch, if it is known, has each of the ports
 abbrev pub are_there : Option VirtualItem → List ℕ → Bool
@@ -97,10 +101,13 @@ member_with number v place rights =
 abbrev pub place : List MemberItem → Section → Members → Result Place PolicyFault
 place earlier section ms =
     then_do (found section (codes "actions") (or_absent 0 actions (get_member (codes "actions") ms))) (λ actions.
-    then_do (found section (codes "address") (or_absent (codes "127.0.0.1:6634") address (get_member (codes "address") ms))) (λ address.
+    then_do
+    (found section (codes "address") (or_absent (codes "127.0.0.1:6634") address (get_member (codes "address") ms)))
+    (λ address.
     then_do (found section (codes "bits") (read_at (number 2 15) (codes "bits") ms)) (λ bits.
     then_do (found section (codes "controller") (new_controller earlier ms)) (λ controller.
-    then_do (found section (codes "entries") (or_absent 1024 (number 1 4096) (get_member (codes "entries") ms))) (λ entries.
+    then_do (found section (codes "entries") (or_absent 1024 (number 1 4096) (get_member (codes "entries") ms)))
+    (λ entries.
     Ok (record { actions = actions; address = address; bits = bits; controller = controller; entries = entries }))))))
 
 -- and those from `match` to the region
@@ -108,10 +115,19 @@ abbrev pub rights : Version → List VirtualItem → Section → Members → Res
 rights version virtuals section ms =
     then_do (found section (codes "match") (or_absent nothing fields (get_member (codes "match") ms))) (λ nameable.
     then_do (found section (codes "misses") (or_absent true as_bool (get_member (codes "misses") ms))) (λ misses.
-    then_do (found section (codes "packet_out") (or_absent false as_bool (get_member (codes "packet_out") ms))) (λ packet_out.
+    then_do (found section (codes "packet_out") (or_absent false as_bool (get_member (codes "packet_out") ms)))
+    (λ packet_out.
     then_do (found section (codes "ports") (ports_at virtuals ms)) (λ listed.
-    then_do (found section (region_key version) (or_absent all_headers (region_in version) (get_member (region_key version) ms))) (λ regions.
-    Ok (record { nameable = nameable; misses = misses; packet_out = packet_out; listed = listed; regions = regions }))))))
+    then_do
+    (found section (region_key version)
+    (or_absent all_headers (region_in version) (get_member (region_key version) ms))) (λ regions.
+    Ok (record {
+      nameable = nameable;
+      misses = misses;
+      packet_out = packet_out;
+      listed = listed;
+      regions = regions;
+    }))))))
 
 -- the number of the virtual switch that a member names, and the virtual switch
 abbrev pub numbered : List VirtualItem → Members → Option (ℕ × VirtualItem)
@@ -131,9 +147,11 @@ number_of Top = 0
 number_of (Item kind number) = number
 
 -- there may be 32 members; another is refused before its keys are looked at
-abbrev pub next_member : Version → List VirtualItem → List MemberItem → Section → Members → Result MemberItem PolicyFault
+abbrev pub next_member : Version → List VirtualItem → List MemberItem → Section → Members
+    → Result MemberItem PolicyFault
 next_member version virtuals earlier section ms =
-    if nat_lt (number_of section) 32 then member version virtuals earlier section ms else Err (faults.Value (section_name section))
+    if nat_lt (number_of section) 32 then member version virtuals earlier section ms
+    else Err (faults.Value (section_name section))
 
 abbrev pub members_of : Version → List VirtualItem → Members → Result (List MemberItem) PolicyFault
 members_of version virtuals = items_of (next_member version virtuals) Member

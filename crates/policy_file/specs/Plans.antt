@@ -1,5 +1,6 @@
 -- The switches, cables, virtual switches and links of a file.
-use Rattle.std.specs.Prelude.{ℕ, ◌==◌, Bool, codes, List, [], ◌∷◌, ◌++◌, Option, Some, None, Result, Ok, Err, if◌then◌else◌, option_and_then}
+use Rattle.std.specs.Prelude.{ℕ, ◌==◌, Bool, codes, List, [], ◌∷◌, ◌++◌, Option, Some, None, Result, Ok, Err}
+use Rattle.std.specs.Prelude.{if◌then◌else◌, option_and_then}
 use Rattle.std.specs.List.{enumerate_from, list_any}
 use Rattle.toml.specs.Data.{Data, string, integer, float, boolean, datetime, array, table, Members, get_member}
 use Rattle.virtual_topology.specs.declared.plan.PairItem.{PairItem}
@@ -66,16 +67,20 @@ virtual_switch earlier section ms =
     Ok (record { name = name; dpid = dpid; ports = ports; expr = expr })))))
 
 -- an item with those before it; what is no table was refused before
-abbrev pub with_item : {A : Type 0} → (List A → Section → Members → Result A PolicyFault) → Section → List A → Data → Result (List A) PolicyFault
+abbrev pub with_item : {A : Type 0} → (List A → Section → Members → Result A PolicyFault) → Section → List A → Data
+    → Result (List A) PolicyFault
 with_item read section earlier (table ms) = then_do (read earlier section ms) (λ x. Ok (earlier ++ x ∷ []))
 with_item read section earlier _ = Ok earlier
 
 -- the items after those that are read
-abbrev pub items_after : {A : Type 0} → (List A → Section → Members → Result A PolicyFault) → ItemKind → List A → List (ℕ × Data) → Result (List A) PolicyFault
+abbrev pub items_after : {A : Type 0} → (List A → Section → Members → Result A PolicyFault) → ItemKind → List A
+    → List (ℕ × Data) → Result (List A) PolicyFault
 items_after read kind earlier [] = Ok earlier
-items_after read kind earlier (i ∷ is) = then_do (with_item read (Item kind i.0) earlier i.1) (λ more. items_after read kind more is)
+items_after read kind earlier (i ∷ is) = then_do (with_item read (Item kind i.0) earlier i.1)
+    (λ more. items_after read kind more is)
 
-abbrev pub items_of : {A : Type 0} → (List A → Section → Members → Result A PolicyFault) → ItemKind → Members → Result (List A) PolicyFault
+abbrev pub items_of : {A : Type 0} → (List A → Section → Members → Result A PolicyFault) → ItemKind → Members
+    → Result (List A) PolicyFault
 items_of read kind file = items_after read kind [] (enumerate_from 0 (items file kind))
 
 abbrev pub switches : Members → Result (List SwitchItem) PolicyFault

@@ -90,4 +90,5 @@ policy_of_document (Some file) = policy_in file
 
 -- what the bytes of a file say; 0: it is too long
 abbrev pub policy_in_bytes : List ℕ → Result PolicyOf PolicyFault
-policy_in_bytes bytes = if nat_le (length bytes) 1048576 then policy_of_document (document_of bytes) else Err faults.Long
+policy_in_bytes bytes = if nat_le (length bytes) 1048576 then policy_of_document (document_of bytes)
+    else Err faults.Long

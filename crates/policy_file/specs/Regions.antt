@@ -1,5 +1,7 @@
 -- Regions: boxes of headers, each a table of fields and their values.
-use Rattle.std.specs.Prelude.{ℕ, ◌+◌, ◌-◌, ◌*◌, ◌%◌, ◌^◌, ◌==◌, ◌&&◌, ◌||◌, Bool, true, false, codes, List, [], ◌∷◌, ◌++◌, Option, Some, None, if◌then◌else◌, nat_le, nat_lt, length, slice_index, option_map, option_and_then}
+use Rattle.std.specs.Prelude.{ℕ, ◌+◌, ◌-◌, ◌*◌, ◌%◌, ◌^◌, ◌==◌, ◌&&◌, ◌||◌, Bool, true, false, codes, List, [], ◌∷◌}
+use Rattle.std.specs.Prelude.{◌++◌, Option, Some, None, if◌then◌else◌, nat_le, nat_lt, length, slice_index, option_map}
+use Rattle.std.specs.Prelude.{option_and_then}
 use Rattle.std.specs.List.{list_all, list_any}
 use Rattle.toml.specs.Data.{Data, as_str, as_table, Members, get_member}
 use Rattle.of10_match.specs.declared.header.Prefix.{Prefix}
@@ -35,29 +37,34 @@ pair_at s i = pair_of (slice_index s i) (slice_index s (i + 1))
 -- three bytes from a place on, with one character between each two
 abbrev pub half_at : List ℕ → ℕ → Option ℕ
 half_at s i =
-    option_and_then (λ a. option_and_then (λ b. option_map (λ c. (a * 256 + b) * 256 + c) (pair_at s (i + 6))) (pair_at s (i + 3))) (pair_at s i)
+    option_and_then (λ a. option_and_then (λ b. option_map (λ c. (a * 256 + b) * 256 + c) (pair_at s (i + 6)))
+    (pair_at s (i + 3))) (pair_at s i)
 
 -- 17 characters, of which each third is `:` (58)
 abbrev pub is_ether_form : List ℕ → Bool
 is_ether_form s =
-    (length s == 17) && (((slice_index s 2 == 58) && (slice_index s 5 == 58)) && ((slice_index s 8 == 58) && ((slice_index s 11 == 58) && (slice_index s 14 == 58))))
+    (length s == 17) && (((slice_index s 2 == 58) && (slice_index s 5 == 58)) &&
+    ((slice_index s 8 == 58) && ((slice_index s 11 == 58) && (slice_index s 14 == 58))))
 
 -- an address of Ethernet, as `00:00:00:00:00:01`
 abbrev pub ether_text : List ℕ → Option ℕ
-ether_text s = if is_ether_form s then option_and_then (λ high. option_map (λ low. high * 16777216 + low) (half_at s 9)) (half_at s 0) else None
+ether_text s = if is_ether_form s then option_and_then (λ high. option_map (λ low. high * 16777216 + low) (half_at s 9))
+    (half_at s 0) else None
 
 abbrev pub ether : Data → Option ℕ
 ether d = option_and_then ether_text (as_str d)
 
 -- a number below 256, and what is after the next `.` (46)
 abbrev pub next_octet : List ℕ → Option (ℕ × List ℕ)
-next_octet s = option_and_then (λ (p : List ℕ × List ℕ). option_map (λ o. (o, p.1)) (decimal_within 0 255 p.0)) (split_at_first 46 s)
+next_octet s = option_and_then (λ (p : List ℕ × List ℕ). option_map (λ o. (o, p.1)) (decimal_within 0 255 p.0))
+    (split_at_first 46 s)
 
 -- an address of IP, as `10.0.0.1`
 abbrev pub ip_text : List ℕ → Option ℕ
 ip_text s =
     option_and_then (λ (a : ℕ × List ℕ). option_and_then (λ (b : ℕ × List ℕ). option_and_then (λ (c : ℕ × List ℕ).
-    option_map (λ d. ((a.0 * 256 + b.0) * 256 + c.0) * 256 + d) (decimal_within 0 255 c.1)) (next_octet b.1)) (next_octet a.1)) (next_octet s)
+    option_map (λ d. ((a.0 * 256 + b.0) * 256 + c.0) * 256 + d) (decimal_within 0 255 c.1)) (next_octet b.1))
+    (next_octet a.1)) (next_octet s)
 
 abbrev pub prefix_of : ℕ → ℕ → Prefix
 prefix_of addr len = record { addr = addr; len = len }
@@ -68,7 +75,8 @@ prefix_if addr len = if addr % (2 ^ (32 - len)) == 0 then Some (prefix_of addr l
 
 abbrev pub prefix_text : List ℕ → Option Prefix
 prefix_text s =
-    option_and_then (λ (p : List ℕ × List ℕ). option_and_then (λ addr. option_and_then (prefix_if addr) (decimal_within 1 32 p.1)) (ip_text p.0)) (split_at_first 47 s)
+    option_and_then (λ (p : List ℕ × List ℕ). option_and_then
+    (λ addr. option_and_then (prefix_if addr) (decimal_within 1 32 p.1)) (ip_text p.0)) (split_at_first 47 s)
 
 -- a prefix of addresses, as `10.0.0.0/8`
 abbrev pub prefix : Data → Option Prefix
@@ -101,14 +109,16 @@ abbrev pub link_fields : Members → Option MatchOf
 link_fields ms =
     then_of (at ether (codes "dl_src") ms) (λ dl_src. then_of (at ether (codes "dl_dst") ms) (λ dl_dst.
     then_of (at vlan (codes "dl_vlan") ms) (λ dl_vlan. option_map (λ dl_type.
-    record everything { dl_src = dl_src; dl_dst = dl_dst; dl_vlan = dl_vlan; dl_type = dl_type }) (at (number 0 65535) (codes "dl_type") ms))))
+    record everything { dl_src = dl_src; dl_dst = dl_dst; dl_vlan = dl_vlan; dl_type = dl_type })
+    (at (number 0 65535) (codes "dl_type") ms))))
 
 -- a match with the fields of IP that a table names
 abbrev pub with_network_fields : MatchOf → Members → Option MatchOf
 with_network_fields m ms =
     then_of (at tos (codes "nw_tos") ms) (λ nw_tos. then_of (at (number 0 255) (codes "nw_proto") ms) (λ nw_proto.
     then_of (at prefix (codes "nw_src") ms) (λ nw_src. option_map (λ nw_dst.
-    record m { nw_tos = nw_tos; nw_proto = nw_proto; nw_src = nw_src; nw_dst = nw_dst }) (at prefix (codes "nw_dst") ms))))
+    record m { nw_tos = nw_tos; nw_proto = nw_proto; nw_src = nw_src; nw_dst = nw_dst })
+    (at prefix (codes "nw_dst") ms))))
 
 -- a match with the ports of TCP or UDP, or the type and code of ICMP, that a table names
 abbrev pub with_transport_fields : MatchOf → Members → Option MatchOf
@@ -118,7 +128,8 @@ with_transport_fields m ms =
 
 -- the fields of a table, as a match
 abbrev pub fields_named : Members → Option MatchOf
-fields_named ms = then_of (link_fields ms) (λ link. then_of (with_network_fields link ms) (λ m. with_transport_fields m ms))
+fields_named ms = then_of (link_fields ms)
+    (λ link. then_of (with_network_fields link ms) (λ m. with_transport_fields m ms))
 
 -- each field of a match stands with the fields that it needs: it is its own normal form
 abbrev pub is_normal : MatchOf → Bool
@@ -140,7 +151,8 @@ region d = option_map (λ m. m ∷ []) (box d)
 
 -- boxes with one more, which overlaps none of them
 abbrev pub with_box : List MatchOf → Data → Option (List MatchOf)
-with_box earlier d = option_and_then (λ m. if list_any (λ e. overlaps e m) earlier then None else Some (earlier ++ m ∷ [])) (box d)
+with_box earlier d = option_and_then (λ m. if list_any (λ e. overlaps e m) earlier then None
+    else Some (earlier ++ m ∷ [])) (box d)
 
 abbrev pub boxes : List Data → Option (List MatchOf)
 boxes ds = if nat_lt 0 (length ds) && nat_le (length ds) 16 then all_after with_box [] ds else None

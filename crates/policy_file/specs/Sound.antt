@@ -1,5 +1,6 @@
 -- What holds of each policy: its numbers are in range, and it fits together.
-use Rattle.std.specs.Prelude.{◌≡◌, ◌==◌, ◌&&◌, ℕ, ◌≤◌, ◌<◌, Bool, true, false, is_none, is_some, List, [], ◌∷◌, length, Option, None, Some, IfSome, IsOk, IfOk, slice_get, if◌then◌else◌}
+use Rattle.std.specs.Prelude.{◌≡◌, ◌==◌, ◌&&◌, ℕ, ◌≤◌, ◌<◌, Bool, true, false, is_none, is_some, List, [], ◌∷◌, length}
+use Rattle.std.specs.Prelude.{Option, None, Some, IfSome, IsOk, IfOk, slice_get, if◌then◌else◌}
 use Rattle.std.specs.List.{AllByRecursion, list_any}
 use Rattle.of10_actions.specs.Ports.{AreRising}
 use Rattle.of10_match.specs.Fields.{MatchOf}
@@ -118,7 +119,8 @@ pub record KeepsLimits (p : PolicyOf) : Type 0 where
   pub unlike_virtuals : EachToEarlier AreUnlikeVirtuals p.virtuals
   pub unlike_members : EachToEarlier AreUnlikeMembers p.members
 
--- its expressions are such over its members, its topology and paths can be made, and no virtual switch needs more levels
+-- its expressions are such over its members, its topology and paths can be made, and no virtual switch needs more
+-- levels
 -- than there are
 pub record FitsTogether (p : PolicyOf) : Type 0 where
   pub expressions : IsOk (exprs_of p.virtuals p.members)

@@ -8,7 +8,8 @@ use Rattle.virtual_topology.specs.declared.fault.TopologyFault.TheVariants as to
 use Rattle.inner_paths.specs.declared.fault.PathFault.{PathFault}
 use Rattle.inner_paths.specs.declared.fault.PathFault.TheVariants as path
 use Rattle.policy_file.specs.declared.fault.PolicyFault.{PolicyFault}
-use Rattle.policy_file.specs.declared.fault.PolicyFault.TheVariants.{Long, Syntax, Key, Missing, Value, Expr, Topology, Paths, TooWide, Memory}
+use Rattle.policy_file.specs.declared.fault.PolicyFault.TheVariants.{Long, Syntax, Key, Missing, Value, Expr, Topology}
+use Rattle.policy_file.specs.declared.fault.PolicyFault.TheVariants.{Paths, TooWide, Memory}
 
 -- the kind of a fault of an expression
 abbrev pub expr_kind : ExprFault → List ℕ
@@ -69,4 +70,5 @@ next_word word = 32 ∷ word
 
 -- the kind, the name or `-`, and the inner kind where there is one
 abbrev pub terse : PolicyFault → List ℕ
-terse fault = (kind fault ++ next_word (option_map_or (λ name. name) (named fault) (codes "-"))) ++ option_map_or next_word (inner_kind fault) []
+terse fault = (kind fault ++ next_word (option_map_or (λ name. name) (named fault) (codes "-")))
+    ++ option_map_or next_word (inner_kind fault) []

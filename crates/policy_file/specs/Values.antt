@@ -1,5 +1,7 @@
 -- What the values of keys stand for, where they can be so.
-use Rattle.std.specs.Prelude.{codes, ℕ, zero, suc, ℤ, pos, negsuc, ◌+◌, ◌-◌, ◌*◌, ◌==◌, ◌&&◌, ◌||◌, not, Bool, true, false, List, [], ◌∷◌, Option, Some, None, if◌then◌else◌, nat_le, nat_lt, length, option_map, option_and_then, position, take, drop}
+use Rattle.std.specs.Prelude.{codes, ℕ, zero, suc, ℤ, pos, negsuc, ◌+◌, ◌-◌, ◌*◌, ◌==◌, ◌&&◌, ◌||◌, not, Bool, true}
+use Rattle.std.specs.Prelude.{false, List, [], ◌∷◌, Option, Some, None, if◌then◌else◌, nat_le, nat_lt, length}
+use Rattle.std.specs.Prelude.{option_map, option_and_then, position, take, drop}
 use Rattle.std.specs.Char.{is_ascii_graphic, is_ascii_lowercase, is_ascii_digit, is_ascii}
 use Rattle.std.specs.List.{list_all, list_any}
 use Rattle.toml.specs.Data.{Data, string, integer, float, boolean, datetime, array, table, as_integer, as_str, same_key}
@@ -106,7 +108,8 @@ place_if name port = if is_name name then Some (place_at name port) else None
 
 -- NAME:PORT, with a PORT up to 65535; `:` is 58
 abbrev pub place : List ℕ → Option PortPlace
-place s = option_and_then (λ (p : List ℕ × List ℕ). option_and_then (place_if p.0) (decimal_within 0 65535 p.1)) (split_at_first 58 s)
+place s = option_and_then (λ (p : List ℕ × List ℕ). option_and_then (place_if p.0) (decimal_within 0 65535 p.1))
+    (split_at_first 58 s)
 
 abbrev pub port_place : Data → Option PortPlace
 port_place d = option_and_then place (as_str d)
@@ -125,7 +128,9 @@ virtual_port_at port s = if is_link s then Some (link_port port) else option_map
 
 -- N=SWITCH:PORT or N=link, with N from 1 to 65279; `=` is 61
 abbrev pub virtual_port : List ℕ → Option VirtualPort
-virtual_port s = option_and_then (λ (p : List ℕ × List ℕ). option_and_then (λ n. virtual_port_at n p.1) (decimal_within 1 65279 p.0)) (split_at_first 61 s)
+virtual_port s =
+    option_and_then (λ (p : List ℕ × List ℕ). option_and_then (λ n. virtual_port_at n p.1) (decimal_within 1 65279 p.0))
+    (split_at_first 61 s)
 
 -- what a reader makes of each item of a list, if of each it makes something
 abbrev pub each_of : {A B : Type 0} → (A → Option B) → List A → Option (List B)

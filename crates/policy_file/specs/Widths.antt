@@ -1,5 +1,6 @@
 -- How many levels of priority virtual switches need over hops.
-use Rattle.std.specs.Prelude.{◌≡◌, ℕ, zero, suc, ◌^◌, ◌*◌, max, List, [], ◌∷◌, Option, Some, None, if◌then◌else◌, nat_le, map, slice_get}
+use Rattle.std.specs.Prelude.{◌≡◌, ℕ, zero, suc, ◌^◌, ◌*◌, max, List, [], ◌∷◌, Option, Some, None, if◌then◌else◌}
+use Rattle.std.specs.Prelude.{nat_le, map, slice_get}
 use Rattle.std.specs.List.{enumerate_from}
 use Rattle.std.specs.Option.{option_map_or}
 use Rattle.alg_priority.specs.Levels.{capped}
@@ -44,7 +45,8 @@ over_hop plan sizes needed v =
 -- what a virtual switch of these sizes needs over so many hops: over none 1; and 1 for the number of no virtual switch
 abbrev pub width : TopologyPlan → List ℕ → ℕ → ℕ → ℕ
 width plan sizes zero v = 1
-width plan sizes (suc n) v = option_map_or (λ (x : VirtualItem). over_hop plan sizes (width plan sizes n) (v, x)) (slice_get plan.virtuals v) 1
+width plan sizes (suc n) v = option_map_or (λ (x : VirtualItem). over_hop plan sizes (width plan sizes n) (v, x))
+    (slice_get plan.virtuals v) 1
 
 -- what each needs over so many hops
 abbrev pub AreWidths : TopologyPlan → List ℕ → ℕ → List ℕ → Type 0

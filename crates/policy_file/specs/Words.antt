@@ -16,7 +16,8 @@ abbrev pub words : Data → Option (List (List ℕ))
 words d = option_and_then (each_of as_str) (as_list d)
 
 abbrev pub virtual_ports_of : List (List ℕ) → Option (List VirtualPort)
-virtual_ports_of ws = option_and_then (λ ports. if are_distinct same_key ws then Some ports else None) (each_of virtual_port ws)
+virtual_ports_of ws = option_and_then (λ ports. if are_distinct same_key ws then Some ports else None)
+    (each_of virtual_port ws)
 
 -- the ports of a virtual switch, each text once
 abbrev pub virtual_ports : Data → Option (List VirtualPort)

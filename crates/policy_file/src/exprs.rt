@@ -1,7 +1,8 @@
 //! The expressions of the virtual switches.
 ghost use Rattle.std.specs.Prelude.{◌≡◌, ◌⊎◌, IfOk, IfErr, Ok, map};
 ghost use Rattle.policy_expr.specs.Policy.{policy_of};
-ghost use Rattle.policy_file.specs.Exprs.{is_plain as is_plain_of, name_at as name_at_of, names as names_of, expr_of, exprs_of};
+ghost use Rattle.policy_file.specs.Exprs.{is_plain as is_plain_of, name_at as name_at_of, names as names_of, expr_of};
+ghost use Rattle.policy_file.specs.Exprs.{exprs_of};
 ghost use Rattle.policy_file.specs.Outcomes.{IsFaultOf};
 
 use crate::fault::PolicyFault;

@@ -6,7 +6,8 @@ ghost use Rattle.std.specs.Char.{is_ascii};
 ghost use Rattle.std.specs.List.{list_all};
 ghost use Rattle.policy_file.specs.Values.{number as number_of, address as address_of};
 ghost use Rattle.policy_file.specs.Regions.{if_there};
-ghost use Rattle.policy_file.specs.Heads.{or_absent, is_table, lists_tables as lists_tables_of, tables as tables_of, items_at, first_of, last_of, head_of};
+ghost use Rattle.policy_file.specs.Heads.{or_absent, is_table, lists_tables as lists_tables_of, tables as tables_of};
+ghost use Rattle.policy_file.specs.Heads.{items_at, first_of, last_of, head_of};
 ghost use Rattle.policy_file.specs.Keys.{kind_key};
 ghost use Rattle.policy_file.specs.Outcomes.{Gives, found};
 

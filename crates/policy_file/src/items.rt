@@ -1,9 +1,11 @@
 //! Switches, cables and links.
 ghost use Rattle.std.specs.Prelude.{◌≡◌, IfOk, codes};
 ghost use Rattle.toml.specs.View.{table_view};
-ghost use Rattle.policy_file.specs.Values.{dpid as dpid_of, name as name_of, expression as expression_of, port_place as port_place_of, ports as ports_of};
+ghost use Rattle.policy_file.specs.Values.{dpid as dpid_of, name as name_of, expression as expression_of};
+ghost use Rattle.policy_file.specs.Values.{port_place as port_place_of, ports as ports_of};
 ghost use Rattle.policy_file.specs.Words.{virtual_ports as virtual_ports_of};
-ghost use Rattle.policy_file.specs.Plans.{switch as switch_of, pair as pair_of, virtual_switch as virtual_switch_of, plan_of, read_at, dpid_is_taken, name_is_taken, new_dpid, new_name};
+ghost use Rattle.policy_file.specs.Plans.{switch as switch_of, pair as pair_of, virtual_switch as virtual_switch_of};
+ghost use Rattle.policy_file.specs.Plans.{plan_of, read_at, dpid_is_taken, name_is_taken, new_dpid, new_name};
 ghost use Rattle.policy_file.specs.Outcomes.{Gives, found};
 
 use crate::fault::PolicyFault;

@@ -4,7 +4,10 @@ ghost use Rattle.toml.specs.View.{view, table_view};
 ghost use Rattle.virtual_topology.specs.Faults.{Answers, first_answer};
 ghost use Rattle.policy_file.specs.Shown.{shown_row};
 ghost use Rattle.policy_file.specs.Keys.{item_kinds};
-ghost use Rattle.policy_file.specs.Listed.{version as version_by, version_of as version_in, items as items_of, may_stand as may_stand_of, is_row as is_row_of, is_listed as is_listed_of, unlisted, unlisted_key, missing_row, missing, of_table, among_items, in_items, unlisted_in, missing_in};
+ghost use Rattle.policy_file.specs.Listed.{version as version_by, version_of as version_in, items as items_of};
+ghost use Rattle.policy_file.specs.Listed.{may_stand as may_stand_of, is_row as is_row_of, is_listed as is_listed_of};
+ghost use Rattle.policy_file.specs.Listed.{unlisted, unlisted_key, missing_row, missing, of_table, among_items};
+ghost use Rattle.policy_file.specs.Listed.{in_items, unlisted_in, missing_in};
 
 use crate::fault::PolicyFault;
 use crate::keys::{ITEM_KINDS, ItemKind, KeyRow, Version};
@@ -220,7 +223,8 @@ fn check_kinds_listed(
     version: Option<Version>,
     file: &Table,
 ) -> Result<(), PolicyFault>
-    ensures { Answers PolicyFault.Memory result (first_answer (in_items (unlisted version) (table_view file.now)) item_kinds) }
+    ensures { Answers PolicyFault.Memory result
+        (first_answer (in_items (unlisted version) (table_view file.now)) item_kinds) }
 {
     for kind in ITEM_KINDS {
         check_kind_listed(alloc, kind, version, file)?;

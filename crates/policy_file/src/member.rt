@@ -1,5 +1,6 @@
 //! Members.
-ghost use Rattle.std.specs.Prelude.{◌≡◌, ◌<◌, IfOk, IfSome, codes, length, option_and_then, option_map, position, slice_get};
+ghost use Rattle.std.specs.Prelude.{◌≡◌, ◌<◌, IfOk, IfSome, codes, length, option_and_then, option_map, position};
+ghost use Rattle.std.specs.Prelude.{slice_get};
 ghost use Rattle.std.specs.List.{list_all, list_any};
 ghost use Rattle.virtual_topology.specs.Places.{same_name};
 ghost use Rattle.toml.specs.Data.{get_member, as_bool, as_str};
@@ -10,7 +11,12 @@ ghost use Rattle.policy_file.specs.Regions.{all_headers};
 ghost use Rattle.policy_file.specs.Heads.{or_absent};
 ghost use Rattle.policy_file.specs.Plans.{read_at};
 ghost use Rattle.policy_file.specs.Views.{has_port as has_port_of, view_of};
-ghost use Rattle.policy_file.specs.Members.{virtual_at as virtual_at_of, is_at as is_at_of, is_used as is_used_of, new_controller as new_controller_of, are_there as are_there_of, ports_at as ports_at_of, region_key as region_key_of, region_in, place as place_of, rights as rights_of, member_with, member as member_of, number_of as number_of_section, next_member as next_member_of, members_of as members_in};
+ghost use Rattle.policy_file.specs.Members.{virtual_at as virtual_at_of, is_at as is_at_of, is_used as is_used_of};
+ghost use Rattle.policy_file.specs.Members.{new_controller as new_controller_of, are_there as are_there_of};
+ghost use Rattle.policy_file.specs.Members.{ports_at as ports_at_of, region_key as region_key_of, region_in};
+ghost use Rattle.policy_file.specs.Members.{place as place_of, rights as rights_of, member_with, member as member_of};
+ghost use Rattle.policy_file.specs.Members.{number_of as number_of_section, next_member as next_member_of};
+ghost use Rattle.policy_file.specs.Members.{members_of as members_in};
 ghost use Rattle.policy_file.specs.Outcomes.{Gives, found};
 
 use crate::fault::PolicyFault;
@@ -206,7 +212,8 @@ fn region_key(version: Version) -> &'static str
 
 /// The region of a member, everything if it doesn't say.
 fn region_at(alloc: Global, table: &Table, version: Version) -> Result<Option<List<Match>>, Memory>
-    ensures { IfOk result (λ boxes. boxes ≡ or_absent all_headers (region_in version) (get_member (region_key_of version) (table_view table.now))) }
+    ensures { IfOk result (λ boxes. boxes ≡ or_absent all_headers (region_in version)
+        (get_member (region_key_of version) (table_view table.now))) }
 {
     match (at(table, region_key(version)), version) {
         (Some(value), Version::One) => region(alloc, value),

@@ -63,11 +63,45 @@ impl Model for Policy {
 
     ghost use Rattle.policy_file.specs.Sound.{IsSound};
 
-    ghost view = { λ a. record { version = a.version; hops = a.hops; listen = a.listen; standby = a.standby; rounds = a.rounds; switches = a.switches; cables = a.cables; virtuals = a.virtuals; links = a.links; members = a.members } };
+    ghost view = { λ a. record {
+      version = a.version;
+      hops = a.hops;
+      listen = a.listen;
+      standby = a.standby;
+      rounds = a.rounds;
+      switches = a.switches;
+      cables = a.cables;
+      virtuals = a.virtuals;
+      links = a.links;
+      members = a.members;
+    } };
 
-    ghost invariant = { λ a. IsSound (record { version = a.version; hops = a.hops; listen = a.listen; standby = a.standby; rounds = a.rounds; switches = a.switches; cables = a.cables; virtuals = a.virtuals; links = a.links; members = a.members }) };
+    ghost invariant = { λ a. IsSound
+        (record {
+          version = a.version;
+          hops = a.hops;
+          listen = a.listen;
+          standby = a.standby;
+          rounds = a.rounds;
+          switches = a.switches;
+          cables = a.cables;
+          virtuals = a.virtuals;
+          links = a.links;
+          members = a.members;
+        }) };
 
-    ghost inverse = { λ p. record { version = p.version; hops = p.hops; listen = p.listen; standby = p.standby; rounds = p.rounds; switches = p.switches; cables = p.cables; virtuals = p.virtuals; links = p.links; members = p.members } };
+    ghost inverse = { λ p. record {
+      version = p.version;
+      hops = p.hops;
+      listen = p.listen;
+      standby = p.standby;
+      rounds = p.rounds;
+      switches = p.switches;
+      cables = p.cables;
+      virtuals = p.virtuals;
+      links = p.links;
+      members = p.members;
+    } };
 }
 
 /// The want of memory that a fault is.

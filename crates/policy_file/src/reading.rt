@@ -5,7 +5,8 @@ ghost use Rattle.toml.specs.View.{table_view};
 ghost use Rattle.virtual_topology.specs.Faults.{Answers};
 ghost use Rattle.policy_file.specs.Outcomes.{Gives};
 ghost use Rattle.policy_file.specs.Sound.{IsSound};
-ghost use Rattle.policy_file.specs.Reading.{draft_of, topology_fault, path_fault, fits, fits_made, fits_over, policy_of, document_of, policy_in_bytes};
+ghost use Rattle.policy_file.specs.Reading.{draft_of, topology_fault, path_fault, fits, fits_made, fits_over};
+ghost use Rattle.policy_file.specs.Reading.{policy_of, document_of, policy_in_bytes};
 
 use crate::exprs::exprs;
 use crate::fault::PolicyFault;
@@ -37,7 +38,8 @@ struct Draft {
 /// The file as a table.
 fn document(alloc: Global, bytes: &[u8]) -> Result<Table, PolicyFault>
     ensures read { IfOk result (λ file. document_of bytes.now ≡ Some (table_view file)) }
-    ensures fault { IfErr result (λ fault. (fault ≡ PolicyFault.Memory) ⊎ ((fault ≡ PolicyFault.Syntax) × (document_of bytes.now ≡ None))) }
+    ensures fault { IfErr result (λ fault. (fault ≡ PolicyFault.Memory)
+        ⊎ ((fault ≡ PolicyFault.Syntax) × (document_of bytes.now ≡ None))) }
 {
     match toml::de::table_from_slice(alloc, bytes) {
         Ok(file) => Ok(file),

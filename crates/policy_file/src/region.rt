@@ -6,7 +6,17 @@ ghost use Rattle.of10_match.specs.Matching.{overlaps};
 ghost use Rattle.of10_match.specs.Ranges.{IsPrefix, IsTos, IsVlan};
 ghost use Rattle.policy_file.specs.Values.{number as number_of};
 ghost use Rattle.policy_file.specs.Shown.{shown_value};
-ghost use Rattle.policy_file.specs.Regions.{at as at_of, vlan as vlan_of, tos as tos_of, pair_at as pair_of_text, half_at as half_of_text, is_ether_form as is_ether_form_of, ether_text as ether_text_of, ether as ether_of, next_octet as next_octet_of, ip_text as ip_text_of, prefix_if, if_there, prefix_text as prefix_text_of, prefix as prefix_in, link_fields as link_fields_of, with_network_fields as with_network_fields_of, with_transport_fields as with_transport_fields_of, may_name as may_name_of, names_fields as names_fields_of, fields_named, is_normal as is_normal_of, box_of as box_of_table, all_headers, region as region_of, with_box, regions as regions_of};
+ghost use Rattle.policy_file.specs.Regions.{at as at_of, vlan as vlan_of, tos as tos_of, pair_at as pair_of_text};
+ghost use Rattle.policy_file.specs.Regions.{half_at as half_of_text, is_ether_form as is_ether_form_of};
+ghost use Rattle.policy_file.specs.Regions.{ether_text as ether_text_of, ether as ether_of};
+ghost use Rattle.policy_file.specs.Regions.{next_octet as next_octet_of, ip_text as ip_text_of, prefix_if, if_there};
+ghost use Rattle.policy_file.specs.Regions.{prefix_text as prefix_text_of, prefix as prefix_in};
+ghost use Rattle.policy_file.specs.Regions.{link_fields as link_fields_of};
+ghost use Rattle.policy_file.specs.Regions.{with_network_fields as with_network_fields_of};
+ghost use Rattle.policy_file.specs.Regions.{with_transport_fields as with_transport_fields_of, may_name as may_name_of};
+ghost use Rattle.policy_file.specs.Regions.{names_fields as names_fields_of, fields_named, is_normal as is_normal_of};
+ghost use Rattle.policy_file.specs.Regions.{box_of as box_of_table, all_headers, region as region_of, with_box};
+ghost use Rattle.policy_file.specs.Regions.{regions as regions_of};
 
 use crate::tables::{at, list};
 use crate::values::{decimal_within, digit, number, split_at_first};

@@ -1,7 +1,8 @@
 //! Where in a policy file something stands, and its name in a fault.
 ghost use Rattle.std.specs.Prelude.{◌≡◌, ◌<◌, ◌++◌, ◌⊎◌, map, IfOk, OnOk};
 ghost use Rattle.std.specs.Fmt.{decimal};
-ghost use Rattle.policy_file.specs.Sections.{shown_byte, shown as shown_of, rows_of, item_name, section_name, key_prefix, key_name};
+ghost use Rattle.policy_file.specs.Sections.{shown_byte, shown as shown_of, rows_of, item_name, section_name};
+ghost use Rattle.policy_file.specs.Sections.{key_prefix, key_name};
 ghost use Rattle.policy_file.specs.Outcomes.{Gives, found as found_of};
 ghost use Rattle.policy_file.specs.Shown.{shown_row};
 

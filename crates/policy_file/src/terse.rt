@@ -2,7 +2,9 @@
 ghost use Rattle.std.specs.Prelude.{◌≡◌, ◌++◌, [], IfOk, OnOk, codes, option_map};
 ghost use Rattle.std.specs.Option.{option_map_or};
 ghost use Rattle.policy_file.specs.Sections.{shown};
-ghost use Rattle.policy_file.specs.Terse.{expr_kind as expr_kind_of, topology_kind as topology_kind_of, path_kind as path_kind_of, kind as kind_of, named as name_of, inner_kind as inner_kind_of, next_word, terse as terse_of};
+ghost use Rattle.policy_file.specs.Terse.{expr_kind as expr_kind_of, topology_kind as topology_kind_of};
+ghost use Rattle.policy_file.specs.Terse.{path_kind as path_kind_of, kind as kind_of, named as name_of};
+ghost use Rattle.policy_file.specs.Terse.{inner_kind as inner_kind_of, next_word, terse as terse_of};
 
 use crate::fault::PolicyFault;
 use crate::section::push_word;

@@ -1,10 +1,20 @@
 //! Values of keys.
-ghost use Rattle.std.specs.Prelude.{◌≡◌, ◌==◌, true, Some, None, if◌then◌else◌, ◌<◌, ◌≤◌, ◌&&◌, IfOk, IfSome, length, position, option_map};
+ghost use Rattle.std.specs.Prelude.{◌≡◌, ◌==◌, true, Some, None, if◌then◌else◌, ◌<◌, ◌≤◌, ◌&&◌, IfOk, IfSome, length};
+ghost use Rattle.std.specs.Prelude.{position, option_map};
 ghost use Rattle.cv_io.specs.Text.{IsAsciiText};
 ghost use Rattle.std.specs.Char.{is_ascii};
 ghost use Rattle.std.specs.List.{list_all};
 ghost use Rattle.toml.specs.View.{view};
-ghost use Rattle.policy_file.specs.Values.{number as number_of, if_fits, is_printable as is_printable_of, is_address as is_address_of, address as address_of, is_name_byte as is_name_byte_of, is_name as is_name_of, name as name_of, expression as expression_of, digit as digit_of, hexadecimal as hexadecimal_of, dpid as dpid_of, decimal_of, decimal_digit as decimal_digit_of, is_short as is_short_of, decimal_within as decimal_within_of, split_at_first as split_at_first_of, place as place_of, port_place as port_place_of, virtual_port as virtual_port_of, port as port_of, ports as ports_of, are_distinct as are_distinct_by, if_distinct as if_distinct_by};
+ghost use Rattle.policy_file.specs.Values.{number as number_of, if_fits, is_printable as is_printable_of};
+ghost use Rattle.policy_file.specs.Values.{is_address as is_address_of, address as address_of};
+ghost use Rattle.policy_file.specs.Values.{is_name_byte as is_name_byte_of, is_name as is_name_of, name as name_of};
+ghost use Rattle.policy_file.specs.Values.{expression as expression_of, digit as digit_of};
+ghost use Rattle.policy_file.specs.Values.{hexadecimal as hexadecimal_of, dpid as dpid_of, decimal_of};
+ghost use Rattle.policy_file.specs.Values.{decimal_digit as decimal_digit_of, is_short as is_short_of};
+ghost use Rattle.policy_file.specs.Values.{decimal_within as decimal_within_of, split_at_first as split_at_first_of};
+ghost use Rattle.policy_file.specs.Values.{place as place_of, port_place as port_place_of};
+ghost use Rattle.policy_file.specs.Values.{virtual_port as virtual_port_of, port as port_of, ports as ports_of};
+ghost use Rattle.policy_file.specs.Values.{are_distinct as are_distinct_by, if_distinct as if_distinct_by};
 ghost use Rattle.std.specs.BTreeSet.{IsFromIterResult};
 ghost use Rattle.std.specs.Ordering.{eq_by_cmp};
 ghost use Rattle.toml.specs.Data.{same_key};

@@ -3,7 +3,9 @@ ghost use Rattle.std.specs.Prelude.{◌≡◌, ◌++◌, IfOk, OnOk, map};
 ghost use Rattle.std.specs.List.{enumerate_from};
 ghost use Rattle.policy_expr.specs.Policy.{policy_of, members_of};
 ghost use Rattle.virtual_topology.specs.Faults.{Answers};
-ghost use Rattle.policy_file.specs.Widths.{bits_of, size as size_of_expr, number_at as number_at_of, beyond as beyond_of, greatest, over_hop, AreWidths, too_wide, too_wide_among, too_wide_in};
+ghost use Rattle.policy_file.specs.Widths.{bits_of, size as size_of_expr, number_at as number_at_of};
+ghost use Rattle.policy_file.specs.Widths.{beyond as beyond_of, greatest, over_hop, AreWidths, too_wide};
+ghost use Rattle.policy_file.specs.Widths.{too_wide_among, too_wide_in};
 
 use crate::fault::PolicyFault;
 use crate::numbers::{number, number_at};
@@ -90,7 +92,8 @@ fn with_a_hop(
     sizes: &[u64],
     needed: &[u64],
 ) -> Result<Vec<u64>, Memory>
-    ensures { IfOk result (λ next. next.items ≡ map (over_hop topology.now sizes.now (number_at_of needed.now)) (enumerate_from 0 virtuals.now)) }
+    ensures { IfOk result (λ next. next.items ≡ map (over_hop topology.now sizes.now (number_at_of needed.now))
+        (enumerate_from 0 virtuals.now)) }
 {
     let mut next = Vec::new(alloc);
     for (v, item) in virtuals.iter().enumerate() {

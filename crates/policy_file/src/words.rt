@@ -3,7 +3,10 @@ ghost use Rattle.std.specs.Prelude.{◌≡◌, ◌<◌, IfOk, map, option_map};
 ghost use Rattle.toml.specs.View.{view};
 ghost use Rattle.toml.specs.Data.{same_key};
 ghost use Rattle.policy_file.specs.Values.{are_distinct as are_distinct_by, each_of, virtual_port as virtual_port_of};
-ghost use Rattle.policy_file.specs.Words.{virtual_ports as virtual_ports_of, with_bit as with_bit_of, kind as kind_of, actions as actions_of, field as field_of, field_and_bits as field_and_bits_of, fields as fields_of, words as words_of, nothing, with_field, with_kind as with_kind_of, with_named as with_named_of};
+ghost use Rattle.policy_file.specs.Words.{virtual_ports as virtual_ports_of, with_bit as with_bit_of, kind as kind_of};
+ghost use Rattle.policy_file.specs.Words.{actions as actions_of, field as field_of};
+ghost use Rattle.policy_file.specs.Words.{field_and_bits as field_and_bits_of, fields as fields_of, words as words_of};
+ghost use Rattle.policy_file.specs.Words.{nothing, with_field, with_kind as with_kind_of, with_named as with_named_of};
 
 use crate::tables::list;
 use crate::values::{are_distinct, are_same, decimal_within, split_at_first, virtual_port};

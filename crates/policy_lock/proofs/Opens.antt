@@ -1,5 +1,6 @@
 -- Of the seats that a lock begins with none is missing.
-use Rattle.std.proofs.Common.{◌≡◌, ℕ, zero, suc, ◌<◌, ◌+◌, ◌-◌, Bool, true, false, List, [], ◌∷◌, ◌++◌, refl, sym, ap, ◌∙◌, arith}
+use Rattle.std.proofs.Common.{◌≡◌, ℕ, zero, suc, ◌<◌, ◌+◌, ◌-◌, Bool, true, false, List, [], ◌∷◌, ◌++◌, refl, sym, ap}
+use Rattle.std.proofs.Common.{◌∙◌, arith}
 use mathlib.Core.Logic.{dite}
 use native.Mathlib.Decide.{ℕ_discrete}
 use Rattle.std.proofs.lemmas.Bool.{false≢true}
@@ -19,22 +20,33 @@ or_true : (b : Bool) → (b || true) ≡ true
 or_true true = refl
 or_true false = refl
 
-none_missing : (all : List Numbered) (k : ℕ) → ((j : ℕ) → j < k → has_number (j ∷ []) all ≡ true) → missing_children all [] k ≡ 0
+none_missing : (all : List Numbered) (k : ℕ) → ((j : ℕ) → j < k → has_number (j ∷ []) all ≡ true)
+    → missing_children all [] k ≡ 0
 none_missing all zero f = refl
-none_missing all (suc k) f = let here : lacks all (k ∷ []) ≡ 0 = ap (λ (b : Bool). if b then 0 else 1) (f k (omega arith)) in let t = none_missing all k (λ j lt. f j (omega arith)) in omega arith
+none_missing all (suc k) f = let here : lacks all (k ∷ []) ≡ 0 =
+    ap (λ (b : Bool). if b then 0 else 1) (f k (omega arith)) in let t =
+    none_missing all k (λ j lt. f j (omega arith)) in omega arith
 
 module _ {E R S : Type 0} where
-  has_number-snoc : (n : List ℕ) (seats : List (SeatOf E R S)) (x : SeatOf E R S) → has_number n (numbers seats) ≡ true → has_number n (numbers (seats ++ x ∷ [])) ≡ true
+  has_number-snoc : (n : List ℕ) (seats : List (SeatOf E R S)) (x : SeatOf E R S) → has_number n (numbers seats) ≡ true
+      → has_number n (numbers (seats ++ x ∷ [])) ≡ true
   has_number-snoc n [] x h = absurd (false≢true h)
-  has_number-snoc n (y ∷ ys) x h = still (same_number y.pass.number n) (has_number n (numbers ys)) (has_number n (numbers (ys ++ x ∷ []))) (has_number-snoc n ys x) h
+  has_number-snoc n (y ∷ ys) x h = still (same_number y.pass.number n) (has_number n (numbers ys))
+      (has_number n (numbers (ys ++ x ∷ []))) (has_number-snoc n ys x) h
 
-  has_number-last : (n : List ℕ) (seats : List (SeatOf E R S)) (x : SeatOf E R S) → x.pass.number ≡ n → has_number n (numbers (seats ++ x ∷ [])) ≡ true
+  has_number-last : (n : List ℕ) (seats : List (SeatOf E R S)) (x : SeatOf E R S) → x.pass.number ≡ n
+      → has_number n (numbers (seats ++ x ∷ [])) ≡ true
   has_number-last n [] x is = ap (λ b. b || false) (same-eq x.pass.number n is)
-  has_number-last n (y ∷ ys) x is = ap (λ b. same_number y.pass.number n || b) (has_number-last n ys x is) ∙ or_true (same_number y.pass.number n)
+  has_number-last n (y ∷ ys) x is = ap (λ b. same_number y.pass.number n || b) (has_number-last n ys x is)
+      ∙ or_true (same_number y.pass.number n)
 
-  missing_below-snoc : (all : List Numbered) (seats : List (SeatOf E R S)) (x : SeatOf E R S) → missing_below all (numbers seats) ≡ 0 → x.pass.children ≡ 0 → missing_below all (numbers (seats ++ x ∷ [])) ≡ 0
-  missing_below-snoc all [] x h none = let t : missing_children all x.pass.number x.pass.children ≡ 0 = ap (missing_children all x.pass.number) none in omega arith
-  missing_below-snoc all (y ∷ ys) x h none = let parts : missing_children all y.pass.number y.pass.children + missing_below all (numbers ys) ≡ 0 = h in let t = missing_below-snoc all ys x (omega arith) none in omega arith
+  missing_below-snoc : (all : List Numbered) (seats : List (SeatOf E R S)) (x : SeatOf E R S)
+      → missing_below all (numbers seats) ≡ 0 → x.pass.children ≡ 0 → missing_below all (numbers (seats ++ x ∷ [])) ≡ 0
+  missing_below-snoc all [] x h none = let t : missing_children all x.pass.number x.pass.children ≡ 0 =
+      ap (missing_children all x.pass.number) none in omega arith
+  missing_below-snoc all (y ∷ ys) x h none =
+      let parts : missing_children all y.pass.number y.pass.children + missing_below all (numbers ys) ≡ 0 = h in let t =
+      missing_below-snoc all ys x (omega arith) none in omega arith
 
 module _ (E R : Type 0) {S : Type 0} (lock : LockOf S) where
   abbrev Children : ℕ → List (SeatOf E R S)
@@ -42,7 +54,8 @@ module _ (E R : Type 0) {S : Type 0} (lock : LockOf S) where
 
   their_children : (k : ℕ) → All (IsSeatOf lock) (Children k)
   their_children zero = λ j d lt. absurd (omega arith)
-  their_children (suc k) = All-push (IsSeatOf lock) (Children k) (new_seat lock (k ∷ []) 0) (their_children k) (refl, refl)
+  their_children (suc k) = All-push (IsSeatOf lock) (Children k) (new_seat lock (k ∷ []) 0) (their_children k)
+      (refl, refl)
 
   child_is_there : (k j : ℕ) → j < k → has_number (j ∷ []) (numbers (Children k)) ≡ true
   child_is_there zero j lt = absurd (omega arith)
@@ -59,5 +72,6 @@ module _ (E R : Type 0) {S : Type 0} (lock : LockOf S) where
   theirs n (suc k) d lt = their_children (n - 1) k d (omega arith)
 
   pub all_there : (n : ℕ) → missing (numbers (opening_seats {E = E} {R = R} lock n)) ≡ 0
-  all_there n = let all = numbers (opening_seats {E = E} {R = R} lock n) in let a = none_missing all (n - 1) (λ j lt. child_is_there (n - 1) j lt) in let b = none_below all (n - 1) in
+  all_there n = let all = numbers (opening_seats {E = E} {R = R} lock n) in let a =
+      none_missing all (n - 1) (λ j lt. child_is_there (n - 1) j lt) in let b = none_below all (n - 1) in
       omega arith

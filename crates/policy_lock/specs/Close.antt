@@ -10,7 +10,8 @@ use Rattle.policy_lock.specs.Number.{numbers, has_number}
 module _ {E R S : Type 0} where
   -- what the seat has seen begins the history, and the entries under its number are its calls
   abbrev pub HasSeen : List (Entry E R) → SeatOf E R S → Type 0
-  HasSeen log seat = IsPrefix seat.pass.seen log × (calls_by seat.pass.number log ≡ calls_by seat.pass.number seat.pass.seen)
+  HasSeen log seat = IsPrefix seat.pass.seen log
+      × (calls_by seat.pass.number log ≡ calls_by seat.pass.number seat.pass.seen)
 
 module _ {M E R S : Type 0} (g : Ghosts M E R S) where
   -- the machine is what the one history of these seats made of it

@@ -1,5 +1,6 @@
 -- What the locked value stands for, and what a post does to it.
-use Rattle.std.specs.Prelude.{◌≡◌, ℕ, ◌+◌, ◌-◌, ◌<◌, ◌≤◌, take, drop, true, false, List, [], ◌∷◌, ◌++◌, length, Result, Ok, Err}
+use Rattle.std.specs.Prelude.{◌≡◌, ℕ, ◌+◌, ◌-◌, ◌<◌, ◌≤◌, take, drop, true, false, List, [], ◌∷◌, ◌++◌, length, Result}
+use Rattle.std.specs.Prelude.{Ok, Err}
 use Rattle.cv_io.specs.declared.memory.Memory.{Memory}
 use Rattle.policy_lock.specs.declared.machine.Machine.{Ghosts}
 use Rattle.policy_lock.specs.declared.locked.Locked.{Locked}
@@ -38,13 +39,15 @@ module _ {M E R S : Type 0} (g : Ghosts M E R S) where
 
   -- the event is idle after the history, and this is its reply
   abbrev pub IsIdle : Locked M E R S g → E → R → Type 0
-  IsIdle x e r = (s : S) (log : List (Entry E R)) → Stands s x log → (g.idle (after g s log) e ≡ true) × (r ≡ g.reply (after g s log) e)
+  IsIdle x e r = (s : S) (log : List (Entry E R)) → Stands s x log
+      → (g.idle (after g s log) e ≡ true) × (r ≡ g.reply (after g s log) e)
 
   -- the event was stored, and is the next entry, under whichever number
   abbrev pub Stores : Locked M E R S g → E → R → Locked M E R S g → Type 0
   Stores x e r y = ((old : List E) × (y.events.items ≡ old ++ e ∷ []))
       × ((s : S) (log : List (Entry E R)) → Stands s x log
-      → (g.idle (after g s log) e ≡ false) × (r ≡ g.reply (after g s log) e) × ((n : List ℕ) → Stands s y (log ++ entry n e r ∷ [])))
+      → (g.idle (after g s log) e ≡ false) × (r ≡ g.reply (after g s log) e)
+      × ((n : List ℕ) → Stands s y (log ++ entry n e r ∷ [])))
 
   -- the event was answered, or stored, or nothing changed for want of memory
   abbrev pub IsApplied : Locked M E R S g → E → Locked M E R S g → Result (Applied R) Memory → Type 0
@@ -54,6 +57,7 @@ module _ {M E R S : Type 0} (g : Ghosts M E R S) where
 
   -- what is stored after a place: at most 256 events; none; or nothing, since the stored events begin later
   abbrev pub IsStoredAfter : Locked M E R S g → ℕ → After E → Type 0
-  IsStoredAfter x place (Events list) = (x.before ≤ place) × (list ≡ take 256 (drop (place - x.before) x.events.items)) × (0 < length list)
+  IsStoredAfter x place (Events list) = (x.before ≤ place) × (list ≡ take 256 (drop (place - x.before) x.events.items))
+      × (0 < length list)
   IsStoredAfter x place (Waiting at) = (at ≡ place) × (x.before + length x.events.items ≤ place)
   IsStoredAfter x place (Past first) = (first ≡ x.before) × (place < first)

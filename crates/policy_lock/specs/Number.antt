@@ -1,4 +1,5 @@
--- The numbers of seats, and how many seats are missing among some. The first seat's number is empty. The seats split off a seat have its number behind 0, 1 and so on.
+-- The numbers of seats, and how many seats are missing among some. The first seat's number is empty. The seats split
+-- off a seat have its number behind 0, 1 and so on.
 use Rattle.std.specs.Prelude.{ℕ, zero, suc, ◌+◌, ◌∷◌, [], ◌||◌, Bool, false, List, map, if◌then◌else◌}
 use Rattle.policy_lock.specs.declared.view.Pass.{Pass}
 use Rattle.policy_lock.specs.History.{same_number}

@@ -5,7 +5,8 @@ use Rattle.policy_lock.specs.Seat.{LockOf, SeatOf}
 module _ {E R S : Type 0} where
   -- a seat of the lock that has seen nothing
   abbrev pub new_seat : LockOf S → List ℕ → ℕ → SeatOf E R S
-  new_seat lock n k = record { lock = lock.id; pass = record { start = Some lock.start; number = n; children = k; seen = [] } }
+  new_seat lock n k =
+      record { lock = lock.id; pass = record { start = Some lock.start; number = n; children = k; seen = [] } }
 
   -- so many seats that were split off the first one
   abbrev pub children_of_first : LockOf S → ℕ → List (SeatOf E R S)

@@ -8,7 +8,8 @@ use Rattle.policy_lock.specs.History.{after, entry, calls_by}
 use Rattle.policy_lock.specs.Seat.{IsLater}
 
 module _ {M E R S : Type 0} (g : Ghosts M E R S) (start : S) where
-  -- The seat of the pass v posted the event, was answered place and reply, and has the pass w since. The count of steps went from a to b
+  -- The seat of the pass v posted the event, was answered place and reply, and has the pass w since. The count of steps
+  -- went from a to b
   pub record IsPosted (v w : Pass E R S) (event : E) (place : ℕ) (reply : R) (a b : ℕ) : Type 0 where
     -- the history after which the event was done
     pub before : List (Entry E R)

@@ -20,7 +20,8 @@ Roster = List ℕ → maybe.Option ℕ
 module _ {E R S : Type 0} (start : S) (log : List (Entry E R)) (roster : Roster) (j : ℕ) where
   -- the pass is true of the history, and its number is the view j's, as are those that it can still give
   abbrev pub Known : Pass E R S → Type 0
-  Known p = (p.start ≡ Some start) × IsPrefix p.seen log × (calls_by p.number log ≡ calls_by p.number p.seen) × (roster p.number ≡ some j) × ((k : ℕ) → p.children ≤ k → roster (k ∷ p.number) ≡ none)
+  Known p = (p.start ≡ Some start) × IsPrefix p.seen log × (calls_by p.number log ≡ calls_by p.number p.seen)
+      × (roster p.number ≡ some j) × ((k : ℕ) → p.children ≤ k → roster (k ∷ p.number) ≡ none)
 
   -- each of these passes is
   abbrev pub AllKnown : List (Pass E R S) → Type 0
@@ -57,6 +58,9 @@ module _ {M E R S : Type 0} (g : Ghosts M E R S) where
     -- a number that was not given has no entry, and none below it was given
     pub unborn : (n : List ℕ) → roster n ≡ none → calls_by n log ≡ []
     pub parents : (n : List ℕ) (k : ℕ) → roster n ≡ none → roster (k ∷ n) ≡ none
-    pub out : (j : ℕ) (v : View E R S) → get_elem? s.views j ≡ some v → v.holds ≡ true → IsHolder (slice_index s.words 0) log holder j v
-    pub busy : slice_index s.words 0 % 2 ≡ 1 → (v : View E R S) × (get_elem? s.views holder ≡ some v) × (v.holds ≡ true) × (v.seated ≡ true)
-    pub home : slice_index s.words 0 % 2 ≡ 0 → (x : Held M E R S g) × (get_elem? s.homes 0 ≡ some (some (Some x))) × Stands g start x.boxed.value log
+    pub out : (j : ℕ) (v : View E R S) → get_elem? s.views j ≡ some v → v.holds ≡ true
+        → IsHolder (slice_index s.words 0) log holder j v
+    pub busy : slice_index s.words 0 % 2 ≡ 1 → (v : View E R S) × (get_elem? s.views holder ≡ some v) × (v.holds ≡ true)
+        × (v.seated ≡ true)
+    pub home : slice_index s.words 0 % 2 ≡ 0 → (x : Held M E R S g) × (get_elem? s.homes 0 ≡ some (some (Some x)))
+        × Stands g start x.boxed.value log

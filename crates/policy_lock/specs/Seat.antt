@@ -22,7 +22,8 @@ module _ {E R S : Type 0} where
 
   -- the same seat, which may have seen another history
   abbrev pub IsSameSeat : SeatOf E R S → SeatOf E R S → Type 0
-  IsSameSeat old new = (new.lock ≡ old.lock) × (new.pass.start ≡ old.pass.start) × (new.pass.number ≡ old.pass.number) × (new.pass.children ≡ old.pass.children)
+  IsSameSeat old new = (new.lock ≡ old.lock) × (new.pass.start ≡ old.pass.start) × (new.pass.number ≡ old.pass.number)
+      × (new.pass.children ≡ old.pass.children)
 
   -- the seat has seen as much or more since, and has made no call in between
   abbrev pub IsLater : Pass E R S → Pass E R S → Type 0

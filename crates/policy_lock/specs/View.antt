@@ -14,7 +14,13 @@ module _ {E R S : Type 0} where
 
   -- the view of a token that was joined to another
   abbrev pub spent : View E R S
-  spent = record { seated = false; pass = record { start = None; number = []; children = 0; seen = [] }; told = []; holds = false; gathered = [] }
+  spent = record {
+    seated = false;
+    pass = record { start = None; number = []; children = 0; seen = [] };
+    told = [];
+    holds = false;
+    gathered = [];
+  }
 
   -- the first seat of a lock
   abbrev pub first_view : S → View E R S

@@ -12,7 +12,8 @@ three = entry [] 5 5 ∷ entry (0 ∷ []) 6 11 ∷ entry [] 7 18 ∷ []
 
 -- the calls of each seat
 abbrev pub CallsAreOwn : Type 0
-CallsAreOwn = (calls_by [] three ≡ entry [] 5 5 ∷ entry [] 7 18 ∷ []) × (calls_by (0 ∷ []) three ≡ entry (0 ∷ []) 6 11 ∷ []) × (calls_by (1 ∷ []) three ≡ [])
+CallsAreOwn = (calls_by [] three ≡ entry [] 5 5 ∷ entry [] 7 18 ∷ [])
+    × (calls_by (0 ∷ []) three ≡ entry (0 ∷ []) 6 11 ∷ []) × (calls_by (1 ∷ []) three ≡ [])
 
 -- two events follow the first place, and none the third
 abbrev pub EventsFollow : Type 0
@@ -20,4 +21,5 @@ EventsFollow = IsAfter three 1 (Events (6 ∷ 7 ∷ [])) × IsAfter three 3 (Wai
 
 -- of two seats the second is missing beside the first, the first beside the second, and none of both
 abbrev pub SeatsAreMissing : Type 0
-SeatsAreMissing = (missing (([], 1) ∷ []) ≡ 1) × (missing ((0 ∷ [], 0) ∷ []) ≡ 1) × (missing (([], 1) ∷ (0 ∷ [], 0) ∷ []) ≡ 0)
+SeatsAreMissing = (missing (([], 1) ∷ []) ≡ 1) × (missing ((0 ∷ [], 0) ∷ []) ≡ 1)
+    × (missing (([], 1) ∷ (0 ∷ [], 0) ∷ []) ≡ 0)

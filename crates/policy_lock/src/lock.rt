@@ -63,7 +63,8 @@ impl<M: Machine> Model for Seat<M> {
 
     ghost view = { λ seat. record { lock = seat.token.table_id; pass = seat.token.me.0.pass } };
 
-    ghost invariant = { λ seat. IsAtRest seat.token.me × (seat.token.me.0.pass.number ≡ seat.number) × (seat.token.me.0.pass.children ≡ seat.children) };
+    ghost invariant = { λ seat. IsAtRest seat.token.me × (seat.token.me.0.pass.number ≡ seat.number)
+        × (seat.token.me.0.pass.children ≡ seat.children) };
 }
 
 /// What a post answers.

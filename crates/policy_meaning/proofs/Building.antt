@@ -36,7 +36,8 @@ tail-nothing (Link s port) = extends-nothing s
 abbrev TailOver : Tail → Out → Type 0
 TailOver t o = TailExtends t o.rewrite
 
-rises-from : (r : RewriteOf) (outs : List Out) (t : Tail) → EachExtends r outs → AllByRecursion (TailOver t) outs → TailExtends t r → Rises r outs t
+rises-from : (r : RewriteOf) (outs : List Out) (t : Tail) → EachExtends r outs → AllByRecursion (TailOver t) outs
+    → TailExtends t r → Rises r outs t
 rises-from r [] t e a p = p
 rises-from r (o ∷ os) t e a p = (e.0, rises-from o.rewrite os t e.1 a.1 a.0)
 
@@ -74,31 +75,38 @@ tail-after r q (Pass s) p = extends-after r q s p
 tail-after r q (Link s port) p = extends-after r q s p
 
 -- after a rewrite
-pub rises-after : (r q : RewriteOf) (outs : List Out) (t : Tail) → Rises q outs t → Rises (and_then r q) (map (out_after r) outs) (tail_after r t)
+pub rises-after : (r q : RewriteOf) (outs : List Out) (t : Tail) → Rises q outs t
+    → Rises (and_then r q) (map (out_after r) outs) (tail_after r t)
 rises-after r q [] t p = tail-after r q t p
 rises-after r q (o ∷ os) t p = (extends-after r q o.rewrite p.0, rises-after r o.rewrite os t p.1)
 
 -- after outs whose rewrites all are extended by r
-pub rises-then : (s : RewriteOf) (outs : List Out) (r : RewriteOf) (bs : List Out) (t : Tail) → Rises s outs (Pass r) → Rises no_rewrite bs t → Rises s (outs ++ map (out_after r) bs) (tail_after r t)
+pub rises-then : (s : RewriteOf) (outs : List Out) (r : RewriteOf) (bs : List Out) (t : Tail) → Rises s outs (Pass r)
+    → Rises no_rewrite bs t → Rises s (outs ++ map (out_after r) bs) (tail_after r t)
 rises-then s [] r bs t p q = rises-lower r s (map (out_after r) bs) (tail_after r t) p (rises-after r no_rewrite bs t q)
 rises-then s (o ∷ os) r bs t p q = (p.0, rises-then o.rewrite os r bs t p.1 q)
 
-pub rises-link : (s : RewriteOf) (outs : List Out) (r : RewriteOf) (port : ℕ) → Rises s outs (Link r port) → Rises s outs (Pass r)
+pub rises-link : (s : RewriteOf) (outs : List Out) (r : RewriteOf) (port : ℕ) → Rises s outs (Link r port)
+    → Rises s outs (Pass r)
 rises-link s [] r port p = p
 rises-link s (o ∷ os) r port p = (p.0, rises-link o.rewrite os r port p.1)
 
 -- after outs that set nothing
-pub rises-plain : (outs bs : List Out) (t : Tail) → AllByRecursion (λ (o : Out). o.rewrite ≡ no_rewrite) outs → Rises no_rewrite bs t → Rises no_rewrite (outs ++ bs) t
+pub rises-plain : (outs bs : List Out) (t : Tail) → AllByRecursion (λ (o : Out). o.rewrite ≡ no_rewrite) outs
+    → Rises no_rewrite bs t → Rises no_rewrite (outs ++ bs) t
 rises-plain [] bs t a p = p
-rises-plain (o ∷ os) bs t a p = (extends-nothing o.rewrite, subst (λ r. Rises r (os ++ bs) t) (sym a.0) (rises-plain os bs t a.1 p))
+rises-plain (o ∷ os) bs t a p =
+    (extends-nothing o.rewrite, subst (λ r. Rises r (os ++ bs) t) (sym a.0) (rises-plain os bs t a.1 p))
 
 -- at the node of a port
 module _ (v port : ℕ) where
-  silent : (r q : RewriteOf) (b : Bool) (d : Dest) (rest : List Out) (t : Tail) → Extends q r → Rises q rest t → Rises r (cons_option (if b then None else Some (record { rewrite = q; dest = d })) rest) t
+  silent : (r q : RewriteOf) (b : Bool) (d : Dest) (rest : List Out) (t : Tail) → Extends q r → Rises q rest t
+      → Rises r (cons_option (if b then None else Some (record { rewrite = q; dest = d })) rest) t
   silent r q true d rest t e p = rises-lower q r rest t e p
   silent r q false d rest t e p = (e, p)
 
-  kept : (r q : RewriteOf) (d : Dest) (rest : List Out) (t : Tail) → Extends q r → Rises q rest t → Rises r (cons_option (out_at v port q d) rest) t
+  kept : (r q : RewriteOf) (d : Dest) (rest : List Out) (t : Tail) → Extends q r → Rises q rest t
+      → Rises r (cons_option (out_at v port q d) rest) t
   kept r q (Port w p) rest t e a = silent r q _ (Port w p) rest t e a
   kept r q (Flood w p) rest t e a = silent r q _ (Flood w p) rest t e a
   kept r q Ingress rest t e a = (e, a)

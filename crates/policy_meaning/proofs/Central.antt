@@ -13,7 +13,8 @@ use Rattle.policy_expr.specs.Sizes.{size_of}
 use Rattle.policy_meaning.specs.Meaning.{evaluate}
 use Rattle.policy_meaning.specs.Rules.{rules_of}
 use Rattle.policy_meaning.specs.Best.{IsSound, BuildUp, Says}
-use Rattle.policy_meaning.specs.CentralFact.{IsPlainRule, EachMember, EachLeft, AreSoundLeaves, IsPlainLeaf, CentralFact, RulesAreSound}
+use Rattle.policy_meaning.specs.CentralFact.{IsPlainRule, EachMember, EachLeft, AreSoundLeaves, IsPlainLeaf}
+use Rattle.policy_meaning.specs.CentralFact.{CentralFact, RulesAreSound}
 use Rattle.policy_meaning.specs.declared.meaning.Meaning.{Meaning}
 use Rattle.policy_meaning.specs.declared.rule.Rule.{Rule}
 use Rattle.policy_meaning.proofs.Lists.{all-map, all-zip, all-append}
@@ -43,7 +44,8 @@ not-passing : (t : Tail) (r : RewriteOf) → t ≡ Nothing → t ≡ Pass r → 
 not-passing t r e p = cc
 
 sum-builds : (a x : Rule) → PlainBuilds a → Builds x → BuildUp (a.outs ++ x.outs) x.tail
-sum-builds a x p q = builds (a.outs ++ x.outs) x.tail (rises-plain a.outs x.outs x.tail p.0.sets (rises x.outs x.tail q))
+sum-builds a x p q = builds (a.outs ++ x.outs) x.tail
+    (rises-plain a.outs x.outs x.tail p.0.sets (rises x.outs x.tail q))
 
 module _ (sizes : ℕ → ℕ) (rules : ℕ → List Rule) where
   abbrev Of : (Rule → Type 0) → Policy → Type 0
@@ -55,36 +57,52 @@ module _ (sizes : ℕ → ℕ) (rules : ℕ → List Rule) where
   pub all-normal : (e : Policy) → EachMember (OfLeaf HasNormal) e → Of HasNormal e
   all-normal (member i) p = p
   all-normal (parallel a b) p =
-      each-sum HasNormal HasNormal HasNormal (λ x y nx ny o. IsNormal-both x.m y.m o nx ny) (rules_of sizes rules a) (rules_of sizes rules b) (all-normal a p.0) (all-normal b p.1)
+      each-sum HasNormal HasNormal HasNormal (λ x y nx ny o. IsNormal-both x.m y.m o nx ny) (rules_of sizes rules a)
+      (rules_of sizes rules b) (all-normal a p.0) (all-normal b p.1)
   all-normal (sequential a b) p =
-      each-chain HasNormal HasNormal HasNormal (size_of sizes b) (λ x n. n) (λ x y r t nx ny o. IsNormal-both x.m (pulled r y.m) o nx (normal-pulled r y.m ny)) (rules_of sizes rules a) (rules_of sizes rules b) (all-normal a p.0) (all-normal b p.1)
+      each-chain HasNormal HasNormal HasNormal (size_of sizes b) (λ x n. n)
+      (λ x y r t nx ny o. IsNormal-both x.m (pulled r y.m) o nx (normal-pulled r y.m ny)) (rules_of sizes rules a)
+      (rules_of sizes rules b) (all-normal a p.0) (all-normal b p.1)
   all-normal (override a b) p =
-      each-shift HasNormal HasNormal HasNormal (size_of sizes b) (λ x n. n) (rules_of sizes rules a) (rules_of sizes rules b) (all-normal a p.0) (all-normal b p.1)
+      each-shift HasNormal HasNormal HasNormal (size_of sizes b) (λ x n. n) (rules_of sizes rules a)
+      (rules_of sizes rules b) (all-normal a p.0) (all-normal b p.1)
 
   pub all-plain : (e : Policy) → EachMember (OfLeaf IsPlainRule) e → Of IsPlainRule e
   all-plain (member i) p = p
   all-plain (parallel a b) p =
-      each-sum IsPlainRule IsPlainRule IsPlainRule (λ x y px py o. record { sets = all-append (λ (o : Out). o.rewrite ≡ no_rewrite) x.outs y.outs px.sets py.sets; ends = py.ends }) (rules_of sizes rules a) (rules_of sizes rules b) (all-plain a p.0) (all-plain b p.1)
+      each-sum IsPlainRule IsPlainRule IsPlainRule
+      (λ x y px py o. record
+      { sets = all-append (λ (o : Out). o.rewrite ≡ no_rewrite) x.outs y.outs px.sets py.sets; ends = py.ends })
+      (rules_of sizes rules a) (rules_of sizes rules b) (all-plain a p.0) (all-plain b p.1)
   all-plain (sequential a b) p =
-      each-chain IsPlainRule IsPlainRule IsPlainRule (size_of sizes b) (λ x n. record { sets = n.sets; ends = n.ends }) (λ x y r t px py o. absurd (not-passing x.tail r px.ends t)) (rules_of sizes rules a) (rules_of sizes rules b) (all-plain a p.0) (all-plain b p.1)
+      each-chain IsPlainRule IsPlainRule IsPlainRule (size_of sizes b) (λ x n. record { sets = n.sets; ends = n.ends })
+      (λ x y r t px py o. absurd (not-passing x.tail r px.ends t)) (rules_of sizes rules a) (rules_of sizes rules b)
+      (all-plain a p.0) (all-plain b p.1)
   all-plain (override a b) p =
-      each-shift IsPlainRule IsPlainRule IsPlainRule (size_of sizes b) (λ x n. record { sets = n.sets; ends = n.ends }) (rules_of sizes rules a) (rules_of sizes rules b) (all-plain a p.0) (all-plain b p.1)
+      each-shift IsPlainRule IsPlainRule IsPlainRule (size_of sizes b) (λ x n. record { sets = n.sets; ends = n.ends })
+      (rules_of sizes rules a) (rules_of sizes rules b) (all-plain a p.0) (all-plain b p.1)
 
   all-builds : (e : Policy) → EachMember (OfLeaf Builds) e → EachLeft (IsPlainLeaf rules) e → Of Builds e
   all-builds (member i) p l = p
   all-builds (parallel a b) p l =
-      each-sum PlainBuilds Builds Builds (λ x y px py o. sum-builds x y px py) (rules_of sizes rules a) (rules_of sizes rules b)
-      (all-zip IsPlainRule Builds (rules_of sizes rules a) (all-plain a l.0) (all-builds a p.0 l.1)) (all-builds b p.1 l.2)
+      each-sum PlainBuilds Builds Builds (λ x y px py o. sum-builds x y px py) (rules_of sizes rules a)
+      (rules_of sizes rules b)
+      (all-zip IsPlainRule Builds (rules_of sizes rules a) (all-plain a l.0) (all-builds a p.0 l.1))
+      (all-builds b p.1 l.2)
   all-builds (sequential a b) p l =
       each-chain Builds Builds Builds (size_of sizes b) (λ x n. n)
-      (λ x y r t px py o. builds _ _ (rises-then no_rewrite x.outs r y.outs y.tail (let q : Rises no_rewrite x.outs x.tail = rises x.outs x.tail px in rw t at q) (rises y.outs y.tail py)))
+      (λ x y r t px py o. builds _ _
+      (rises-then no_rewrite x.outs r y.outs y.tail
+      (let q : Rises no_rewrite x.outs x.tail = rises x.outs x.tail px in rw t at q) (rises y.outs y.tail py)))
       (rules_of sizes rules a) (rules_of sizes rules b) (all-builds a p.0 l.0) (all-builds b p.1 l.1)
   all-builds (override a b) p l =
-      each-shift Builds Builds Builds (size_of sizes b) (λ x n. n) (rules_of sizes rules a) (rules_of sizes rules b) (all-builds a p.0 l.0) (all-builds b p.1 l.1)
+      each-shift Builds Builds Builds (size_of sizes b) (λ x n. n) (rules_of sizes rules a) (rules_of sizes rules b)
+      (all-builds a p.0 l.0) (all-builds b p.1 l.1)
 
 pub rules-are-sound : RulesAreSound
 rules-are-sound sizes rules e p l =
-    all-map (λ r. HasNormal r × Builds r) IsSound (rules_of sizes rules e) (λ r q. record { is_normal = q.0; builds = q.1 })
+    all-map (λ r. HasNormal r × Builds r) IsSound (rules_of sizes rules e)
+    (λ r q. record { is_normal = q.0; builds = q.1 })
     (all-zip HasNormal Builds (rules_of sizes rules e)
     (all-normal sizes rules e (each-member _ _ (λ i s. all-map IsSound HasNormal (rules i) (λ r q. q.is_normal) s) e p))
     (all-builds sizes rules e (each-member _ _ (λ i s. all-map IsSound Builds (rules i) (λ r q. q.builds) s) e p) l))
@@ -94,16 +112,23 @@ module _ (port : ℕ → Bool) (sizes : ℕ → ℕ) (rules : ℕ → List Rule)
   Good e = EachMember (AreSoundLeaves port sizes rules leaf) e
 
   normal : (e : Policy) → Good e → AllByRecursion HasNormal (rules_of sizes rules e)
-  normal e p = all-normal sizes rules e (each-member (AreSoundLeaves port sizes rules leaf) (λ i. AllByRecursion HasNormal (rules i)) (λ i s. all-map IsSound HasNormal (rules i) (λ r q. q.is_normal) s.sound) e p)
+  normal e p = all-normal sizes rules e
+      (each-member (AreSoundLeaves port sizes rules leaf) (λ i. AllByRecursion HasNormal (rules i))
+      (λ i s. all-map IsSound HasNormal (rules i) (λ r q. q.is_normal) s.sound) e p)
 
-  says : (e : Policy) → Good e → (h : HeaderOf) → port h.in_port ≡ true → Says h (rules_of sizes rules e) (size_of sizes e) (evaluate leaf e h)
+  says : (e : Policy) → Good e → (h : HeaderOf) → port h.in_port ≡ true
+      → Says h (rules_of sizes rules e) (size_of sizes e) (evaluate leaf e h)
   says (member i) p h ok = p.says h ok
   says (parallel a b) p h ok =
-      sum-says h (rules_of sizes rules a) (rules_of sizes rules b) (size_of sizes a) (size_of sizes b) (evaluate leaf a h) (evaluate leaf b h) (says a p.0 h ok) (says b p.1 h ok)
+      sum-says h (rules_of sizes rules a) (rules_of sizes rules b) (size_of sizes a) (size_of sizes b)
+      (evaluate leaf a h) (evaluate leaf b h) (says a p.0 h ok) (says b p.1 h ok)
   says (sequential a b) p h ok =
-      chain-says h (rules_of sizes rules a) (rules_of sizes rules b) (size_of sizes a) (size_of sizes b) (evaluate leaf a h) (λ r. evaluate leaf b (apply r h)) (normal b p.1) (says a p.0 h ok) (λ r. says b p.1 (apply r h) ok)
+      chain-says h (rules_of sizes rules a) (rules_of sizes rules b) (size_of sizes a) (size_of sizes b)
+      (evaluate leaf a h) (λ r. evaluate leaf b (apply r h)) (normal b p.1) (says a p.0 h ok)
+      (λ r. says b p.1 (apply r h) ok)
   says (override a b) p h ok =
-      shift-says h (rules_of sizes rules a) (rules_of sizes rules b) (size_of sizes a) (size_of sizes b) (evaluate leaf a h) (evaluate leaf b h) (says a p.0 h ok) (says b p.1 h ok)
+      shift-says h (rules_of sizes rules a) (rules_of sizes rules b) (size_of sizes a) (size_of sizes b)
+      (evaluate leaf a h) (evaluate leaf b h) (says a p.0 h ok) (says b p.1 h ok)
 
 pub central : CentralFact
 central port sizes rules leaf e p h ok = says port sizes rules leaf e p h ok

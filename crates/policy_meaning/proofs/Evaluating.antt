@@ -8,9 +8,11 @@ use Rattle.policy_expr.specs.Policy.{Policy, sequential, override}
 use Rattle.policy_meaning.specs.Meaning.{evaluate, passed_on, first_touched}
 use Rattle.policy_meaning.specs.declared.meaning.Meaning.{Meaning}
 
-pub chain-evaluated : (leaf : ℕ → HeaderOf → Meaning) (a b : Policy) (h : HeaderOf) (x y : Meaning) (r : RewriteOf) → x ≡ evaluate leaf a h → x.tail ≡ Pass r → y ≡ evaluate leaf b (apply r h) →
+pub chain-evaluated : (leaf : ℕ → HeaderOf → Meaning) (a b : Policy) (h : HeaderOf) (x y : Meaning) (r : RewriteOf)
+    → x ≡ evaluate leaf a h → x.tail ≡ Pass r → y ≡ evaluate leaf b (apply r h) →
     passed_on (Pass r) x (λ s. y) ≡ evaluate leaf (sequential a b) h
 chain-evaluated leaf a b h x y r e t f = rw (← e, t, ← f) refl
 
-pub shift-evaluated : (leaf : ℕ → HeaderOf → Meaning) (a b : Policy) (h : HeaderOf) (x y z : Meaning) → x ≡ evaluate leaf a h → y ≡ evaluate leaf b h → z ≡ first_touched x y → z ≡ evaluate leaf (override a b) h
+pub shift-evaluated : (leaf : ℕ → HeaderOf → Meaning) (a b : Policy) (h : HeaderOf) (x y z : Meaning)
+    → x ≡ evaluate leaf a h → y ≡ evaluate leaf b h → z ≡ first_touched x y → z ≡ evaluate leaf (override a b) h
 shift-evaluated leaf a b h x y z e f g = rw (← e, ← f) g

@@ -8,12 +8,14 @@ use Rattle.policy_expr.specs.Sizes.{size_of}
 use Rattle.policy_meaning.specs.Leaf.{has_port}
 use Rattle.policy_meaning.specs.Meaning.{evaluate}
 use Rattle.policy_meaning.specs.Rules.{rules_of}
-use Rattle.policy_meaning.specs.Networks.{ports_of, table_meaning, table_rules, table_size, switch_meaning, switch_rules, switch_size, switch_has, switch_spread, fabric_of, ground_of}
+use Rattle.policy_meaning.specs.Networks.{ports_of, table_meaning, table_rules, table_size, switch_meaning}
+use Rattle.policy_meaning.specs.Networks.{switch_rules, switch_size, switch_has, switch_spread, fabric_of, ground_of}
 use Rattle.policy_meaning.specs.Walk.{takes}
 use Rattle.policy_meaning.specs.Best.{IsSound, Says}
 use Rattle.policy_meaning.specs.CentralFact.{EachMember, EachLeft, AreSoundLeaves, IsPlainLeaf, IsPlainRule}
 use Rattle.policy_meaning.specs.HopFact.{IsSoundFabric}
-use Rattle.policy_meaning.specs.EveryNode.{HasSoundTable, HasPlainTable, IsSoundSwitch, IsSoundNetwork, EveryNode, EveryExpression, ExpressionsAreSound}
+use Rattle.policy_meaning.specs.EveryNode.{HasSoundTable, HasPlainTable, IsSoundSwitch, IsSoundNetwork, EveryNode}
+use Rattle.policy_meaning.specs.EveryNode.{EveryExpression, ExpressionsAreSound}
 use Rattle.policy_meaning.specs.declared.leaf.LeafTable.{LeafTable}
 use Rattle.policy_meaning.specs.declared.network.VirtualSwitch.{VirtualSwitch}
 use Rattle.policy_meaning.specs.declared.network.Network.{Network}
@@ -31,20 +33,24 @@ each-left P Q f (sequential a b) p = (each-left P Q f a p.0, each-left P Q f b p
 each-left P Q f (override a b) p = (each-left P Q f a p.0, each-left P Q f b p.1)
 
 -- a member by its table
-table-says : (ports : List ℕ) (o : Option LeafTable) → HasSoundTable o → (h : HeaderOf) → has_port ports h.in_port ≡ true → Says h (table_rules ports o) (table_size o) (table_meaning o h)
+table-says : (ports : List ℕ) (o : Option LeafTable) → HasSoundTable o → (h : HeaderOf)
+    → has_port ports h.in_port ≡ true → Says h (table_rules ports o) (table_size o) (table_meaning o h)
 table-says ports None s h at = absurd s
 table-says ports (Some t) s h at = leaf_fact ports t s h at
 
-pub table-sound : (ports : List ℕ) (o : Option LeafTable) → HasSoundTable o → AllByRecursion IsSound (table_rules ports o)
+pub table-sound : (ports : List ℕ) (o : Option LeafTable) → HasSoundTable o
+    → AllByRecursion IsSound (table_rules ports o)
 table-sound ports None s = tt
 table-sound ports (Some t) s = leaf_rules_are_sound ports t s
 
-pub table-plain : (ports : List ℕ) (o : Option LeafTable) → HasPlainTable o → AllByRecursion IsPlainRule (table_rules ports o)
+pub table-plain : (ports : List ℕ) (o : Option LeafTable) → HasPlainTable o
+    → AllByRecursion IsPlainRule (table_rules ports o)
 table-plain ports None p = tt
 table-plain ports (Some t) p = rules-plain ports t p
 
 -- an expression by its members
-module _ (tables : List LeafTable) (ports : List ℕ) (e : Policy) (each : EachMember (λ i. HasSoundTable (slice_get tables i)) e) where
+module _ (tables : List LeafTable) (ports : List ℕ) (e : Policy)
+    (each : EachMember (λ i. HasSoundTable (slice_get tables i)) e) where
   abbrev sizes : ℕ → ℕ
   sizes i = table_size (slice_get tables i)
 
@@ -53,17 +59,26 @@ module _ (tables : List LeafTable) (ports : List ℕ) (e : Policy) (each : EachM
 
   members : EachMember (AreSoundLeaves (λ p. has_port ports p) sizes rules (λ i. table_meaning (slice_get tables i))) e
   members =
-      each-member (λ i. HasSoundTable (slice_get tables i)) (AreSoundLeaves (λ p. has_port ports p) sizes rules (λ i. table_meaning (slice_get tables i)))
-      (λ i t. record { says = λ h at. table-says ports (slice_get tables i) t h at; sound = table-sound ports (slice_get tables i) t }) e each
+      each-member (λ i. HasSoundTable (slice_get tables i))
+      (AreSoundLeaves (λ p. has_port ports p) sizes rules (λ i. table_meaning (slice_get tables i)))
+      (λ i t. record {
+        says = λ h at. table-says ports (slice_get tables i) t h at;
+        sound = table-sound ports (slice_get tables i) t;
+      }) e each
 
-  expression-says : (h : HeaderOf) → has_port ports h.in_port ≡ true → Says h (rules_of sizes rules e) (size_of sizes e) (evaluate (λ i. table_meaning (slice_get tables i)) e h)
-  expression-says h at = central (λ p. has_port ports p) sizes rules (λ i. table_meaning (slice_get tables i)) e members h at
+  expression-says : (h : HeaderOf) → has_port ports h.in_port ≡ true
+      → Says h (rules_of sizes rules e) (size_of sizes e) (evaluate (λ i. table_meaning (slice_get tables i)) e h)
+  expression-says h at = central (λ p. has_port ports p) sizes rules (λ i. table_meaning (slice_get tables i)) e members
+      h at
 
-  expression-sound : EachLeft (λ i. HasPlainTable (slice_get tables i)) e → AllByRecursion IsSound (rules_of sizes rules e)
+  expression-sound : EachLeft (λ i. HasPlainTable (slice_get tables i)) e
+      → AllByRecursion IsSound (rules_of sizes rules e)
   expression-sound lefts =
       rules-are-sound sizes rules e
-      (each-member (λ i. HasSoundTable (slice_get tables i)) (λ i. AllByRecursion IsSound (rules i)) (λ i t. table-sound ports (slice_get tables i) t) e each)
-      (each-left (λ i. HasPlainTable (slice_get tables i)) (IsPlainLeaf rules) (λ i t. table-plain ports (slice_get tables i) t) e lefts)
+      (each-member (λ i. HasSoundTable (slice_get tables i)) (λ i. AllByRecursion IsSound (rules i))
+      (λ i t. table-sound ports (slice_get tables i) t) e each)
+      (each-left (λ i. HasPlainTable (slice_get tables i)) (IsPlainLeaf rules)
+      (λ i t. table-plain ports (slice_get tables i) t) e lefts)
 
 pub every_expression : EveryExpression
 every_expression tables ports e each h at = expression-says tables ports e each h at
@@ -73,22 +88,28 @@ expressions_are_sound tables ports e each lefts = expression-sound tables ports 
 
 -- a virtual switch by its expression
 module _ (tables : List LeafTable) (s : VirtualSwitch) (good : IsSoundSwitch tables s) where
-  pub switch-says : (h : HeaderOf) → has_port (ports_of s) h.in_port ≡ true → Says h (switch_rules tables (Some s)) (switch_size tables (Some s)) (switch_meaning tables (Some s) h)
+  pub switch-says : (h : HeaderOf) → has_port (ports_of s) h.in_port ≡ true
+      → Says h (switch_rules tables (Some s)) (switch_size tables (Some s)) (switch_meaning tables (Some s) h)
   switch-says h at = expression-says tables (ports_of s) s.expr good.members h at
 
   pub switch-sound : AllByRecursion IsSound (switch_rules tables (Some s))
   switch-sound = expression-sound tables (ports_of s) s.expr good.members good.lefts
 
 module _ (tables : List LeafTable) where
-  any-says : (o : Option VirtualSwitch) → ((s : VirtualSwitch) → o ≡ Some s → IsSoundSwitch tables s) → (h : HeaderOf) → switch_has o h.in_port ≡ true → Says h (switch_rules tables o) (switch_size tables o) (switch_meaning tables o h)
+  any-says : (o : Option VirtualSwitch) → ((s : VirtualSwitch) → o ≡ Some s → IsSoundSwitch tables s) → (h : HeaderOf)
+      → switch_has o h.in_port ≡ true
+      → Says h (switch_rules tables o) (switch_size tables o) (switch_meaning tables o h)
   any-says None good h at = absurd (true_not_false (sym at))
   any-says (Some s) good h at = switch-says tables s (good s refl) h at
 
-  any-sound : (o : Option VirtualSwitch) → ((s : VirtualSwitch) → o ≡ Some s → IsSoundSwitch tables s) → AllByRecursion IsSound (switch_rules tables o)
+  any-sound : (o : Option VirtualSwitch) → ((s : VirtualSwitch) → o ≡ Some s → IsSoundSwitch tables s)
+      → AllByRecursion IsSound (switch_rules tables o)
   any-sound None good = tt
   any-sound (Some s) good = switch-sound tables s (good s refl)
 
-pub sound-fabric : (net : Network) → IsSoundNetwork net → IsSoundFabric (fabric_of net) (ground_of net).means (ground_of net).spread (λ v p. switch_has (slice_get net.switches v) p)
+pub sound-fabric : (net : Network) → IsSoundNetwork net
+    → IsSoundFabric (fabric_of net) (ground_of net).means (ground_of net).spread
+    (λ v p. switch_has (slice_get net.switches v) p)
 sound-fabric net good = record {
   says = λ v h at. any-says net.tables (slice_get net.switches v) (good.switches v) h at;
   sound = λ v. any-sound net.tables (slice_get net.switches v) (good.switches v);
@@ -97,5 +118,7 @@ sound-fabric net good = record {
 
 pub every_node : EveryNode
 every_node net good n v h e =
-    let s = split_and (switch_has (slice_get net.switches v) h.in_port) (takes (switch_spread (slice_get net.switches v)) h) e in
-    hop_fact (fabric_of net) (ground_of net).means (ground_of net).spread (λ v p. switch_has (slice_get net.switches v) p) (sound-fabric net good) n v h s.0 s.1
+    let s = split_and (switch_has (slice_get net.switches v) h.in_port)
+    (takes (switch_spread (slice_get net.switches v)) h) e in
+    hop_fact (fabric_of net) (ground_of net).means (ground_of net).spread
+    (λ v p. switch_has (slice_get net.switches v) p) (sound-fabric net good) n v h s.0 s.1

@@ -1,5 +1,6 @@
 -- The item of the highest rank, of items that a function gives and of items with a property.
-use Rattle.std.proofs.Common.{◌≡◌, ℕ, Bool, true, false, List, [], ◌∷◌, map, refl, Option, Some, None, IfSome, nat_lt, option_map}
+use Rattle.std.proofs.Common.{◌≡◌, ℕ, Bool, true, false, List, [], ◌∷◌, map, refl, Option, Some, None, IfSome, nat_lt}
+use Rattle.std.proofs.Common.{option_map}
 use Rattle.std.specs.Prelude.{if◌then◌else◌}
 use Rattle.std.specs.List.{AllByRecursion}
 use Rattle.of10_match.specs.Highest.{higher, highest}
@@ -16,12 +17,15 @@ module _ {A B : Type 0} (f : A → B) (passes : B → Bool) (rank : B → ℕ) w
   above x None = refl
   above x (Some d) = picked (nat_lt (rank_of x) (rank_of d)) x d
 
-  taken : (b : Bool) (x : A) (o : Option A) → (if b then higher rank (f x) (option_map f o) else option_map f o) ≡ option_map f (if b then higher rank_of x o else o)
+  taken : (b : Bool) (x : A) (o : Option A)
+      → (if b then higher rank (f x) (option_map f o) else option_map f o)
+      ≡ option_map f (if b then higher rank_of x o else o)
   taken true x o = above x o
   taken false x o = refl
 
   -- the highest of the items that a function gives is what it gives of the highest
-  pub highest-map : (xs : List A) → highest passes rank (map f xs) ≡ option_map f (highest (λ (x : A). passes (f x)) rank_of xs)
+  pub highest-map : (xs : List A) → highest passes rank (map f xs)
+      ≡ option_map f (highest (λ (x : A). passes (f x)) rank_of xs)
   highest-map [] = refl
   highest-map (x ∷ xs) = rw (highest-map xs) (taken (passes (f x)) x (highest (λ (x : A). passes (f x)) rank_of xs))
 

@@ -48,14 +48,19 @@ ancestry-is (x ∷ xs) (y ∷ ys) e =
 
 rules-differ : (a b : Rule) → AreDisjoint a b → IsMatch a.m → IsMatch b.m → by_ancestry a b ≡ Equal → ⊥
 rules-differ a b d p q e =
-    let s = both-equal (ancestry_cmp a.ancestry b.ancestry) (ordering_then (option_cmp nat_cmp a.m.in_port b.m.in_port) (by_bytes a.m b.m)) e in
+    let s = both-equal (ancestry_cmp a.ancestry b.ancestry)
+    (ordering_then (option_cmp nat_cmp a.m.in_port b.m.in_port) (by_bytes a.m b.m)) e in
     let t = both-equal (option_cmp nat_cmp a.m.in_port b.m.in_port) (by_bytes a.m b.m) s.1 in
     differ a b d (ancestry-is a.ancestry b.ancestry s.0) (by_bytes-equal a.m b.m p q t.1)
 
-all-differ : (rules : List Rule) → AreAllDisjoint rules → AllByRecursion (λ (r : Rule). IsMatch r.m) rules → EachPair (Differs by_ancestry by_ancestry_total) rules
+all-differ : (rules : List Rule) → AreAllDisjoint rules → AllByRecursion (λ (r : Rule). IsMatch r.m) rules
+    → EachPair (Differs by_ancestry by_ancestry_total) rules
 all-differ [] d m = tt
-all-differ (r ∷ rs) d m =
-    (all-map (λ (b : Rule). AreDisjoint r b × IsMatch b.m) (λ (b : Rule). by_ancestry r b ≡ Equal → ⊥) rs (λ b q. rules-differ r b q.0 m.0 q.1) (all-zip (AreDisjoint r) (λ (b : Rule). IsMatch b.m) rs d.0 m.1), all-differ rs d.1 m.1)
+all-differ (r ∷ rs) d m = (
+  all-map (λ (b : Rule). AreDisjoint r b × IsMatch b.m) (λ (b : Rule). by_ancestry r b ≡ Equal
+      → ⊥) rs (λ b q. rules-differ r b q.0 m.0 q.1) (all-zip (AreDisjoint r) (λ (b : Rule). IsMatch b.m) rs d.0 m.1),
+  all-differ rs d.1 m.1,
+)
 
 pub listing-is-unique : ListingIsUnique
 listing-is-unique rules others l m permuted disjoint matches p q =
@@ -63,6 +68,7 @@ listing-is-unique rules others l m permuted disjoint matches p q =
     let to = IsPermutation-trans rules others m permuted q.same in
     let across = IsPermutation-trans l rules m (IsPermutation-sym rules l p.same) to in
     unique by_ancestry by_ancestry_total l m
-    (from-sorted by_ancestry by_ancestry_total l p.rising (differs-permuted by_ancestry by_ancestry_total rules l p.same d))
+    (from-sorted by_ancestry by_ancestry_total l p.rising
+    (differs-permuted by_ancestry by_ancestry_total rules l p.same d))
     (from-sorted by_ancestry by_ancestry_total m q.rising (differs-permuted by_ancestry by_ancestry_total rules m to d))
     (all-permuted l m across) (all-permuted m l (IsPermutation-sym l m across))

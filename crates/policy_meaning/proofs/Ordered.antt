@@ -1,5 +1,6 @@
 -- The best rule in any order, and the order in which rules are listed.
-use Rattle.std.proofs.Common.{◌≡◌, ℕ, zero, suc, ◌<◌, ◌≤◌, Bool, true, false, List, [], ◌∷◌, arith, ap, length, get_or, ltb-false, ltb-true, refl, subst, sym, ◌∙◌}
+use Rattle.std.proofs.Common.{◌≡◌, ℕ, zero, suc, ◌<◌, ◌≤◌, Bool, true, false, List, [], ◌∷◌, arith, ap, length, get_or}
+use Rattle.std.proofs.Common.{ltb-false, ltb-true, refl, subst, sym, ◌∙◌}
 use Rattle.std.specs.Prelude.{Contains, nat_lt, sum_by}
 use Rattle.std.specs.Cmp.{IsStrictWeakOrder, IsTotalOrder}
 use Rattle.std.specs.Cmp.Lexicographic.{options_total}
@@ -38,7 +39,8 @@ module _ (h : HeaderOf) where
   by-low false c P low e t = absurd (true_not_false (sym t))
 
   lower-weighs : (r x : Rule) → (holds x.m h ≡ true → x.level < r.level) → weight r x ≡ 0
-  lower-weighs r x low = low-by (holds x.m h) (nat_lt x.level r.level) (x.level < r.level) (λ e l. let m : r.level ≤ x.level = ltb-false x.level r.level e in omega arith) low
+  lower-weighs r x low = low-by (holds x.m h) (nat_lt x.level r.level) (x.level < r.level)
+      (λ e l. let m : r.level ≤ x.level = ltb-false x.level r.level e in omega arith) low
 
   weighs-lower : (r x : Rule) → weight r x ≡ 0 → holds x.m h ≡ true → x.level < r.level
   weighs-lower r x = by-low (holds x.m h) (nat_lt x.level r.level) (x.level < r.level) (λ e. ltb-true x.level r.level e)
@@ -50,7 +52,8 @@ module _ (h : HeaderOf) where
 
   lower-weigh : (r : Rule) (xs : List Rule) → EachAt h (Below r.level) xs → sum_by (weight r) xs ≡ 0
   lower-weigh r [] p = refl
-  lower-weigh r (x ∷ xs) p = let a = lower-weighs r x p.0 in let b = lower-weigh r xs p.1 in omega (arith, sum_by-cons (weight r) x xs)
+  lower-weigh r (x ∷ xs) p = let a = lower-weighs r x p.0 in let b = lower-weigh r xs p.1 in
+      omega (arith, sum_by-cons (weight r) x xs)
 
   weigh-lower : (r : Rule) (xs : List Rule) → sum_by (weight r) xs ≡ 0 → EachAt h (Below r.level) xs
   weigh-lower r [] e = tt
@@ -68,8 +71,10 @@ module _ (h : HeaderOf) where
   there (later {rs = rs} lt p) = let c = there p in (suc c.0, let l = c.1 in omega arith, c.2)
 
   alone : {xs : List Rule} {r : Rule} → IsBest h xs r → sum_by (weight r) xs ≡ 1
-  alone (first {r = r} {rs = rs} t b) = let a = weighs-itself r (holds r.m h) (nat_lt r.level r.level) t refl in let z = lower-weigh r rs b in omega (arith, sum_by-cons (weight r) r rs)
-  alone (later {r = r} {x = x} {rs = rs} lt p) = let a = lower-weighs r x lt in let z = alone p in omega (arith, sum_by-cons (weight r) x rs)
+  alone (first {r = r} {rs = rs} t b) = let a = weighs-itself r (holds r.m h) (nat_lt r.level r.level) t refl in let z =
+      lower-weigh r rs b in omega (arith, sum_by-cons (weight r) r rs)
+  alone (later {r = r} {x = x} {rs = rs} lt p) = let a = lower-weighs r x lt in let z = alone p in
+      omega (arith, sum_by-cons (weight r) x rs)
 
   module _ (r : Rule) (t : holds r.m h ≡ true) where
     itself : weight r r ≡ 1
@@ -77,7 +82,8 @@ module _ (h : HeaderOf) where
 
     heavy : (xs : List Rule) (k : ℕ) → k < length xs → get_or xs k r ≡ r → 1 ≤ sum_by (weight r) xs
     heavy [] k lt e = absurd (omega arith)
-    heavy (x ∷ xs) zero lt e = let a = itself in let b : weight r x ≡ weight r r = ap (weight r) e in omega (arith, sum_by-cons (weight r) x xs)
+    heavy (x ∷ xs) zero lt e = let a = itself in let b : weight r x ≡ weight r r = ap (weight r) e in
+        omega (arith, sum_by-cons (weight r) x xs)
     heavy (x ∷ xs) (suc k) lt e = let a = heavy xs k (omega arith) e in omega (arith, sum_by-cons (weight r) x xs)
 
     best-by : (xs : List Rule) (k : ℕ) → k < length xs → get_or xs k r ≡ r → sum_by (weight r) xs ≡ 1 → IsBest h xs r
@@ -100,12 +106,14 @@ order_keeps_best h xs ys r p b =
 
 -- rules are in a total order
 leaf_cmp_total : IsTotalOrder leaf_cmp
-leaf_cmp_total = then_total (on_total (λ (a : Leaf). a.member) nat_cmp_total) (on_total (λ (a : Leaf). a.kind) nat_cmp_total)
+leaf_cmp_total = then_total (on_total (λ (a : Leaf). a.member) nat_cmp_total)
+    (on_total (λ (a : Leaf). a.kind) nat_cmp_total)
 
 pub by_ancestry_total : IsTotalOrder by_ancestry
 by_ancestry_total =
     then_total (on_total (λ (a : Rule). a.ancestry) (lists_total leaf_cmp_total))
-    (then_total (on_total (λ (a : Rule). a.m.in_port) (options_total nat_cmp_total)) (on_total (λ (a : Rule). a.m) by_bytes_total))
+    (then_total (on_total (λ (a : Rule). a.m.in_port) (options_total nat_cmp_total))
+    (on_total (λ (a : Rule). a.m) by_bytes_total))
 
 pub ranks_rules : IsStrictWeakOrder (λ (a b : Rule). is_lt (by_ancestry a b))
 ranks_rules = ranks_by by_ancestry_total (λ (a : Rule). a)

@@ -2,7 +2,8 @@
 use Rattle.std.proofs.Common.{◌≡◌, ℕ, Bool, true, false, List, [], ◌∷◌, refl, subst}
 use Rattle.std.specs.Prelude.{if◌then◌else◌, map}
 use Rattle.std.specs.List.{AllByRecursion}
-use Rattle.policy_meaning.specs.LeafRules.{entry_rule, miss_rule, outside_rule, cells, in_cells, has_outside, leaf_rules, rule_met}
+use Rattle.policy_meaning.specs.LeafRules.{entry_rule, miss_rule, outside_rule, cells, in_cells, has_outside}
+use Rattle.policy_meaning.specs.LeafRules.{leaf_rules, rule_met}
 use Rattle.policy_meaning.specs.CentralFact.{ArePlain, IsPlainRule}
 use Rattle.policy_meaning.specs.declared.leaf.LeafEntry.{LeafEntry}
 use Rattle.policy_meaning.specs.declared.leaf.LeafTable.{LeafTable}
@@ -18,7 +19,9 @@ module _ (ports : List ℕ) (t : LeafTable) where
   placed-plain : (a : Rule) → IsPlainRule a → AllByRecursion IsPlainRule (in_cells (cells ports t) a)
   placed-plain a p =
       all-filter_map (λ m. Unit {0}) IsPlainRule (rule_met a) (cells ports t)
-      (λ n y e _. let q = some_met (narrowed a) a.m n y e in subst IsPlainRule q.1 (record { sets = p.sets; ends = p.ends })) (all-each (λ m. Unit {0}) (cells ports t) (λ m. tt))
+      (λ n y e _. let q = some_met (narrowed a) a.m n y e in
+      subst IsPlainRule q.1 (record { sets = p.sets; ends = p.ends }))
+      (all-each (λ m. Unit {0}) (cells ports t) (λ m. tt))
 
   miss-plain : (b : Bool) → t.misses ≡ b → IsPlainRule (miss_rule t)
   miss-plain true e = record { sets = rw e (refl, tt); ends = refl }
@@ -30,6 +33,11 @@ module _ (ports : List ℕ) (t : LeafTable) where
 
   pub rules-plain : AllByRecursion PlainEntry t.entries → AllByRecursion IsPlainRule (leaf_rules ports t)
   rules-plain p =
-      all-append IsPlainRule (if has_outside ports t then outside_rule t ∷ [] else []) _ (outer-plain (has_outside ports t))
-      (all-flat_map IsPlainRule IsPlainRule (in_cells (cells ports t)) (miss_rule t ∷ map (entry_rule t) t.entries) placed-plain
-      (miss-plain t.misses refl, all-mapped PlainEntry IsPlainRule (entry_rule t) t.entries (λ e q. record { sets = q.sets; ends = q.ends }) p))
+      all-append IsPlainRule (if has_outside ports t then outside_rule t ∷ [] else []) _
+      (outer-plain (has_outside ports t))
+      (all-flat_map IsPlainRule IsPlainRule (in_cells (cells ports t)) (miss_rule t ∷ map (entry_rule t) t.entries)
+      placed-plain (
+        miss-plain t.misses refl,
+        all-mapped PlainEntry IsPlainRule (entry_rule t) t.entries
+            (λ e q. record { sets = q.sets; ends = q.ends }) p,
+      ))

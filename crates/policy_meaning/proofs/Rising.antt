@@ -13,7 +13,8 @@ use Rattle.policy_meaning.specs.LeafFact.{EachPair}
 use Rattle.policy_meaning.proofs.Lists.{all-map, all-zip}
 
 -- what holds of each item of a list does so in any order
-pub all-permuted : {A : Type 0} (xs ys : List A) → IsPermutation xs ys → (P : A → Type 0) → AllByRecursion P xs → AllByRecursion P ys
+pub all-permuted : {A : Type 0} (xs ys : List A) → IsPermutation xs ys → (P : A → Type 0) → AllByRecursion P xs
+    → AllByRecursion P ys
 all-permuted xs ys p P a = recursion_from_All P ys (All-permutation P xs ys p (All-from_recursion P xs a))
 
 module _ {A : Type 0} (cmp : A → A → Ordering) (total : IsTotalOrder cmp) where
@@ -35,7 +36,8 @@ module _ {A : Type 0} (cmp : A → A → Ordering) (total : IsTotalOrder cmp) wh
   later-sorted : (x y : A) (ys : List A) → IsSorted cmp (x ∷ y ∷ ys) → IsSorted cmp (y ∷ ys)
   later-sorted x y ys s k d low lt =
       let next : suc k + 1 ≡ suc (k + 1) = omega arith in
-      subst (λ n. is_lt (cmp (slice_index_or (x ∷ y ∷ ys) n d) (slice_index_or (y ∷ ys) k d)) ≡ false) next (s (suc k) d (omega arith) (omega arith))
+      subst (λ n. is_lt (cmp (slice_index_or (x ∷ y ∷ ys) n d) (slice_index_or (y ∷ ys) k d)) ≡ false) next
+      (s (suc k) d (omega arith) (omega arith))
 
   pub from-sorted : (xs : List A) → IsSorted cmp xs → EachPair Differs xs → EachPair Lower xs
   from-sorted [] s d = tt
@@ -64,16 +66,19 @@ module _ {A : Type 0} (cmp : A → A → Ordering) (total : IsTotalOrder cmp) wh
   distinct-from : (xs : List A) → EachPair Differs xs → IsDistinct (λ x y. is_eq (cmp x y)) xs
   unfolding IsDistinct
   distinct-from [] p = tt
-  distinct-from (x ∷ xs) p = (all-map (Differs x) (λ y. is_eq (cmp x y) ≡ false) xs (λ y n. not-equal (cmp x y) n) p.0, distinct-from xs p.1)
+  distinct-from (x ∷ xs) p =
+      (all-map (Differs x) (λ y. is_eq (cmp x y) ≡ false) xs (λ y n. not-equal (cmp x y) n) p.0, distinct-from xs p.1)
 
   from-distinct : (xs : List A) → IsDistinct (λ x y. is_eq (cmp x y)) xs → EachPair Differs xs
   unfolding IsDistinct
   from-distinct [] p = tt
-  from-distinct (x ∷ xs) p = (all-map (λ y. is_eq (cmp x y) ≡ false) (Differs x) xs (λ y f. equal-not (cmp x y) f) p.0, from-distinct xs p.1)
+  from-distinct (x ∷ xs) p =
+      (all-map (λ y. is_eq (cmp x y) ≡ false) (Differs x) xs (λ y f. equal-not (cmp x y) f) p.0, from-distinct xs p.1)
 
   pub differs-permuted : (xs ys : List A) → IsPermutation xs ys → EachPair Differs xs → EachPair Differs ys
   differs-permuted xs ys p d =
-      from-distinct ys (IsDistinct-IsPermutation (λ x y. is_eq (cmp x y)) (λ x y. ap is_eq (total.antisymm x y) ∙ sym (flipped (cmp y x))) xs ys p (distinct-from xs d))
+      from-distinct ys (IsDistinct-IsPermutation (λ x y. is_eq (cmp x y))
+      (λ x y. ap is_eq (total.antisymm x y) ∙ sym (flipped (cmp y x))) xs ys p (distinct-from xs d))
 
   -- what each item of one list has, each of the other has
   abbrev pub Same : List A → List A → Type 1
@@ -100,7 +105,8 @@ module _ {A : Type 0} (cmp : A → A → Ordering) (total : IsTotalOrder cmp) wh
   rest-same : (x : A) (xs ys : List A) → AllByRecursion (Lower x) ys → Same (x ∷ xs) (x ∷ ys) → Same xs ys
   rest-same x xs ys up f P a =
       let b = f (λ z. (z ≡ x) ⊎ P z) (inl refl, all-map P (λ z. (z ≡ x) ⊎ P z) xs (λ z p. inr p) a) in
-      all-map (λ z. Lower x z × ((z ≡ x) ⊎ P z)) P ys (λ z q. drop-first P x z q.0 q.1) (all-zip (Lower x) (λ z. (z ≡ x) ⊎ P z) ys up b.1)
+      all-map (λ z. Lower x z × ((z ≡ x) ⊎ P z)) P ys (λ z q. drop-first P x z q.0 q.1)
+      (all-zip (Lower x) (λ z. (z ≡ x) ⊎ P z) ys up b.1)
 
   -- two rising lists of the same items are one
   pub unique : (xs ys : List A) → EachPair Lower xs → EachPair Lower ys → Same xs ys → Same ys xs → xs ≡ ys
@@ -108,7 +114,8 @@ module _ {A : Type 0} (cmp : A → A → Ordering) (total : IsTotalOrder cmp) wh
   unique [] (y ∷ ys) p q f g = absurd (f (λ z. ⊥) tt).0
   unique (x ∷ xs) [] p q f g = absurd (g (λ z. ⊥) tt).0
   unique (x ∷ xs) (y ∷ ys) p q f g =
-      let same : x ≡ y = one x y (f (λ z. (z ≡ x) ⊎ Lower x z) (from-first x xs p.0)).0 (g (λ z. (z ≡ y) ⊎ Lower y z) (from-first y ys q.0)).0 in
+      let same : x ≡ y = one x y (f (λ z. (z ≡ x) ⊎ Lower x z) (from-first x xs p.0)).0
+      (g (λ z. (z ≡ y) ⊎ Lower y z) (from-first y ys q.0)).0 in
       let up : AllByRecursion (Lower x) ys = subst (λ w. AllByRecursion (Lower w) ys) (sym same) q.0 in
       let f' : Same (x ∷ xs) (x ∷ ys) = λ P a. let b = f P a in (a.0, b.1) in
       let g' : Same (x ∷ ys) (x ∷ xs) = λ P a. let b = g P (subst P same a.0, a.1) in (a.0, b.1) in

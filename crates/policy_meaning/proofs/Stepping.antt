@@ -14,7 +14,8 @@ use Rattle.policy_meaning.specs.declared.walking.Walked.{Walked}
 use Rattle.policy_meaning.proofs.Lists.{add-none}
 
 -- what the virtual switch gives, and then what the walk gives at the place to which its tail leads
-pub walk-on : (net : Network) (hops n v : ℕ) (h : HeaderOf) (s : VirtualSwitch) (m : Meaning) (w next : Walked) (on : Onward) → hops ≡ suc n →
+pub walk-on : (net : Network) (hops n v : ℕ) (h : HeaderOf) (s : VirtualSwitch) (m : Meaning) (w next : Walked)
+    (on : Onward) → hops ≡ suc n →
     slice_get net.switches v ≡ Some s → takes s.spread h ≡ true →
     m ≡ evaluate (λ i. table_meaning (slice_get net.tables i)) s.expr h →
     w ≡ here v h.in_port m.outs → leads m.tail s.links h.in_port ≡ Some on →
@@ -26,7 +27,8 @@ walk-on net hops n v h s m w next on k get taken em ew el en = rw (k, get, taken
 walked-alone : (w : Walked) → w ≡ both_walked w nowhere
 walked-alone w = λ i. record { outs = add-none w.outs i; told = add-none w.told i }
 
-pub walk-ends : (net : Network) (hops n v : ℕ) (h : HeaderOf) (s : VirtualSwitch) (m : Meaning) (w : Walked) → hops ≡ suc n →
+pub walk-ends : (net : Network) (hops n v : ℕ) (h : HeaderOf) (s : VirtualSwitch) (m : Meaning) (w : Walked)
+    → hops ≡ suc n →
     slice_get net.switches v ≡ Some s → takes s.spread h ≡ true →
     m ≡ evaluate (λ i. table_meaning (slice_get net.tables i)) s.expr h →
     w ≡ here v h.in_port m.outs → leads m.tail s.links h.in_port ≡ None → w ≡ walk (ground_of net) hops v h

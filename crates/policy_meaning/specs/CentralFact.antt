@@ -38,7 +38,8 @@ EachLeft P (sequential a b) = EachLeft P a × EachLeft P b
 EachLeft P (override a b) = EachLeft P a × EachLeft P b
 
 -- what is asked of the members of an expression, for the headers that come by some ports
-pub record AreSoundLeaves (port : ℕ → Bool) (sizes : ℕ → ℕ) (rules : ℕ → List Rule) (leaf : ℕ → HeaderOf → Meaning) (i : ℕ) : Type 0 where
+pub record AreSoundLeaves (port : ℕ → Bool) (sizes : ℕ → ℕ) (rules : ℕ → List Rule) (leaf : ℕ → HeaderOf
+    → Meaning) (i : ℕ) : Type 0 where
   pub says : (h : HeaderOf) → port h.in_port ≡ true → Says h (rules i) (sizes i) (leaf i h)
   pub sound : AllByRecursion IsSound (rules i)
 
@@ -54,7 +55,8 @@ CentralFact =
     → EachMember (AreSoundLeaves port sizes rules leaf) e
     → (h : HeaderOf) → port h.in_port ≡ true → Says h (rules_of sizes rules e) (size_of sizes e) (evaluate leaf e h)
 
--- and where no member of a left operand of `+` sets a field or has a tail, one list of actions can do what each rule does
+-- and where no member of a left operand of `+` sets a field or has a tail, one list of actions can do what each rule
+-- does
 abbrev pub RulesAreSound : Type 0
 RulesAreSound =
     (sizes : ℕ → ℕ) (rules : ℕ → List Rule) (e : Policy)

@@ -62,7 +62,8 @@ LeafRulesAreDisjoint = (ports : List ℕ) (t : LeafTable) → IsOrderly t → Ar
 
 -- of the rules of an expression by itself
 abbrev pub RulesAreDisjoint : Type 0
-RulesAreDisjoint = (tables : List LeafTable) (ports : List ℕ) (e : Policy) → IsOrderlyPolicy tables e → AreAllDisjoint (composed_of tables ports e).rules
+RulesAreDisjoint = (tables : List LeafTable) (ports : List ℕ) (e : Policy) → IsOrderlyPolicy tables e
+    → AreAllDisjoint (composed_of tables ports e).rules
 
 -- of the rules of each node, through hops
 abbrev pub NodesAreDisjoint : Type 0

@@ -9,7 +9,8 @@ use Rattle.policy_meaning.specs.Leaf.{has_port}
 use Rattle.policy_meaning.specs.LeafFact.{IsSoundTable}
 use Rattle.policy_meaning.specs.Meaning.{evaluate}
 use Rattle.policy_meaning.specs.CentralFact.{ArePlain, EachMember, EachLeft}
-use Rattle.policy_meaning.specs.Networks.{fabric_of, ground_of, enters, table_meaning, switch_has, switch_spread, switch_links}
+use Rattle.policy_meaning.specs.Networks.{fabric_of, ground_of, enters, table_meaning, switch_has, switch_spread}
+use Rattle.policy_meaning.specs.Networks.{switch_links}
 use Rattle.policy_meaning.specs.Hops.{node, hop_size, peer_of}
 use Rattle.policy_meaning.specs.HopFact.{HopSays}
 use Rattle.policy_meaning.specs.Walk.{walk}
@@ -29,7 +30,8 @@ abbrev pub HasPlainTable : Option LeafTable → Type 0
 HasPlainTable None = Unit {0}
 HasPlainTable (Some t) = AllByRecursion (λ (e : LeafEntry). ArePlain e.effects.outs e.effects.tail) t.entries
 
--- each member of the virtual switch has a sound table, and those of left operands of `+` set nothing and pass nothing on
+-- each member of the virtual switch has a sound table, and those of left operands of `+` set nothing and pass nothing
+-- on
 pub record IsSoundSwitch (tables : List LeafTable) (s : VirtualSwitch) : Type 0 where
   pub members : EachMember (λ i. HasSoundTable (slice_get tables i)) s.expr
   pub lefts : EachLeft (λ i. HasPlainTable (slice_get tables i)) s.expr
@@ -49,15 +51,18 @@ EveryNode =
     (net : Network) → IsSoundNetwork net → (n v : ℕ) (h : HeaderOf) → enters net v h ≡ true
     → HopSays h (node (fabric_of net) n v h.in_port) (hop_size (fabric_of net) n v) (walk (ground_of net) n v h)
 
--- of an expression over sound tables exactly one rule is best for each header that comes by one of these ports, below the
+-- of an expression over sound tables exactly one rule is best for each header that comes by one of these ports, below
+-- the
 -- expression's size, and it does what the expression does
 abbrev pub EveryExpression : Type 0
 EveryExpression =
     (tables : List LeafTable) (ports : List ℕ) (e : Policy) → EachMember (λ i. HasSoundTable (slice_get tables i)) e
     → (h : HeaderOf) → has_port ports h.in_port ≡ true
-    → Says h (composed_of tables ports e).rules (levels_of tables e) (evaluate (λ i. table_meaning (slice_get tables i)) e h)
+    → Says h (composed_of tables ports e).rules (levels_of tables e)
+    (evaluate (λ i. table_meaning (slice_get tables i)) e h)
 
--- and where those of left operands of `+` set nothing and pass nothing on, one list of actions can do what each rule does
+-- and where those of left operands of `+` set nothing and pass nothing on, one list of actions can do what each rule
+-- does
 abbrev pub ExpressionsAreSound : Type 0
 ExpressionsAreSound =
     (tables : List LeafTable) (ports : List ℕ) (e : Policy) → EachMember (λ i. HasSoundTable (slice_get tables i)) e

@@ -39,7 +39,8 @@ AreBelow c = All (Below c.size) c.rules
 
 -- over tables that fit, the levels of an expression's rules are below its size
 abbrev pub RulesAreBelow : Type 0
-RulesAreBelow = (tables : List LeafTable) (ports : List ℕ) (e : Policy) → All IsFittingTable tables → AreBelow (composed_of tables ports e)
+RulesAreBelow = (tables : List LeafTable) (ports : List ℕ) (e : Policy) → All IsFittingTable tables
+    → AreBelow (composed_of tables ports e)
 
 -- and those of a node's rules below the node's
 abbrev pub NodesAreBelow : Type 0

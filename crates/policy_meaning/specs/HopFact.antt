@@ -48,7 +48,8 @@ pub record HopSays (h : HeaderOf) (rules : List Rule) (size : ℕ) (walked : Wal
   pub sound : IsSound rule
 
 -- what is asked of the virtual switches and their links
-pub record IsSoundFabric (f : Fabric) (means : ℕ → HeaderOf → Meaning) (spread : ℕ → Bool) (has : ℕ → ℕ → Bool) : Type 0 where
+pub record IsSoundFabric (f : Fabric) (means : ℕ → HeaderOf → Meaning) (spread : ℕ → Bool) (has : ℕ → ℕ
+    → Bool) : Type 0 where
   pub says : (v : ℕ) (h : HeaderOf) → has v h.in_port ≡ true → Says h (f.rules v) (f.sizes v) (means v h)
   pub sound : (v : ℕ) → AllByRecursion IsSound (f.rules v)
   -- a link leads to a port of a virtual switch that isn't spread
@@ -57,6 +58,8 @@ pub record IsSoundFabric (f : Fabric) (means : ℕ → HeaderOf → Meaning) (sp
 -- for every node, and every header that comes by its port and is taken there
 abbrev pub HopFact : Type 0
 HopFact =
-    (f : Fabric) (means : ℕ → HeaderOf → Meaning) (spread : ℕ → Bool) (has : ℕ → ℕ → Bool) → IsSoundFabric f means spread has
+    (f : Fabric) (means : ℕ → HeaderOf → Meaning) (spread : ℕ → Bool) (has : ℕ → ℕ → Bool)
+    → IsSoundFabric f means spread has
     → (n v : ℕ) (h : HeaderOf) → has v h.in_port ≡ true → takes (spread v) h ≡ true
-    → HopSays h (node f n v h.in_port) (hop_size f n v) (walk (record { means = means; links = f.links; spread = spread }) n v h)
+    → HopSays h (node f n v h.in_port) (hop_size f n v)
+    (walk (record { means = means; links = f.links; spread = spread }) n v h)

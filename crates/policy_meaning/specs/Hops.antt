@@ -1,5 +1,6 @@
 -- The rules of the ports of virtual switches that are joined by links, for so many hops.
-use Rattle.std.specs.Prelude.{ℕ, zero, suc, true, ◌==◌, ◌&&◌, ◌*◌, max, Option, Some, None, List, [], ◌∷◌, if◌then◌else◌, map, filter_map, flat_map, option_map}
+use Rattle.std.specs.Prelude.{ℕ, zero, suc, true, ◌==◌, ◌&&◌, ◌*◌, max, Option, Some, None, List, [], ◌∷◌}
+use Rattle.std.specs.Prelude.{if◌then◌else◌, map, filter_map, flat_map, option_map}
 use Rattle.of10_match.specs.Fields.{MatchOf}
 use Rattle.of10_match.specs.Matching.{at_port, everything}
 use Rattle.of10_actions.specs.Fields.{RewriteOf}
@@ -30,7 +31,8 @@ peer_of (l ∷ ls) p = if l.port == p then Some l.peer else peer_of ls p
 abbrev pub leads : Tail → List Link → ℕ → Option Onward
 leads Tail.Nothing links port = None
 leads (Tail.Pass r) links port = None
-leads (Tail.Link r p) links port = if p == port then None else option_map (λ q. record { rewrite = r; place = q }) (peer_of links p)
+leads (Tail.Link r p) links port = if p == port then None
+    else option_map (λ q. record { rewrite = r; place = q }) (peer_of links p)
 
 -- the greatest of some sizes, and at least 1
 abbrev pub greatest : List ℕ → ℕ
@@ -67,7 +69,14 @@ at_node v port a = record a { outs = outs_at v port a.outs }
 
 -- a rule, as it stands at its node, that goes on nowhere; the rules of its peers have `size` levels
 abbrev pub hop_lone : ℕ → Rule → Rule
-hop_lone size a = record { m = a.m; level = concat_level a.level 0 size; touched = true; outs = a.outs; tail = Tail.Nothing; ancestry = a.ancestry }
+hop_lone size a = record {
+  m = a.m;
+  level = concat_level a.level 0 size;
+  touched = true;
+  outs = a.outs;
+  tail = Tail.Nothing;
+  ancestry = a.ancestry;
+}
 
 -- such a rule that goes on with the rewrite r, and a rule of the node where it comes to, where both hold m
 abbrev pub hopped : ℕ → RewriteOf → Rule → Rule → MatchOf → Rule
@@ -90,5 +99,6 @@ last_rule = record { m = everything; level = 0; touched = true; outs = []; tail 
 abbrev pub node : Fabric → ℕ → ℕ → ℕ → List Rule
 node f zero v port = last_rule ∷ []
 node f (suc n) v port =
-    flat_map (λ (a : Rule). hops_on (leads a.tail (f.links v) port) (node f n) (peers_size (hop_size f n) (f.links v)) (at_node v port a))
+    flat_map (λ (a : Rule). hops_on (leads a.tail (f.links v) port) (node f n) (peers_size (hop_size f n) (f.links v))
+    (at_node v port a))
     (filter_map (λ a. rule_met a (at_port port)) (f.rules v))

@@ -1,5 +1,6 @@
 -- The rules of a member's table.
-use Rattle.std.specs.Prelude.{ℕ, Bool, true, false, ◌+◌, ◌||◌, not, Option, Some, None, List, [], ◌∷◌, ◌++◌, if◌then◌else◌, map, filter_map, flat_map, option_map}
+use Rattle.std.specs.Prelude.{ℕ, Bool, true, false, ◌+◌, ◌||◌, not, Option, Some, None, List, [], ◌∷◌, ◌++◌}
+use Rattle.std.specs.Prelude.{if◌then◌else◌, map, filter_map, flat_map, option_map}
 use Rattle.std.specs.List.{list_any}
 use Rattle.of10_match.specs.Fields.{MatchOf}
 use Rattle.of10_match.specs.Matching.{at_port, meet, everything, each}
@@ -17,7 +18,9 @@ is_open (Some x) = false
 -- the match holds every header
 abbrev pub is_everything : MatchOf → Bool
 is_everything m =
-    each (is_open m.in_port) (is_open m.dl_src) (is_open m.dl_dst) (is_open m.dl_vlan) (is_open m.dl_vlan_pcp) (is_open m.dl_type) (is_open m.nw_tos) (is_open m.nw_proto) (is_open m.nw_src) (is_open m.nw_dst) (is_open m.tp_src) (is_open m.tp_dst)
+    each (is_open m.in_port) (is_open m.dl_src) (is_open m.dl_dst) (is_open m.dl_vlan) (is_open m.dl_vlan_pcp)
+    (is_open m.dl_type) (is_open m.nw_tos) (is_open m.nw_proto) (is_open m.nw_src) (is_open m.nw_dst)
+    (is_open m.tp_src) (is_open m.tp_dst)
 
 -- the rule, narrowed to what the match holds too, or none where no header is in both
 abbrev pub rule_met : Rule → MatchOf → Option Rule
@@ -41,15 +44,36 @@ in_cells cells a = filter_map (rule_met a) cells
 
 -- the rule of an entry, for any header
 abbrev pub entry_rule : LeafTable → LeafEntry → Rule
-entry_rule t e = record { m = e.m; level = e.level; touched = true; outs = e.effects.outs; tail = e.effects.tail; ancestry = record { member = t.member; kind = 2 + e.serial } ∷ [] }
+entry_rule t e = record {
+  m = e.m;
+  level = e.level;
+  touched = true;
+  outs = e.effects.outs;
+  tail = e.effects.tail;
+  ancestry = record { member = t.member; kind = 2 + e.serial } ∷ [];
+}
 
 -- the rule of a miss, for any header
 abbrev pub miss_rule : LeafTable → Rule
-miss_rule t = record { m = everything; level = 1; touched = false; outs = miss_outs t; tail = Nothing; ancestry = record { member = t.member; kind = 1 } ∷ [] }
+miss_rule t = record {
+  m = everything;
+  level = 1;
+  touched = false;
+  outs = miss_outs t;
+  tail = Nothing;
+  ancestry = record { member = t.member; kind = 1 } ∷ [];
+}
 
 -- the rule of what the member may not act on, below all others
 abbrev pub outside_rule : LeafTable → Rule
-outside_rule t = record { m = everything; level = 0; touched = false; outs = []; tail = Nothing; ancestry = record { member = t.member; kind = 0 } ∷ [] }
+outside_rule t = record {
+  m = everything;
+  level = 0;
+  touched = false;
+  outs = [];
+  tail = Nothing;
+  ancestry = record { member = t.member; kind = 0 } ∷ [];
+}
 
 -- something is outside: no box holds everything, or a port is hidden
 abbrev pub has_outside : List ℕ → LeafTable → Bool

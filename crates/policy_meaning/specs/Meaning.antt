@@ -27,7 +27,11 @@ both_act a b = record { touched = a.touched || b.touched; outs = a.outs ++ b.out
 abbrev pub passed_on : Tail → Meaning → (RewriteOf → Meaning) → Meaning
 passed_on Nothing a b = a
 passed_on (Link r port) a b = a
-passed_on (Pass r) a b = record { touched = a.touched; outs = a.outs ++ map (out_after r) (b r).outs; tail = tail_after r (b r).tail }
+passed_on (Pass r) a b = record {
+  touched = a.touched;
+  outs = a.outs ++ map (out_after r) (b r).outs;
+  tail = tail_after r (b r).tail;
+}
 
 -- the left acts, then the right on what the left passes on
 abbrev pub in_turn : Meaning → (RewriteOf → Meaning) → Meaning

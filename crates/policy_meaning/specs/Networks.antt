@@ -1,5 +1,6 @@
 -- A network's tables, expressions and links, as evaluation, rules and walks read them.
-use Rattle.std.specs.Prelude.{ℕ, Bool, false, ◌&&◌, Option, Some, None, List, [], ◌∷◌, ◌++◌, if◌then◌else◌, map, slice_get}
+use Rattle.std.specs.Prelude.{ℕ, Bool, false, ◌&&◌, Option, Some, None, List, [], ◌∷◌, ◌++◌, if◌then◌else◌, map}
+use Rattle.std.specs.Prelude.{slice_get}
 use Rattle.of10_match.specs.Fields.{HeaderOf}
 use Rattle.policy_expr.specs.Sizes.{size_of}
 use Rattle.policy_meaning.specs.Meaning.{evaluate}
@@ -43,7 +44,8 @@ switch_meaning tables (Some s) h = evaluate (λ i. table_meaning (slice_get tabl
 -- the rules of the expression of a virtual switch
 abbrev pub switch_rules : List LeafTable → Option VirtualSwitch → List Rule
 switch_rules tables None = []
-switch_rules tables (Some s) = rules_of (λ i. table_size (slice_get tables i)) (λ i. table_rules (ports_of s) (slice_get tables i)) s.expr
+switch_rules tables (Some s) = rules_of (λ i. table_size (slice_get tables i))
+    (λ i. table_rules (ports_of s) (slice_get tables i)) s.expr
 
 -- how many levels these have
 abbrev pub switch_size : List LeafTable → Option VirtualSwitch → ℕ

@@ -14,7 +14,8 @@ use Rattle.policy_meaning.specs.declared.rule.Rule.{Rule}
 
 -- rules by their ancestry, then by in_port, none first, then by the bytes of their matches
 abbrev pub by_ancestry : Rule → Rule → Ordering
-by_ancestry a b = ordering_then (ancestry_cmp a.ancestry b.ancestry) (ordering_then (option_cmp nat_cmp a.m.in_port b.m.in_port) (by_bytes a.m b.m))
+by_ancestry a b = ordering_then (ancestry_cmp a.ancestry b.ancestry)
+    (ordering_then (option_cmp nat_cmp a.m.in_port b.m.in_port) (by_bytes a.m b.m))
 
 -- the same rules, in that order
 pub record IsListing (rules listed : List Rule) : Type 0 where
@@ -28,5 +29,6 @@ OrderKeepsBest = (h : HeaderOf) (xs ys : List Rule) (r : Rule) → IsPermutation
 -- of rules that are disjoint, with matches in range, there is one listing, whichever their order
 abbrev pub ListingIsUnique : Type 0
 ListingIsUnique =
-    (rules others listed list : List Rule) → IsPermutation rules others → AreAllDisjoint rules → AllByRecursion (λ (r : Rule). IsMatch r.m) rules
+    (rules others listed list : List Rule) → IsPermutation rules others → AreAllDisjoint rules
+    → AllByRecursion (λ (r : Rule). IsMatch r.m) rules
     → IsListing rules listed → IsListing others list → listed ≡ list

@@ -1,5 +1,6 @@
 -- The rules of an expression, from scratch: all pairs that meet, and all rules that stand alone.
-use Rattle.std.specs.Prelude.{ℕ, Bool, ◌||◌, Option, List, [], ◌∷◌, ◌++◌, if◌then◌else◌, map, filter_map, flat_map, option_map}
+use Rattle.std.specs.Prelude.{ℕ, Bool, ◌||◌, Option, List, [], ◌∷◌, ◌++◌, if◌then◌else◌, map, filter_map, flat_map}
+use Rattle.std.specs.Prelude.{option_map}
 use Rattle.std.specs.Option.{option_and_then}
 use Rattle.of10_match.specs.Fields.{MatchOf}
 use Rattle.of10_match.specs.Matching.{meet}
@@ -15,7 +16,14 @@ use Rattle.policy_meaning.specs.declared.rule.Rule.{Rule}
 
 -- the rule of a pair of `+`, where it holds m
 abbrev pub summed : Rule → Rule → MatchOf → Rule
-summed a b m = record { m = m; level = sum_level a.level b.level; touched = a.touched || b.touched; outs = a.outs ++ b.outs; tail = b.tail; ancestry = a.ancestry ++ b.ancestry }
+summed a b m = record {
+  m = m;
+  level = sum_level a.level b.level;
+  touched = a.touched || b.touched;
+  outs = a.outs ++ b.outs;
+  tail = b.tail;
+  ancestry = a.ancestry ++ b.ancestry;
+}
 
 -- the rule of a pair of `+`, or none where no header is in both
 abbrev pub sum_rule : Rule → Rule → Option Rule
@@ -23,11 +31,20 @@ sum_rule a b = option_map (summed a b) (meet a.m b.m)
 
 -- the rule of a pair of which b, with `size` levels, acts on packets that r rewrote, where it holds m
 abbrev pub after_rewrite : ℕ → RewriteOf → Rule → Rule → Bool → Tail → MatchOf → Rule
-after_rewrite size r a b touched tail m = record { m = m; level = concat_level a.level b.level size; touched = touched; outs = a.outs ++ map (out_after r) b.outs; tail = tail; ancestry = a.ancestry ++ b.ancestry }
+after_rewrite size r a b touched tail m =
+    record {
+      m = m;
+      level = concat_level a.level b.level size;
+      touched = touched;
+      outs = a.outs ++ map (out_after r) b.outs;
+      tail = tail;
+      ancestry = a.ancestry ++ b.ancestry;
+    }
 
 -- such a rule, or none where no header of a is asked for after r
 abbrev pub rule_after : ℕ → RewriteOf → Rule → Rule → MatchOf → Bool → Tail → Option Rule
-rule_after size r a b asked touched tail = option_map (after_rewrite size r a b touched tail) (option_and_then (meet a.m) (pull r asked))
+rule_after size r a b asked touched tail =
+    option_map (after_rewrite size r a b touched tail) (option_and_then (meet a.m) (pull r asked))
 
 -- the rule of a pair of `>>`, where a passes r on, b has `size` levels, and it holds m
 abbrev pub chained : ℕ → RewriteOf → Rule → Rule → MatchOf → Rule
@@ -63,5 +80,7 @@ shifts_with size a = if a.touched then lifted (shift_level a.level size) a ∷ [
 abbrev pub rules_of : (ℕ → ℕ) → (ℕ → List Rule) → Policy → List Rule
 rules_of sizes leaf (member i) = leaf i
 rules_of sizes leaf (parallel a b) = flat_map (sums_with (rules_of sizes leaf b)) (rules_of sizes leaf a)
-rules_of sizes leaf (sequential a b) = flat_map (chains_with (size_of sizes b) (rules_of sizes leaf b)) (rules_of sizes leaf a)
-rules_of sizes leaf (override a b) = flat_map (shifts_with (size_of sizes b)) (rules_of sizes leaf a) ++ rules_of sizes leaf b
+rules_of sizes leaf (sequential a b) = flat_map (chains_with (size_of sizes b) (rules_of sizes leaf b))
+    (rules_of sizes leaf a)
+rules_of sizes leaf (override a b) = flat_map (shifts_with (size_of sizes b)) (rules_of sizes leaf a)
+    ++ rules_of sizes leaf b

@@ -23,6 +23,8 @@ link_code =
 -- a virtual switch is stored as the tuple of its fields
 abbrev pub switch_code : Coded SwitchOf
 switch_code =
-    code_by (Policy × (List ℕ × (List Link × (Bool × Bool)))) (coded× policy_code (coded× (coded_list coded_ℕ) (coded× (coded_list link_code) (coded× coded_bool coded_bool))))
+    code_by (Policy × (List ℕ × (List Link × (Bool × Bool))))
+    (coded× policy_code
+    (coded× (coded_list coded_ℕ) (coded× (coded_list link_code) (coded× coded_bool coded_bool))))
     (λ s. (s.expr, (s.outside, (s.links, (s.spread, s.whole)))))
     (λ p. record { expr = p.0; outside = p.1.0; links = p.1.1.0; spread = p.1.1.1.0; whole = p.1.1.1.1 }) (λ _. refl)

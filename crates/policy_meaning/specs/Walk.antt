@@ -1,5 +1,6 @@
 -- The way of a packet over virtual switches, by what their expressions do.
-use Rattle.std.specs.Prelude.{ℕ, zero, suc, Bool, ◌==◌, ◌&&◌, not, Option, Some, None, List, [], ◌++◌, if◌then◌else◌, map, filter_map}
+use Rattle.std.specs.Prelude.{ℕ, zero, suc, Bool, ◌==◌, ◌&&◌, not, Option, Some, None, List, [], ◌++◌, if◌then◌else◌}
+use Rattle.std.specs.Prelude.{map, filter_map}
 use Rattle.of10_match.specs.Fields.{HeaderOf}
 use Rattle.of10_match.specs.Numbers.{UNTAGGED}
 use Rattle.of10_actions.specs.Fields.{RewriteOf}
@@ -25,10 +26,13 @@ pub record Ground : Type 0 where
 abbrev pub nowhere : Walked
 nowhere = record { outs = []; told = [] }
 
--- a packet that leaves at a virtual switch by these, where it came in by a port: not by that port, unless to the ingress
+-- a packet that leaves at a virtual switch by these, where it came in by a port: not by that port, unless to the
+-- ingress
 abbrev pub port_out : ℕ → ℕ → RewriteOf → Dest → Option PortOut
-port_out v in_port r (Port w p) = if (w == v) && (p == in_port) then None else Some (record { v = w; port = p; rewrite = r })
-port_out v in_port r (Flood w p) = if (w == v) && (p == in_port) then None else Some (record { v = w; port = p; rewrite = r })
+port_out v in_port r (Port w p) = if (w == v) && (p == in_port) then None
+    else Some (record { v = w; port = p; rewrite = r })
+port_out v in_port r (Flood w p) = if (w == v) && (p == in_port) then None
+    else Some (record { v = w; port = p; rewrite = r })
 port_out v in_port r Ingress = Some (record { v = v; port = in_port; rewrite = r })
 port_out v in_port r (Tell member reason) = None
 
@@ -37,7 +41,8 @@ abbrev pub telling : ℕ → RewriteOf → Dest → Option Told
 telling in_port r (Port w p) = None
 telling in_port r (Flood w p) = None
 telling in_port r Ingress = None
-telling in_port r (Tell member reason) = Some (record { member = member; in_port = in_port; reason = reason; rewrite = r })
+telling in_port r (Tell member reason) =
+    Some (record { member = member; in_port = in_port; reason = reason; rewrite = r })
 
 -- what the outs of a virtual switch give, where the packet came in by a port
 abbrev pub here : ℕ → ℕ → List Out → Walked
@@ -75,5 +80,6 @@ abbrev pub walk : Ground → ℕ → ℕ → HeaderOf → Walked
 walk g zero v h = nowhere
 walk g (suc n) v h =
     if takes (g.spread v) h
-    then both_walked (here v h.in_port (g.means v h).outs) (what_follows (leads (g.means v h).tail (g.links v) h.in_port) (walk g n) h)
+    then both_walked (here v h.in_port (g.means v h).outs)
+    (what_follows (leads (g.means v h).tail (g.links v) h.in_port) (walk g n) h)
     else nowhere

@@ -34,7 +34,15 @@ entry serial m level effects = record { serial = serial; rank = 100; m = m; leve
 
 -- a table of 8 levels that sees ports 1 to 4 and may act on all headers
 abbrev pub table : ℕ → Bool → List LeafEntry → LeafTable
-table member misses entries = record { member = member; size = 8; region = everything ∷ []; visible = 1 ∷ 2 ∷ 3 ∷ 4 ∷ []; misses = misses; entries = entries }
+table member misses entries =
+    record {
+      member = member;
+      size = 8;
+      region = everything ∷ [];
+      visible = 1 ∷ 2 ∷ 3 ∷ 4 ∷ [];
+      misses = misses;
+      entries = entries;
+    }
 
 -- a monitor: it looks at packets from 10.0.1.0/24
 abbrev pub monitor : LeafTable
@@ -42,7 +50,8 @@ monitor = table 0 false (entry 1 (from_net 0x0a000100 24) 4 (does [] Nothing) �
 
 -- a router: 10.0.2.0/24, and above it 10.0.2.9, are at port 2
 abbrev pub router : LeafTable
-router = table 1 true (entry 1 (to_net 0x0a000200 24) 4 (does (to_port 2) Nothing) ∷ record (entry 2 (to_net 0x0a000209 32) 6 (does (to_port 2) Nothing)) { rank = 200 } ∷ [])
+router = table 1 true (entry 1 (to_net 0x0a000200 24) 4 (does (to_port 2) Nothing)
+    ∷ record (entry 2 (to_net 0x0a000209 32) 6 (does (to_port 2) Nothing)) { rank = 200 } ∷ [])
 
 -- the server to which the load balancer sends
 abbrev pub to_server : RewriteOf
@@ -62,7 +71,8 @@ firewall = table 0 true (entry 1 (from_net 0x0a000100 24) 4 (does (to_port 2) No
 
 -- a monitor of all packets, which is told of each
 abbrev pub teller : LeafTable
-teller = table 0 false (entry 1 everything 4 (does (record { rewrite = no_rewrite; dest = Tell 0 1 } ∷ []) Nothing) ∷ [])
+teller = table 0 false (entry 1 everything 4 (does (record { rewrite = no_rewrite; dest = Tell 0 1 } ∷ []) Nothing)
+    ∷ [])
 
 -- a load balancer behind it
 abbrev pub second_balancer : LeafTable
@@ -74,4 +84,17 @@ idle_router = table 2 true []
 
 -- an UDP packet from 10.0.1.7 to this address, which comes by port 1
 abbrev pub packet_to : ℕ → HeaderOf
-packet_to address = record { in_port = 1; dl_src = 1; dl_dst = 2; dl_vlan = 65535; dl_vlan_pcp = 0; dl_type = 0x0800; nw_tos = 0; nw_proto = 17; nw_src = 0x0a000107; nw_dst = address; tp_src = 1000; tp_dst = 53 }
+packet_to address = record {
+  in_port = 1;
+  dl_src = 1;
+  dl_dst = 2;
+  dl_vlan = 65535;
+  dl_vlan_pcp = 0;
+  dl_type = 0x0800;
+  nw_tos = 0;
+  nw_proto = 17;
+  nw_src = 0x0a000107;
+  nw_dst = address;
+  tp_src = 1000;
+  tp_dst = 53;
+}

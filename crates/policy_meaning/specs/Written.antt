@@ -1,5 +1,6 @@
 -- How many actions write what a rule does: at most as many for each of its leaves as a member's entry has.
-use Rattle.std.specs.Prelude.{◌≡◌, ℕ, ◌+◌, ◌*◌, ◌<◌, ◌≤◌, ◌==◌, Option, Some, None, if◌then◌else◌, List, [], ◌∷◌, length, slice_get}
+use Rattle.std.specs.Prelude.{◌≡◌, ℕ, ◌+◌, ◌*◌, ◌<◌, ◌≤◌, ◌==◌, Option, Some, None, if◌then◌else◌, List, [], ◌∷◌}
+use Rattle.std.specs.Prelude.{length, slice_get}
 use Rattle.std.specs.List.{AllByRecursion}
 use Rattle.of10_actions.specs.Fields.{RewriteOf}
 use Rattle.of10_actions.specs.Rewriting.{no_rewrite}
@@ -28,8 +29,11 @@ field_writes (Some u) (Some v) = if u == v then 0 else 1
 -- how many actions make of a packet what one rewrite wants which is what another made it
 abbrev pub set_writes : RewriteOf → RewriteOf → ℕ
 set_writes now want =
-    field_writes now.dl_src want.dl_src + (field_writes now.dl_dst want.dl_dst + (field_writes now.nw_src want.nw_src + (field_writes now.nw_dst want.nw_dst
-    + (field_writes now.nw_tos want.nw_tos + (field_writes now.tp_src want.tp_src + field_writes now.tp_dst want.tp_dst)))))
+    field_writes now.dl_src want.dl_src +
+    (field_writes now.dl_dst want.dl_dst +
+    (field_writes now.nw_src want.nw_src + (field_writes now.nw_dst want.nw_dst
+    + (field_writes now.nw_tos want.nw_tos +
+    (field_writes now.tp_src want.tp_src + field_writes now.tp_dst want.tp_dst)))))
 
 -- how many set the fields of a tail
 abbrev pub tail_writes : RewriteOf → Tail → ℕ
@@ -57,7 +61,8 @@ EntriesAreWrittenBy n t = AllByRecursion (λ (e : LeafEntry). writes e.effects.o
 abbrev pub RulesAreWritten : Type 0
 RulesAreWritten =
     (n : ℕ) → 0 < n → (tables : List LeafTable) → AllByRecursion (EntriesAreWrittenBy n) tables
-    → (ports : List ℕ) (e : Policy) → EachMember (λ i. HasSoundTable (slice_get tables i)) e → EachLeft (λ i. HasPlainTable (slice_get tables i)) e
+    → (ports : List ℕ) (e : Policy) → EachMember (λ i. HasSoundTable (slice_get tables i)) e
+    → EachLeft (λ i. HasPlainTable (slice_get tables i)) e
     → AllByRecursion (IsWrittenBy n) (composed_of tables ports e).rules
 
 -- and so is each rule of a node, through hops
@@ -72,7 +77,8 @@ HasLeaves n r = length r.ancestry ≤ n
 
 -- the rules of an expression have at most its leaves
 abbrev pub RulesHaveLeaves : Type 0
-RulesHaveLeaves = (tables : List LeafTable) (ports : List ℕ) (e : Policy) → AllByRecursion (HasLeaves (leaf_count e)) (composed_of tables ports e).rules
+RulesHaveLeaves = (tables : List LeafTable) (ports : List ℕ) (e : Policy)
+    → AllByRecursion (HasLeaves (leaf_count e)) (composed_of tables ports e).rules
 
 -- those of a node at most so many for each hop, where no expression has more
 abbrev pub NodesHaveLeaves : Type 0

@@ -6,7 +6,10 @@ ghost use Rattle.of10_match.specs.Matching.{meet};
 ghost use Rattle.pull_back.specs.Pulling.{pull as pull_of};
 ghost use Rattle.of10_actions.specs.declared.effects.Tail.TheVariants.{Pass};
 ghost use Rattle.policy_meaning.specs.Meaning.{out_after};
-ghost use Rattle.policy_meaning.specs.Rules.{chain_rule as chain_rule_of, chains_by, chains_with as chains_with_of, lifted as lifted_of, rule_after as rule_after_of, shifts_with as shifts_with_of, sum_rule as sum_rule_of, sums_with as sums_with_of};
+ghost use Rattle.policy_meaning.specs.Rules.{chain_rule as chain_rule_of, chains_by, chains_with as chains_with_of};
+ghost use Rattle.policy_meaning.specs.Rules.{lifted as lifted_of, rule_after as rule_after_of};
+ghost use Rattle.policy_meaning.specs.Rules.{shifts_with as shifts_with_of, sum_rule as sum_rule_of};
+ghost use Rattle.policy_meaning.specs.Rules.{sums_with as sums_with_of};
 
 use crate::meaning::{append_after, tail_after};
 use crate::push::joined;
@@ -74,7 +77,8 @@ pub(crate) fn rule_after(
     second: Second,
 ) -> Result<Option<Rule>, Memory>
     requires { concat_level a.now.level b.now.level size < 2 ^ 64 }
-    ensures { IfOk result (λ rule. rule ≡ rule_after_of size rewrite.now a.now b.now second.asked second.touched second.tail) }
+    ensures { IfOk result (λ rule. rule ≡ rule_after_of size rewrite.now a.now b.now second.asked second.touched
+        second.tail) }
 {
     let Second {
         asked,

@@ -35,7 +35,8 @@ pub fn evaluate(
     expr: &Expr,
     header: &Header,
 ) -> Result<Meaning, Memory>
-    ensures { IfOk result (λ meaning. meaning ≡ evaluate_of (λ i. table_meaning_of (slice_get tables.now i)) (policy_of expr.now) header.now) }
+    ensures { IfOk result (λ meaning. meaning ≡ evaluate_of (λ i. table_meaning_of (slice_get tables.now i))
+        (policy_of expr.now) header.now) }
 {
     match expr {
         Expr::Member { index } => member_meaning(alloc, tables, *index, header),

@@ -1,8 +1,10 @@
 //! The rules of virtual switches and of the nodes of their ports, from scratch.
-ghost use Rattle.std.specs.Prelude.{◌≡◌, ◌+◌, ◌*◌, ◌<◌, ◌≤◌, ◌^◌, ◌++◌, All, IfOk, OnOk, IfSome, filter_map, map, slice_get};
+ghost use Rattle.std.specs.Prelude.{◌≡◌, ◌+◌, ◌*◌, ◌<◌, ◌≤◌, ◌^◌, ◌++◌, All, IfOk, OnOk, IfSome, filter_map, map};
+ghost use Rattle.std.specs.Prelude.{slice_get};
 ghost use Rattle.alg_priority.specs.Levels.{capped};
 ghost use Rattle.policy_meaning.specs.Fitting.{IsFittingTable, levels_of};
-ghost use Rattle.policy_meaning.specs.Hops.{hop_size as hop_size_of, hops_on, last_rule as last_rule_of, node, peers_size as peers_size_of};
+ghost use Rattle.policy_meaning.specs.Hops.{hop_size as hop_size_of, hops_on, last_rule as last_rule_of, node};
+ghost use Rattle.policy_meaning.specs.Hops.{peers_size as peers_size_of};
 ghost use Rattle.of10_match.specs.Matching.{at_port};
 ghost use Rattle.policy_meaning.specs.LeafRules.{rule_met as rule_met_of};
 ghost use Rattle.policy_meaning.specs.Networks.{entering as entering_of, fabric_of, switch_rules as switch_rules_of};
@@ -112,7 +114,8 @@ fn add_onward(
     requires tables { All IsFittingTable network.now.tables }
     requires peer { IfSome onward.now (λ (on : Onward). hop_size_of (fabric_of network.now) hops on.place.v ≤ size) }
     requires room { (here.now.level + 1) * size < 2 ^ 64 }
-    ensures { OnOk result (rules.new ≡ rules.old ++ hops_on onward.now (node (fabric_of network.now) hops) size here.now) }
+    ensures { OnOk result (rules.new ≡ rules.old ++ hops_on onward.now (node (fabric_of network.now) hops) size
+        here.now) }
 {
     match onward {
         None => rules.push(hop_lone(size, here)?),
@@ -166,7 +169,8 @@ fn at_each_port(
 ) -> Result<List<Entering>, Memory>
     requires tables { All IsFittingTable network.now.tables }
     requires size { hop_size_of (fabric_of network.now) hops v < 2 ^ 64 }
-    ensures { IfOk result (λ entering. entering ≡ map (λ p. record { port = Some p; rules = node (fabric_of network.now) hops v p }) ports.now) }
+    ensures { IfOk result (λ entering. entering
+        ≡ map (λ p. record { port = Some p; rules = node (fabric_of network.now) hops v p }) ports.now) }
 {
     let mut entering = List::with_capacity(alloc, ports.len())?;
     for port in ports.as_slice() {

@@ -1,7 +1,9 @@
 //! The rules of pairs of rules that a link joins.
 ghost use Rattle.std.specs.Prelude.{◌≡◌, ◌<◌, ◌^◌, ◌++◌, All, IfOk, OnOk, filter_map};
 ghost use Rattle.alg_priority.specs.Levels.{concat_level};
-ghost use Rattle.policy_meaning.specs.Hops.{at_node as at_node_of, hop_lone as hop_lone_of, hop_rule as hop_rule_of, out_at as out_at_of, outs_at as outs_at_of, without_port as without_port_of};
+ghost use Rattle.policy_meaning.specs.Hops.{at_node as at_node_of, hop_lone as hop_lone_of, hop_rule as hop_rule_of};
+ghost use Rattle.policy_meaning.specs.Hops.{out_at as out_at_of, outs_at as outs_at_of};
+ghost use Rattle.policy_meaning.specs.Hops.{without_port as without_port_of};
 
 use crate::composing::{Second, rule_after};
 use crate::rule::Rule;

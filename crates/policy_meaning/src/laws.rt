@@ -1,6 +1,7 @@
 //! The laws on which the hypervisor rests: each function's contract is the law.
 ghost use Rattle.policy_meaning.specs.CentralFact.{CentralFact, RulesAreSound};
-ghost use Rattle.policy_meaning.specs.Disjoint.{DisjointRulesDiffer, LeafRulesAreDisjoint, NodesAreDisjoint, RulesAreDisjoint};
+ghost use Rattle.policy_meaning.specs.Disjoint.{DisjointRulesDiffer, LeafRulesAreDisjoint, NodesAreDisjoint};
+ghost use Rattle.policy_meaning.specs.Disjoint.{RulesAreDisjoint};
 ghost use Rattle.policy_meaning.specs.EveryNode.{EveryExpression, EveryNode, ExpressionsAreSound};
 ghost use Rattle.policy_meaning.specs.Fitting.{NodesAreBelow, RulesAreBelow, SoundTablesFit};
 ghost use Rattle.policy_meaning.specs.HopFact.{HopFact};

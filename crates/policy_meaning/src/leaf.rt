@@ -5,7 +5,9 @@ ghost use Rattle.std.specs.List.{list_any};
 ghost use Rattle.of10_match.specs.Matching.{holds as holds_of};
 ghost use Rattle.policy_meaning.specs.Fitting.{IsFittingTable};
 ghost use Rattle.of10_match.specs.Highest.{pick as pick_of};
-ghost use Rattle.policy_meaning.specs.Leaf.{best_entry as best_entry_of, has_port as has_port_of, is_inside as is_inside_of, leaf_meaning as leaf_meaning_of, miss_outs as miss_outs_of};
+ghost use Rattle.policy_meaning.specs.Leaf.{best_entry as best_entry_of, has_port as has_port_of};
+ghost use Rattle.policy_meaning.specs.Leaf.{is_inside as is_inside_of, leaf_meaning as leaf_meaning_of};
+ghost use Rattle.policy_meaning.specs.Leaf.{miss_outs as miss_outs_of};
 
 use crate::meaning::{Meaning, outside};
 use cv_io::{Duplicate, List, Memory};

@@ -2,7 +2,11 @@
 ghost use Rattle.std.specs.Prelude.{◌≡◌, [], ◌∷◌, ◌+◌, ◌<◌, ◌^◌, ◌++◌, All, IfOk, OnOk, flat_map, map};
 ghost use Rattle.std.specs.List.{list_any};
 ghost use Rattle.policy_meaning.specs.Fitting.{SerialsFit};
-ghost use Rattle.policy_meaning.specs.LeafRules.{cells as cells_of, cut as cut_of, entry_rule as entry_rule_of, has_outside as has_outside_of, hides as hides_of, in_cells, is_everything as is_everything_of, is_open as is_open_of, leaf_rules as leaf_rules_of, miss_rule as miss_rule_of, outside_rule as outside_rule_of, rule_met as rule_met_of};
+ghost use Rattle.policy_meaning.specs.LeafRules.{cells as cells_of, cut as cut_of, entry_rule as entry_rule_of};
+ghost use Rattle.policy_meaning.specs.LeafRules.{has_outside as has_outside_of, hides as hides_of, in_cells};
+ghost use Rattle.policy_meaning.specs.LeafRules.{is_everything as is_everything_of, is_open as is_open_of};
+ghost use Rattle.policy_meaning.specs.LeafRules.{leaf_rules as leaf_rules_of, miss_rule as miss_rule_of};
+ghost use Rattle.policy_meaning.specs.LeafRules.{outside_rule as outside_rule_of, rule_met as rule_met_of};
 
 use crate::leaf::{LeafEntry, LeafTable, has_port};
 use crate::rule::Rule;
@@ -172,7 +176,8 @@ impl LeafTable {
         cells: &List<Match>,
     ) -> Result<(), Memory>
         requires { SerialsFit self.now }
-        ensures { OnOk result (rules.new ≡ rules.old ++ flat_map (in_cells cells.now) (map (entry_rule_of self.now) self.now.entries)) }
+        ensures { OnOk result
+            (rules.new ≡ rules.old ++ flat_map (in_cells cells.now) (map (entry_rule_of self.now) self.now.entries)) }
     {
         for entry in self.entries.as_slice() {
             let rule = self.entry_rule(alloc, entry)?;

@@ -1,7 +1,8 @@
 //! What is done to a packet.
 ghost use Rattle.std.specs.Prelude.{◌≡◌, ◌++◌, IfOk, OnOk, map};
 ghost use Rattle.policy_meaning.specs.Leaf.{outside as outside_of};
-ghost use Rattle.policy_meaning.specs.Meaning.{both_act as both_act_of, first_touched as first_touched_of, out_after, passed_on, tail_after as tail_after_of};
+ghost use Rattle.policy_meaning.specs.Meaning.{both_act as both_act_of, first_touched as first_touched_of, out_after};
+ghost use Rattle.policy_meaning.specs.Meaning.{passed_on, tail_after as tail_after_of};
 ghost use Rattle.of10_actions.specs.declared.effects.Tail.TheVariants.{Pass};
 
 use cv_io::{Duplicate, List, Memory};

@@ -53,7 +53,13 @@ impl Model for VirtualSwitch {
 
     ghost use Rattle.policy_expr.specs.Policy.{policy_of};
 
-    ghost view = { λ s. record { expr = policy_of s.expr; outside = s.outside; links = s.links; spread = s.spread; whole = s.whole } };
+    ghost view = { λ s. record {
+      expr = policy_of s.expr;
+      outside = s.outside;
+      links = s.links;
+      spread = s.spread;
+      whole = s.whole;
+    } };
 }
 
 /// All virtual switches, by number, and the tables of all members, by number.

@@ -122,7 +122,11 @@ fn composed_sum(alloc: Global, left: &Composed, right: &Composed) -> Result<Comp
     requires left { AreBelow left.now }
     requires right { AreBelow right.now }
     requires size { sum_size left.now.size right.now.size < 2 ^ 64 }
-    ensures { IfOk result (λ composed. composed ≡ record { rules = flat_map (sums_with right.now.rules) left.now.rules; size = sum_size left.now.size right.now.size }) }
+    ensures { IfOk result (λ composed. composed
+        ≡ record {
+          rules = flat_map (sums_with right.now.rules) left.now.rules;
+          size = sum_size left.now.size right.now.size;
+        }) }
 {
     Ok(Composed {
         rules: sums(alloc, &left.rules, &right.rules)?,
@@ -135,7 +139,11 @@ fn composed_chain(alloc: Global, left: &Composed, right: &Composed) -> Result<Co
     requires left { AreBelow left.now }
     requires right { AreBelow right.now }
     requires size { concat_size left.now.size right.now.size < 2 ^ 64 }
-    ensures { IfOk result (λ composed. composed ≡ record { rules = flat_map (chains_with right.now.size right.now.rules) left.now.rules; size = concat_size left.now.size right.now.size }) }
+    ensures { IfOk result (λ composed. composed
+        ≡ record {
+          rules = flat_map (chains_with right.now.size right.now.rules) left.now.rules;
+          size = concat_size left.now.size right.now.size;
+        }) }
 {
     Ok(Composed {
         rules: chains(alloc, right.size, &left.rules, &right.rules)?,
@@ -147,7 +155,11 @@ fn composed_chain(alloc: Global, left: &Composed, right: &Composed) -> Result<Co
 fn composed_shift(alloc: Global, left: &Composed, right: Composed) -> Result<Composed, Memory>
     requires left { AreBelow left.now }
     requires size { shift_size left.now.size right.size < 2 ^ 64 }
-    ensures { IfOk result (λ composed. composed ≡ record { rules = flat_map (shifts_with right.size) left.now.rules ++ right.rules; size = shift_size left.now.size right.size }) }
+    ensures { IfOk result (λ composed. composed
+        ≡ record {
+          rules = flat_map (shifts_with right.size) left.now.rules ++ right.rules;
+          size = shift_size left.now.size right.size;
+        }) }
 {
     let Composed { rules, size } = right;
     Ok(Composed {

@@ -1,7 +1,9 @@
 //! The way of a packet over virtual switches.
 ghost use Rattle.std.specs.Prelude.{◌≡◌, ◌++◌, IfOk, OnOk, filter_map, map};
 ghost use Rattle.policy_meaning.specs.Networks.{ground_of};
-ghost use Rattle.policy_meaning.specs.Walk.{arriving as arriving_of, both_walked as both_walked_of, here as here_of, nowhere as nowhere_of, port_out as port_out_of, takes as takes_of, telling as telling_of, walk as walk_of, walked_after as walked_after_of};
+ghost use Rattle.policy_meaning.specs.Walk.{arriving as arriving_of, both_walked as both_walked_of, here as here_of};
+ghost use Rattle.policy_meaning.specs.Walk.{nowhere as nowhere_of, port_out as port_out_of, takes as takes_of};
+ghost use Rattle.policy_meaning.specs.Walk.{telling as telling_of, walk as walk_of, walked_after as walked_after_of};
 ghost use Rattle.of10_actions.specs.Rewriting.{and_then};
 
 use crate::evaluation::evaluate;
@@ -91,7 +93,8 @@ fn nowhere(alloc: Global) -> Walked
 
 /// The packets that leave by outs of a virtual switch, where the packet came in by a port.
 fn outs_here(alloc: Global, v: u32, in_port: u16, outs: &List<Out>) -> Result<List<PortOut>, Memory>
-    ensures { IfOk result (λ left. left ≡ filter_map (λ (out : Out). port_out_of v in_port out.rewrite out.dest) outs.now) }
+    ensures { IfOk result (λ left. left ≡ filter_map (λ (out : Out). port_out_of v in_port out.rewrite out.dest)
+        outs.now) }
 {
     let mut left = List::new(alloc);
     for out in outs.as_slice() {
@@ -102,7 +105,8 @@ fn outs_here(alloc: Global, v: u32, in_port: u16, outs: &List<Out>) -> Result<Li
 
 /// What members are told by outs of a virtual switch, where the packet came in by a port.
 fn told_here(alloc: Global, in_port: u16, outs: &List<Out>) -> Result<List<Told>, Memory>
-    ensures { IfOk result (λ told. told ≡ filter_map (λ (out : Out). telling_of in_port out.rewrite out.dest) outs.now) }
+    ensures { IfOk result (λ told. told ≡ filter_map (λ (out : Out). telling_of in_port out.rewrite out.dest)
+        outs.now) }
 {
     let mut told = List::new(alloc);
     for out in outs.as_slice() {
@@ -127,7 +131,9 @@ fn append_outs(
     rewrite: &Rewrite,
     more: &List<PortOut>,
 ) -> Result<(), Memory>
-    ensures { OnOk result (outs.new ≡ outs.old ++ map (λ (out : PortOut). record out { rewrite = and_then rewrite.now out.rewrite }) more.now) }
+    ensures { OnOk result
+        (outs.new ≡ outs.old ++ map (λ (out : PortOut). record out { rewrite = and_then rewrite.now out.rewrite })
+        more.now) }
 {
     for out in more.as_slice() {
         outs.push(PortOut {
@@ -141,7 +147,9 @@ fn append_outs(
 
 /// Appends what members are told on a walk that stands after a rewrite.
 fn append_told(told: &mut List<Told>, rewrite: &Rewrite, more: &List<Told>) -> Result<(), Memory>
-    ensures { OnOk result (told.new ≡ told.old ++ map (λ (one : Told). record one { rewrite = and_then rewrite.now one.rewrite }) more.now) }
+    ensures { OnOk result
+        (told.new ≡ told.old ++ map (λ (one : Told). record one { rewrite = and_then rewrite.now one.rewrite })
+        more.now) }
 {
     for one in more.as_slice() {
         told.push(Told {

@@ -1,5 +1,6 @@
 //! Worked examples, each computed by the checker.
-ghost use Rattle.policy_meaning.specs.WorkedRules.{MonitorAndRouter, BalancerBeforeRouter, FirewallOverRouter, ThreePulls, RulesByPort, RegionMetWithEntry};
+ghost use Rattle.policy_meaning.specs.WorkedRules.{MonitorAndRouter, BalancerBeforeRouter, FirewallOverRouter};
+ghost use Rattle.policy_meaning.specs.WorkedRules.{ThreePulls, RulesByPort, RegionMetWithEntry};
 ghost use Rattle.policy_meaning.specs.WorkedHops.{SizesOverHops, ThreeHops, FourHops, TwoAreTold};
 
 /// Rules of members and expressions, with their levels.

@@ -2,7 +2,7 @@
 use Rattle.std.proofs.Common.{◌≡◌, true, false, List, [], ◌∷◌, refl, true≢false, sym}
 use Rattle.events.specs.declared.event.Event.TheVariants.{Take}
 use Rattle.endpoint_works.specs.Audits.{audit}
-use Rattle.hyper_core.specs.Meanings.{StateData, is_idle}
+use Rattle.event_composes.specs.Meanings.{StateData, is_idle}
 use Rattle.machine_meaning.specs.Glances.{unless_taken}
 use Rattle.machine_meaning.specs.Takings.{reply_of}
 use Rattle.outbox.specs.Outboxes.{first}

@@ -2,8 +2,8 @@
 use Rattle.std.proofs.Common.{◌≡◌, ◌∙◌, [], ◌∷◌, ◌++◌, append_assoc, append-nil, ap, sym}
 use Rattle.events.specs.declared.event.Event.{Event}
 use Rattle.events.specs.declared.event.Reply.{Reply}
-use Rattle.hyper_core.proofs.Meanings.{next_is_step}
-use Rattle.hyper_core.specs.Meanings.{StateData, next_data, reply_to, state_in}
+use Rattle.event_composes.proofs.Meanings.{next_is_step}
+use Rattle.event_composes.specs.Meanings.{StateData, next_data, reply_to, state_in}
 use Rattle.machine_meaning.specs.States.{State}
 use Rattle.machine_answers.specs.AuditLines.{line_in, lines_put}
 use Rattle.machine_answers.proofs.AuditTakings.{stepped}
@@ -26,7 +26,8 @@ kept g next reply d (x ∷ xs) legal =
     let line = line_in x.event x.reply in
     let is : d.audit ++ put ≡ line ++ t.audit =
     once d x.event
-    ∙ (ap (λ (f : StateData → Event → StateData). line_in x.event (reply_to d x.event) ++ (f d x.event).audit) (sym next)
+    ∙ (ap (λ (f : StateData → Event → StateData). line_in x.event (reply_to d x.event) ++ (f d x.event).audit)
+    (sym next)
     ∙ ap (λ (r : Reply). line_in x.event r ++ t.audit)
     (ap (λ (f : StateData → Event → Reply). f d x.event) (sym reply) ∙ sym legal.1)) in
     sym (append_assoc d.audit put (lines_made g t xs))

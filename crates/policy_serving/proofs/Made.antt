@@ -1,5 +1,6 @@
 -- The lines of the audit that a history takes are those that its events put, or a beginning of them.
-use Rattle.std.proofs.Common.{◌≡◌, ◌≤◌, ◌∙◌, inl, inr, ℕ, Bool, true, false, List, [], ◌∷◌, ◌++◌, Option, take, length, min, if◌then◌else◌}
+use Rattle.std.proofs.Common.{◌≡◌, ◌≤◌, ◌∙◌, inl, inr, ℕ, Bool, true, false, List, [], ◌∷◌, ◌++◌, Option, take, length}
+use Rattle.std.proofs.Common.{min, if◌then◌else◌}
 use Rattle.std.proofs.Common.{append-nil, ap, arith, refl, subst, sym}
 use Rattle.std.proofs.lemmas.List.{take-append-le, take_min}
 use Rattle.std.proofs.lemmas.List.Concat.{flat_map-append}
@@ -13,7 +14,7 @@ use Rattle.events.specs.declared.event.Event.{Event}
 use Rattle.events.specs.declared.event.Event.TheVariants as events
 use Rattle.events.specs.declared.event.Reply.{Reply}
 use Rattle.events.specs.declared.event.Reply.TheVariants as replies
-use Rattle.hyper_core.specs.Meanings.{StateData, is_idle}
+use Rattle.event_composes.specs.Meanings.{StateData, is_idle}
 use Rattle.policy_serving.specs.Histories.{AuditIsKept, lines_made, lines_taken as taken_here}
 use Rattle.machine_answers.specs.AuditLines.{is_audit, line_in}
 use Rattle.policy_lock.specs.History.{IsLegal, after}
@@ -34,7 +35,8 @@ one_audit (whos.Switch n) = refl
 one_audit whos.Audit = refl
 
 one_line : (e : Event) (r : Reply) → line_of e r ≡ line_in e r
-one_line (events.Take session) (replies.Taken line) = ap (λ (b : Bool). if b then line ∷ [] else []) (one_audit session.who)
+one_line (events.Take session) (replies.Taken line) =
+    ap (λ (b : Bool). if b then line ∷ [] else []) (one_audit session.who)
 one_line (events.Take session) (replies.Opened round) = refl
 one_line (events.Take session) replies.Done = refl
 one_line (events.Take session) replies.Empty = refl
@@ -60,20 +62,24 @@ take_on n xs ys =
     sym (take-append-le (min n (length xs)) xs ys short ∙ take_min n xs)
 
 -- of a machine of which no line waited as it began
-module _ {M : Type 0} (g : Ghosts M Event Reply StateData) (kept : AuditIsKept g) (start : StateData) (none : start.audit ≡ []) where
-  made_is : (log : List (Entry Event Reply)) → IsLegal g start log → lines_made g start log ≡ lines_taken log ++ (after g start log).audit
+module _ {M : Type 0} (g : Ghosts M Event Reply StateData) (kept : AuditIsKept g) (start : StateData)
+    (none : start.audit ≡ []) where
+  made_is : (log : List (Entry Event Reply)) → IsLegal g start log
+      → lines_made g start log ≡ lines_taken log ++ (after g start log).audit
   made_is log legal =
       ap (λ (l : List (List ℕ)). l ++ lines_made g start log) (sym none)
       ∙ (kept start log legal ∙ ap (λ (l : List (List ℕ)). l ++ (after g start log).audit) (sym (one_history log)))
 
   -- where none waits in the end they are all of them
-  all_made : (log : List (Entry Event Reply)) → IsLegal g start log → (after g start log).audit ≡ [] → lines_taken log ≡ lines_made g start log
+  all_made : (log : List (Entry Event Reply)) → IsLegal g start log → (after g start log).audit ≡ []
+      → lines_taken log ≡ lines_made g start log
   all_made log legal empty =
       sym (made_is log legal ∙ (ap (λ (l : List (List ℕ)). lines_taken log ++ l) empty ∙ append-nil (lines_taken log)))
 
   -- else a beginning
   some_made : (log : List (Entry Event Reply)) → IsLegal g start log → (n : ℕ)
-      → take n (lines (lines_taken log)) ≡ take (min n (length (lines (lines_taken log)))) (lines (lines_made g start log))
+      → take n (lines (lines_taken log)) ≡ take (min n (length (lines (lines_taken log))))
+      (lines (lines_made g start log))
   some_made log legal n =
       let taken = lines_taken log in
       let waiting = (after g start log).audit in
@@ -83,19 +89,23 @@ module _ {M : Type 0} (g : Ghosts M Event Reply StateData) (kept : AuditIsKept g
 
   module _ (idle : g.idle ≡ is_idle) (told : Endpoint → Option (List Connection)) (reliable : Endpoint → Bool)
       (places : List Place) (held written : Option (List ℕ)) (faults risen : ℕ) where
-    whole : (undialled failed wanted : Bool) → WritesAll g start told reliable lines_taken places held written faults risen undialled failed wanted
+    whole : (undialled failed wanted : Bool)
+        → WritesAll g start told reliable lines_taken places held written faults risen undialled failed wanted
         → WritesAll g start told reliable (lines_made g start) places held written faults risen undialled failed wanted
     whole undialled failed wanted w =
         let all = w.log ++ w.rest in
         let end = after g start all in
-        let empty = drained end (subst (λ (test : StateData → Event → Bool). test end (events.Take audit) ≡ true) idle w.drained) in
+        let empty =
+        drained end (subst (λ (test : StateData → Event → Bool). test end (events.Take audit) ≡ true) idle
+        w.drained) in
         record {
           log = w.log;
           rest = w.rest;
           run = w.run;
           undials = w.undials;
           drained = w.drained;
-          wrote = subst (λ (l : List (List ℕ)). Appends held written (lines l)) (all_made all w.run.legal empty) w.wrote;
+          wrote = subst (λ (l : List (List ℕ)). Appends held written (lines l)) (all_made all w.run.legal empty)
+              w.wrote;
         }
 
     begun : WritesSome g start told reliable lines_taken places held written faults risen

@@ -1,8 +1,8 @@
 -- A machine that was opened knows the members and the switches of its policy.
 use Rattle.std.proofs.Common.{◌≡◌, ◌∙◌, sym, subst}
 use Rattle.cv_io.specs.declared.leaf.Who.TheVariants.{Member, Switch}
-use Rattle.hyper_core.proofs.Meanings.{meanings_are_states}
-use Rattle.hyper_core.specs.Meanings.{data_in, state_in}
+use Rattle.event_composes.proofs.Meanings.{meanings_are_states}
+use Rattle.event_composes.specs.Meanings.{data_in, state_in}
 use Rattle.machine_meaning.specs.States.{State, opening}
 use Rattle.machine_answers.specs.Answers.{HasSession}
 use Rattle.machine_answers.proofs.Steps.{at_opening}

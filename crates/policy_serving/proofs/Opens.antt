@@ -3,9 +3,9 @@ use Rattle.std.proofs.Common.{◌≡◌, ◌∙◌, [], ap, refl}
 use Rattle.std.proofs.Math.Path.{fun_ext}
 use Rattle.std.specs.FinMap.{get, get-from_entries}
 use Rattle.cv_io.specs.declared.leaf.Leaf.{Leaf}
-use Rattle.hyper_core.proofs.Meanings.{meanings_are_states}
+use Rattle.event_composes.proofs.Meanings.{meanings_are_states}
 use Rattle.machine_drafts.specs.Machines.{MachineOf, state_of}
-use Rattle.hyper_core.specs.Meanings.{StateData, counts_in, data_in, data_of, forgotten_in, lefts_of, total_in}
+use Rattle.event_composes.specs.Meanings.{StateData, counts_in, data_in, data_of, forgotten_in, lefts_of, total_in}
 use Rattle.machine_meaning.specs.States.{State, opening}
 use Rattle.policy_file.specs.Policies.{PolicyOf}
 use Rattle.stats_map.specs.Counting.{CountsOf, nothing}

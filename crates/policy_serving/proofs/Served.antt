@@ -1,5 +1,6 @@
 -- Who can come up at the places of a policy, and how many places there are.
-use Rattle.std.proofs.Common.{◌≡◌, ◌∙◌, ℕ, suc, ◌<◌, ◌≤◌, ◌+◌, ◌*◌, ◌^◌, List, [], ◌∷◌, All, length, map, subst, sym, arith}
+use Rattle.std.proofs.Common.{◌≡◌, ◌∙◌, ℕ, suc, ◌<◌, ◌≤◌, ◌+◌, ◌*◌, ◌^◌, List, [], ◌∷◌, All, length, map, subst, sym}
+use Rattle.std.proofs.Common.{arith}
 use Rattle.std.specs.List.{AllByRecursion, enumerate_from}
 use Rattle.std.proofs.lemmas.List.{length-append, length-map}
 use Rattle.std.proofs.lemmas.List.FromFn.{length-enumerate_from}
@@ -16,7 +17,8 @@ use Rattle.serving.specs.declared.place.Place.{Place}
 use Rattle.policy_serving.specs.Places.{dpid_of, member_place, places_of, switch_place}
 
 -- what holds of each number below the length, and the item there, holds of all numbered items
-numbered_from : {X : Type 0} (P : ℕ × X → Type 0) (m : ℕ) (xs : List X) → ((i : ℕ) (x : X) → i < length xs → P (m + i, x)) → AllByRecursion P (enumerate_from m xs)
+numbered_from : {X : Type 0} (P : ℕ × X → Type 0) (m : ℕ) (xs : List X)
+    → ((i : ℕ) (x : X) → i < length xs → P (m + i, x)) → AllByRecursion P (enumerate_from m xs)
 numbered_from P m [] each = tt
 numbered_from P m (x ∷ xs) each =
     let here : m + 0 ≡ m = omega arith in
@@ -25,10 +27,12 @@ numbered_from P m (x ∷ xs) each =
       numbered_from P (m + 1) xs (λ i y lt. subst (λ n. P (n, y)) (next i) (each (suc i) y (omega (arith, lt)))),
     )
 
-numbered : {X : Type 0} (P : ℕ × X → Type 0) (xs : List X) → ((i : ℕ) (x : X) → i < length xs → P (i, x)) → All P (enumerate_from 0 xs)
+numbered : {X : Type 0} (P : ℕ × X → Type 0) (xs : List X) → ((i : ℕ) (x : X) → i < length xs → P (i, x))
+    → All P (enumerate_from 0 xs)
 numbered P xs each =
     let same = λ (i : ℕ). let is : i ≡ 0 + i = omega arith in is in
-    All-from_recursion P (enumerate_from 0 xs) (numbered_from P 0 xs (λ i x lt. subst (λ n. P (n, x)) (same i) (each i x lt)))
+    All-from_recursion P (enumerate_from 0 xs)
+    (numbered_from P 0 xs (λ i x lt. subst (λ n. P (n, x)) (same i) (each i x lt)))
 
 -- whoever serves each member and each switch serves whoever can come up at a place
 pub places_served : (serves : Who → Type 0) (p : PolicyOf) → length p.switches < 2 ^ 32
@@ -42,7 +46,8 @@ places_served serves p few members switches =
     let as_many : length dpids ≡ length p.switches = length-map p.switches dpid_of in
     let any : (length dpids < 2 ^ 32) × ((n : ℕ) → n < length dpids → serves (whos.Switch n)) =
     subst (λ count. (count < 2 ^ 32) × ((n : ℕ) → n < count → serves (whos.Switch n))) (sym as_many) (few, switches) in
-    All-append P (map (member_place p.rounds) (enumerate_from 0 p.members)) (map (switch_place p.listen p.rounds dpids) (enumerate_from 0 p.switches))
+    All-append P (map (member_place p.rounds) (enumerate_from 0 p.members))
+    (map (switch_place p.listen p.rounds dpids) (enumerate_from 0 p.switches))
     (All-map P (member_place p.rounds) (enumerate_from 0 p.members)
     (numbered (λ (y : ℕ × MemberItem). P (member_place p.rounds y)) p.members (λ n x lt. members n lt)))
     (All-map P (switch_place p.listen p.rounds dpids) (enumerate_from 0 p.switches)
@@ -57,9 +62,12 @@ counted p =
     let dpids = map dpid_of p.switches in
     let members : length (map (member_place p.rounds) (enumerate_from 0 p.members)) ≡ length p.members =
     length-map (enumerate_from 0 p.members) (member_place p.rounds) ∙ length-enumerate_from 0 p.members in
-    let switches : length (map (switch_place p.listen p.rounds dpids) (enumerate_from 0 p.switches)) ≡ length p.switches =
-    length-map (enumerate_from 0 p.switches) (switch_place p.listen p.rounds dpids) ∙ length-enumerate_from 0 p.switches in
-    length-append (map (member_place p.rounds) (enumerate_from 0 p.members)) (map (switch_place p.listen p.rounds dpids) (enumerate_from 0 p.switches))
+    let switches : length (map (switch_place p.listen p.rounds dpids) (enumerate_from 0 p.switches))
+    ≡ length p.switches =
+    length-map (enumerate_from 0 p.switches) (switch_place p.listen p.rounds dpids)
+    ∙ length-enumerate_from 0 p.switches in
+    length-append (map (member_place p.rounds) (enumerate_from 0 p.members))
+    (map (switch_place p.listen p.rounds dpids) (enumerate_from 0 p.switches))
     ∙ (λ i. members i + switches i)
 
 pub few : (p : PolicyOf) → IsSound p → 2 * length (places_of p) + 1 < 2 ^ 32

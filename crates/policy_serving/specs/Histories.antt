@@ -2,7 +2,7 @@
 use Rattle.std.specs.Prelude.{◌≡◌, ℕ, List, [], ◌∷◌, ◌++◌}
 use Rattle.events.specs.declared.event.Event.{Event}
 use Rattle.events.specs.declared.event.Reply.{Reply}
-use Rattle.hyper_core.specs.Meanings.{StateData, state_in}
+use Rattle.event_composes.specs.Meanings.{StateData, state_in}
 use Rattle.policy_lock.specs.History.{IsLegal, after}
 use Rattle.policy_lock.specs.declared.machine.Machine.{Ghosts}
 use Rattle.policy_lock.specs.declared.view.Entry.{Entry}

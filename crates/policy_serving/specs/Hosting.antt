@@ -5,8 +5,8 @@ use Rattle.cv_io.specs.declared.leaf.Who.{Who}
 use Rattle.events.specs.declared.event.Event.{Event}
 use Rattle.events.specs.declared.event.Event.TheVariants.{Gone, Msg, Tick}
 use Rattle.events.specs.declared.event.Reply.{Reply}
-use Rattle.hyper_core.proofs.Meanings.{next_is_step}
-use Rattle.hyper_core.specs.Meanings.{StateData, is_idle, next_data, reply_to, state_in}
+use Rattle.event_composes.proofs.Meanings.{next_is_step}
+use Rattle.event_composes.specs.Meanings.{StateData, is_idle, next_data, reply_to, state_in}
 use Rattle.machine_meaning.specs.States.{State}
 use Rattle.of10_frames.specs.Frames.{IsFrame}
 use Rattle.lock_desk.specs.Hosts.{IsDone, IsHeard, IsOpened, IsTaken}

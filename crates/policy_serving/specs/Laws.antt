@@ -2,7 +2,7 @@
 use Rattle.std.specs.Prelude.{◌≡◌, ◌<◌, ◌+◌, ◌*◌, ◌^◌, ℕ, All, length}
 use Rattle.endpoint_works.specs.Sides.{IsServedSide}
 use Rattle.machine_drafts.specs.Machines.{MachineOf, state_of}
-use Rattle.hyper_core.specs.Meanings.{data_in}
+use Rattle.event_composes.specs.Meanings.{data_in}
 use Rattle.policy_serving.specs.Proxies.{HasOne}
 use Rattle.machine_meaning.specs.States.{opening}
 use Rattle.policy_file.specs.Policies.{PolicyOf}

@@ -3,7 +3,7 @@ use Rattle.std.specs.Prelude.{◌≡◌, ◌<◌, ℕ, length}
 use Rattle.cv_io.specs.declared.leaf.Who.{Who}
 use Rattle.cv_io.specs.declared.leaf.Who.TheVariants.{Member, Switch}
 use Rattle.machine_drafts.specs.Machines.{MachineOf, state_of}
-use Rattle.hyper_core.specs.Meanings.{StateData, data_in, state_in}
+use Rattle.event_composes.specs.Meanings.{StateData, data_in, state_in}
 use Rattle.machine_meaning.specs.States.{opening}
 use Rattle.machine_answers.specs.Answers.{HasSession}
 

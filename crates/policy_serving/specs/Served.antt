@@ -4,7 +4,7 @@ use Rattle.cv_io.specs.Connections.{Connection}
 use Rattle.cv_io.specs.declared.links.Endpoint.{Endpoint}
 use Rattle.events.specs.declared.event.Event.{Event}
 use Rattle.events.specs.declared.event.Reply.{Reply}
-use Rattle.hyper_core.specs.Meanings.{StateData, state_in}
+use Rattle.event_composes.specs.Meanings.{StateData, state_in}
 use Rattle.policy_serving.specs.Histories.{lines_made}
 use Rattle.machine_meaning.specs.States.{opening}
 use Rattle.policy_file.specs.Policies.{PolicyOf}
@@ -19,10 +19,12 @@ pub record IsOpening (p : PolicyOf) (start : StateData) : Type 0 where
   pub state : state_in start ≡ opening p
 
 -- the endpoints of the policy were served by works that posted to one history of its machine; what is written is the
--- lines that the events of this history put to the audit, or a beginning of these, as `Serves` says; so many calls of the
+-- lines that the events of this history put to the audit, or a beginning of these, as `Serves` says; so many calls of
+-- the
 -- links failed before and after
 pub record ServesPolicy {M : Type 0} (g : Ghosts M Event Reply StateData) (told : Endpoint → Option (List Connection))
-    (reliable : Endpoint → Bool) (p : PolicyOf) (held written : Option (List ℕ)) (faults risen : ℕ) (served : Served) : Type 0 where
+    (reliable : Endpoint → Bool) (p : PolicyOf) (held written : Option (List ℕ)) (faults risen : ℕ)
+    (served : Served) : Type 0 where
   pub start : StateData
   pub opening : IsOpening p start
   pub serves : Serves g start told reliable (lines_made g start) (places_of p) held written faults risen served

@@ -2,7 +2,7 @@
 ghost use Rattle.std.specs.Prelude.{◌≡◌, ◌<◌, ◌+◌, ◌*◌, ◌^◌, All, IfOk, length, true};
 ghost use Rattle.cv_io.specs.Outside.{Rose};
 ghost use Rattle.endpoint_works.specs.Sides.{IsServedSide};
-ghost use Rattle.hyper_core.specs.Meanings.{data_in};
+ghost use Rattle.event_composes.specs.Meanings.{data_in};
 ghost use Rattle.policy_serving.specs.Proxies.{HasOne};
 ghost use Rattle.policy_serving.specs.Places.{places_of};
 ghost use Rattle.policy_serving.specs.Served.{IsOpening, ServesPolicy};
@@ -65,7 +65,8 @@ fn opened<R: Threads + Sync>(
 ) -> Result<(Hyper, List<Place>), Memory>
     ensures opening { IfOk result (λ opened. IsOpening policy (data_in opened.0)) }
     ensures places { IfOk result (λ opened. opened.1 ≡ places_of policy) }
-    ensures served { IfOk result (λ opened. All (λ place. IsServedSide (HasOne (data_in opened.0)) place.side) opened.1) }
+    ensures served { IfOk result
+        (λ opened. All (λ place. IsServedSide (HasOne (data_in opened.0)) place.side) opened.1) }
     ensures few { IfOk result (λ opened. 2 * length opened.1 + 1 < 2 ^ 32) }
 {
     places_are_served();

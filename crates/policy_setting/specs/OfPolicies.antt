@@ -55,5 +55,7 @@ PoliciesAreReady =
 abbrev pub PoliciesAgree : Type 0
 PoliciesAgree =
     (p : PolicyOf) → IsSound p → (exprs : List Policy) → exprs_of p.virtuals p.members ≡ Ok exprs
-    → (tables : List LeafTable) (up : List Bool) → AreSized p.members tables → HasSoundTables (setting_of p exprs tables up)
-    → (entries : ℕ → List FlowEntry) → AreInstalled (setting_of p exprs tables up) entries → Agree (setting_of p exprs tables up) entries
+    → (tables : List LeafTable) (up : List Bool) → AreSized p.members tables
+    → HasSoundTables (setting_of p exprs tables up)
+    → (entries : ℕ → List FlowEntry) → AreInstalled (setting_of p exprs tables up) entries
+    → Agree (setting_of p exprs tables up) entries

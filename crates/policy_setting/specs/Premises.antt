@@ -31,9 +31,11 @@ HaveNumbers switches = AllByRecursion (λ (s : SwitchItem). AllByRecursion (λ p
 pub record LiesAlone (s : Setting) (v : ℕ) (x : SwitchOf) : Type 0 where
   pub links : x.links ≡ []
   pub lone : x.spread ≡ false
-  pub bare : (p q : ℕ) (a : Outside) → outside_at s.wiring v p ≡ Some a → far_end s.wiring (record { switch = a.at.switch; port = q }) ≡ None
+  pub bare : (p q : ℕ) (a : Outside) → outside_at s.wiring v p ≡ Some a
+      → far_end s.wiring (record { switch = a.at.switch; port = q }) ≡ None
   pub alone :
-      (u p q : ℕ) (a b : Outside) → outside_at s.wiring v p ≡ Some a → outside_at s.wiring u q ≡ Some b → a.at.switch ≡ b.at.switch → u ≡ v
+      (u p q : ℕ) (a b : Outside) → outside_at s.wiring v p ≡ Some a → outside_at s.wiring u q ≡ Some b
+      → a.at.switch ≡ b.at.switch → u ≡ v
 
 -- what is asked of the ports of each virtual switch
 pub record HasSoundPorts (s : Setting) (v : ℕ) (x : SwitchOf) : Type 0 where
@@ -49,7 +51,8 @@ pub record IsSoundTopology (s : Setting) : Type 0 where
   -- a link leads to a port of a virtual switch that isn't spread
   pub peers :
       (v p : ℕ) (q : Place) → peer_of (switch_links (slice_get s.network.switches v)) p ≡ Some q
-      → (switch_has (slice_get s.network.switches q.v) q.port ≡ true) × (switch_spread (slice_get s.network.switches q.v) ≡ false)
+      → (switch_has (slice_get s.network.switches q.v) q.port ≡ true)
+      × (switch_spread (slice_get s.network.switches q.v) ≡ false)
   pub tags : AreTagsInRange s.wiring
 
 -- the setting of a plan without fault, whose paths can be made, has it
@@ -64,7 +67,8 @@ pub record HasSoundTables (s : Setting) : Type 0 where
   -- each member has a sound table, and those of left operands of `+` set nothing and pass nothing on
   pub switches : (v : ℕ) (x : SwitchOf) → slice_get s.network.switches v ≡ Some x → IsSoundSwitch s.network.tables x
   -- members send packets to ports of their own virtual switch alone
-  pub within : (v : ℕ) (x : SwitchOf) → slice_get s.network.switches v ≡ Some x → EachMember (λ i. TableGoesWithin v (slice_get s.network.tables i)) x.expr
+  pub within : (v : ℕ) (x : SwitchOf) → slice_get s.network.switches v ≡ Some x
+      → EachMember (λ i. TableGoesWithin v (slice_get s.network.tables i)) x.expr
   -- those of a whole virtual switch see and name its outside ports alone
   pub names :
       (v : ℕ) (x : SwitchOf) → slice_get s.network.switches v ≡ Some x → x.whole ≡ true

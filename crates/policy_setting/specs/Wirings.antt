@@ -42,4 +42,8 @@ every_second _ = []
 
 -- the outside ports in the order of the file, each cable once, and the next hops
 abbrev pub wiring : TopologyPlan → Wiring
-wiring plan = record { outside = map (outside plan) (outside_joints plan); cables = map cable (cable_joints plan); next_hops = hops plan }
+wiring plan = record {
+  outside = map (outside plan) (outside_joints plan);
+  cables = map cable (cable_joints plan);
+  next_hops = hops plan;
+}

@@ -1,7 +1,8 @@
 //! The virtual switches of a topology.
 ghost use Rattle.std.specs.Prelude.{◌≡◌, IfOk, filter, filter_map, map};
 ghost use Rattle.policy_expr.specs.Policy.{policy_of};
-ghost use Rattle.policy_setting.specs.Networks.{is_of, link as link_of, outside_ports as outside_ports_of, place as place_of, virtual_switch as virtual_switch_of};
+ghost use Rattle.policy_setting.specs.Networks.{is_of, link as link_of, outside_ports as outside_ports_of};
+ghost use Rattle.policy_setting.specs.Networks.{place as place_of, virtual_switch as virtual_switch_of};
 
 use cv_io::{List, Memory};
 use policy_expr::Expr;

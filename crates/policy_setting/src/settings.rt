@@ -2,7 +2,8 @@
 ghost use Rattle.std.specs.Prelude.{◌≡◌, ◌≤◌, IfOk, length, map};
 ghost use Rattle.std.specs.List.{enumerate_from};
 ghost use Rattle.policy_expr.specs.Policy.{policy_of};
-ghost use Rattle.policy_setting.specs.Settings.{expr_at as expr_at_of, holds_at as holds_at_of, numbered_switch, physical as physical_of, setting as setting_of};
+ghost use Rattle.policy_setting.specs.Settings.{expr_at as expr_at_of, holds_at as holds_at_of, numbered_switch};
+ghost use Rattle.policy_setting.specs.Settings.{physical as physical_of, setting as setting_of};
 
 use crate::network::virtual_switch;
 use crate::wires::wiring;
@@ -43,7 +44,8 @@ fn switches(
     seen: &[bool],
 ) -> Result<List<VirtualSwitch>, Memory>
     requires { length virtuals.now ≤ 16 }
-    ensures { IfOk result (λ xs. xs ≡ map (numbered_switch topology.now (map policy_of exprs.now) seen.now) (enumerate_from 0 virtuals.now)) }
+    ensures { IfOk result (λ xs. xs ≡ map (numbered_switch topology.now (map policy_of exprs.now) seen.now)
+        (enumerate_from 0 virtuals.now)) }
 {
     let mut list = List::new(alloc);
     for (v, item) in virtuals.iter().enumerate() {

@@ -1,7 +1,8 @@
 //! The wiring of a topology.
 ghost use Rattle.std.specs.Prelude.{◌≡◌, ◌++◌, IfOk, OnOk, filter_map, map};
 ghost use Rattle.std.specs.List.{range_with_len};
-ghost use Rattle.policy_setting.specs.Wirings.{cable as cable_of, every_second, hop, hops_among, outside as outside_of, switch_port as switch_port_of, wiring as wiring_of};
+ghost use Rattle.policy_setting.specs.Wirings.{cable as cable_of, every_second, hop, hops_among, outside as outside_of};
+ghost use Rattle.policy_setting.specs.Wirings.{switch_port as switch_port_of, wiring as wiring_of};
 
 use cv_io::{List, Memory};
 use inner_paths::Paths;

@@ -1,5 +1,6 @@
 -- What pulls and images hold.
-use Rattle.std.proofs.Common.{◌≡◌, ℕ, ◌<◌, ◌^◌, ◌%◌, Bool, true, false, ◌&&◌, Option, Some, None, refl, ◌∙◌, sym, ap, subst, arith, rules}
+use Rattle.std.proofs.Common.{◌≡◌, ℕ, ◌<◌, ◌^◌, ◌%◌, Bool, true, false, ◌&&◌, Option, Some, None, refl, ◌∙◌, sym, ap}
+use Rattle.std.proofs.Common.{subst, arith, rules}
 use Rattle.std.specs.Prelude.{IfSome, IsSome, ◌↔◌, if◌then◌else◌}
 use Rattle.std.proofs.Math.Bool.{and-true}
 use Rattle.std.proofs.lemmas.Bool.{false≢true}
@@ -24,7 +25,8 @@ pub image_holds : ImageHolds
 image_holds r m n h e = holds-image r m h (normal-guarded m n) e
 
 -- what holds of a value that is asked for holds of it where it still is
-pub kept : {A B : Type 0} (P : A → Type 0) (b : Bool) (o : Option B) (x : Option A) → IfSome x P → IfSome (unset b o x) P
+pub kept : {A B : Type 0} (P : A → Type 0) (b : Bool) (o : Option B) (x : Option A) → IfSome x P
+    → IfSome (unset b o x) P
 kept P b None x p = p
 kept P true (Some v) x p = tt
 kept P false (Some v) x p = p
@@ -47,8 +49,10 @@ tos (Some v) p q = (p, q)
 module _ (r : RewriteOf) (m : MatchOf) where
   module _ (n : IsNormal m) where
     exact_by : (b : Bool) → can_pull r m ≡ b → IsPullBack r m (if b then Some (pulled r m) else None)
-    exact_by true e = λ h. sym (and-true (holds (pulled r m) h)) ∙ (ap (λ b. holds (pulled r m) h && b) (sym e) ∙ pull_is_exact r m h n)
-    exact_by false e = λ h. sym (pull_is_exact r m h n) ∙ (ap (λ b. holds (pulled r m) h && b) e ∙ and-false (holds (pulled r m) h))
+    exact_by true e = λ h. sym (and-true (holds (pulled r m) h))
+        ∙ (ap (λ b. holds (pulled r m) h && b) (sym e) ∙ pull_is_exact r m h n)
+    exact_by false e = λ h. sym (pull_is_exact r m h n)
+        ∙ (ap (λ b. holds (pulled r m) h && b) e ∙ and-false (holds (pulled r m) h))
 
     pub pull_exact : IsPullBack r m (pull r m)
     pull_exact = exact_by (can_pull r m) refl
@@ -67,14 +71,18 @@ module _ (r : RewriteOf) (m : MatchOf) where
         record { header = o.header; is_header = o.is_header; comes_in = sym (same o.header) ∙ o.in_first }
 
 -- the same of a result that is the pull
-pub exact_at : (r : RewriteOf) (m : MatchOf) (result : Option MatchOf) → result ≡ pull r m → IsNormal m → IsPullBack r m result
+pub exact_at : (r : RewriteOf) (m : MatchOf) (result : Option MatchOf) → result ≡ pull r m → IsNormal m
+    → IsPullBack r m result
 exact_at r m result e n = subst (IsPullBack r m) (sym e) (pull_exact r m n)
 
-pub some_at : (r : RewriteOf) (m p : MatchOf) → Some p ≡ pull r m → IsMatch p → IsNormal m → IsSome (Some p) ↔ Reaches r m
+pub some_at : (r : RewriteOf) (m p : MatchOf) → Some p ≡ pull r m → IsMatch p → IsNormal m
+    → IsSome (Some p) ↔ Reaches r m
 some_at r m p e i n = (λ s. reaches_by r m n p i (exact_at r m (Some p) e n), λ s. refl)
 
 pub none_at : (r : RewriteOf) (m : MatchOf) → None ≡ pull r m → IsNormal m → (false ≡ true) ↔ Reaches r m
-none_at r m e n = (λ s. absurd (false≢true s), λ s. absurd (false≢true (sym (exact_at r m None e n s.header) ∙ s.comes_in)))
+none_at r m e n =
+    (λ s. absurd (false≢true s), λ s. absurd (false≢true (sym (exact_at r m None e n s.header) ∙ s.comes_in)))
 
-pub normal_at : (r : RewriteOf) (m : MatchOf) (result : Option MatchOf) → result ≡ pull r m → IsNormal m → IfSome result IsNormal
+pub normal_at : (r : RewriteOf) (m : MatchOf) (result : Option MatchOf) → result ≡ pull r m → IsNormal m
+    → IfSome result IsNormal
 normal_at r m result e n = subst (λ o. IfSome o IsNormal) (sym e) (pull_normal r m n)

@@ -60,7 +60,8 @@ normal-pulled r m n = record {
   tp_dst = unset-stands (sets_tp m) r.tp_dst m.tp_dst _ n.tp_dst;
 }
 
-set_in-stands : {A B : Type 0} (f : B → A) (b : Bool) (o : Option B) (x : Option A) (P : Type 0) → (b ≡ true → P) → OnSome x P → OnSome (set_in f b o x) P
+set_in-stands : {A B : Type 0} (f : B → A) (b : Bool) (o : Option B) (x : Option A) (P : Type 0) → (b ≡ true → P)
+    → OnSome x P → OnSome (set_in f b o x) P
 set_in-stands f b None x P g p = p
 set_in-stands f true (Some v) x P g p = g refl
 set_in-stands f false (Some v) x P g p = p
@@ -81,7 +82,8 @@ tp-ports (Some v) e = rw e (or-true (v == 1))
 
 tp-both : (t p : Option ℕ) → (names t ip && names p tcp_udp) ≡ true → IsTrue (is_ip t && has_ports p)
 tp-both t p e =
-    and-intro (is_ip t) (has_ports p) (nw-ip t (and-first (names t ip) (names p tcp_udp) e)) (tp-ports p (and-second (names t ip) (names p tcp_udp) e))
+    and-intro (is_ip t) (has_ports p) (nw-ip t (and-first (names t ip) (names p tcp_udp) e))
+    (tp-ports p (and-second (names t ip) (names p tcp_udp) e))
 
 -- the image of a normal match is normal
 pub normal-image : (r : RewriteOf) (m : MatchOf) → IsNormal m → IsNormal (image r m)

@@ -25,7 +25,8 @@ IsImage r m n = (h : HeaderOf) → holds m h ≡ true → holds n (apply r h) �
 
 -- the pull of a normal match, if there is one, holds exactly the headers that the match holds once they are rewritten
 abbrev pub PullIsExact : Type 0
-PullIsExact = (r : RewriteOf) (m : MatchOf) (h : HeaderOf) → IsNormal m → (holds (pulled r m) h && can_pull r m) ≡ holds m (apply r h)
+PullIsExact = (r : RewriteOf) (m : MatchOf) (h : HeaderOf) → IsNormal m
+    → (holds (pulled r m) h && can_pull r m) ≡ holds m (apply r h)
 
 -- the image of a normal match holds each header of the match once it is rewritten
 abbrev pub ImageHolds : Type 0

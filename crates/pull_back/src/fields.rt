@@ -2,7 +2,8 @@
 ghost use Rattle.std.specs.Prelude.{◌≡◌};
 ghost use Rattle.of10_match.specs.Matching.{fits_by, fits_prefix as fits_prefix_of};
 ghost use Rattle.of10_actions.specs.Rewriting.{is_tcp_udp as is_tcp_udp_of};
-ghost use Rattle.pull_back.specs.Pulling.{names, set_fits as set_fits_of, set_in as set_in_of, sets_nw as sets_nw_of, sets_tp as sets_tp_of, unset as unset_of, whole};
+ghost use Rattle.pull_back.specs.Pulling.{names, set_fits as set_fits_of, set_in as set_in_of, sets_nw as sets_nw_of};
+ghost use Rattle.pull_back.specs.Pulling.{sets_tp as sets_tp_of, unset as unset_of, whole};
 
 use of10_match::{IPV4, Match, Prefix, TCP, UDP};
 

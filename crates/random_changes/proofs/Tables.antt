@@ -8,8 +8,11 @@ use Rattle.policy_meaning.specs.LeafFact.{AreApart, EachPair, IsSoundEntry, IsSo
 use Rattle.policy_meaning.specs.declared.leaf.LeafEntry.{LeafEntry}
 use Rattle.policy_meaning.proofs.Normality.{normal-everything}
 
-pub empty-sound : (member : ℕ) (region : List MatchOf) (visible : List ℕ) (entries : List LeafEntry) → region ≡ everything ∷ [] → visible ≡ 1 ∷ 2 ∷ 8 ∷ 9 ∷ []
-    → entries ≡ [] → IsSoundTable (record { member = member; size = 8; region = region; visible = visible; misses = false; entries = entries })
+pub empty-sound : (member : ℕ) (region : List MatchOf) (visible : List ℕ) (entries : List LeafEntry)
+    → region ≡ everything ∷ [] → visible ≡ 1 ∷ 2 ∷ 8 ∷ 9 ∷ []
+    → entries ≡ []
+    → IsSoundTable
+    (record { member = member; size = 8; region = region; visible = visible; misses = false; entries = entries })
 empty-sound member region visible entries r v e = record {
   apart = subst (λ (z : List LeafEntry). EachPair AreApart z) (sym e) tt;
   entries = subst (λ (z : List LeafEntry). AllByRecursion (IsSoundEntry 8) z) (sym e) tt;

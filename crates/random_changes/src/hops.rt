@@ -1,5 +1,6 @@
 //! Changes of the rules of the ports of two virtual switches that links join, against those from scratch.
-ghost use Rattle.std.specs.Prelude.{◌≡◌, ◌==◌, ◌<◌, ℕ, [], IfOk, IsPermutation, List as ListOf, OnOk, ◌++◌, false, option_to_list};
+ghost use Rattle.std.specs.Prelude.{◌≡◌, ◌==◌, ◌<◌, ℕ, [], IfOk, IsPermutation, List as ListOf, OnOk, ◌++◌, false};
+ghost use Rattle.std.specs.Prelude.{option_to_list};
 ghost use Rattle.std.specs.List.{AllByRecursion};
 ghost use Rattle.policy_meaning.specs.declared.rule.Rule.{Rule as RuleOf};
 ghost use Rattle.fitting_changes.specs.Composers.{FitsIn};

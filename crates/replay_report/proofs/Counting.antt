@@ -3,7 +3,7 @@ use Rattle.std.proofs.Common.{◌≡◌, ℕ, ◌+◌, ◌≤◌, Option, Some, 
 use Rattle.cv_io.specs.declared.leaf.Session.{Session}
 use Rattle.events.specs.declared.event.Event.TheVariants.{Take}
 use Rattle.events.specs.declared.event.Reply.{Reply}
-use Rattle.hyper_core.specs.Costs.{cost_of, followed_cost, unless_still}
+use Rattle.event_composes.specs.Costs.{cost_of, followed_cost, unless_still}
 use Rattle.machine_meaning.specs.Glances.{glance_of}
 use Rattle.machine_meaning.specs.States.{State}
 use Rattle.policy_file.specs.Policies.{PolicyOf}
@@ -17,7 +17,8 @@ none_more : (n old new : ℕ) → n ≡ 0 → new ≤ old + n → new ≤ old
 none_more n old new none h = omega (arith, none, h)
 
 -- it takes no step
-pub taking_counts : (p : PolicyOf) (s : State) (session : Session) (old new : ℕ) → new ≤ old + cost_of p s (Take session)
+pub taking_counts : (p : PolicyOf) (s : State) (session : Session) (old new : ℕ)
+    → new ≤ old + cost_of p s (Take session)
     → new ≤ old
 taking_counts p s session old new h =
     none_more (cost_of p s (Take session)) old new

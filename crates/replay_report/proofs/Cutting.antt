@@ -31,18 +31,21 @@ no_room (suc m) [] a = record { frames = refl; rest = refl }
 no_room (suc m) (byte ∷ bytes) a = absurd (omega arith)
 
 next_room : (b : Bool) (n m k : ℕ) (bytes : List ℕ) → (b ≡ true → IsSame n m (drop k bytes)) →
-    ((if b then take k bytes ∷ frames_up_to n (drop k bytes) else []) ≡ (if b then take k bytes ∷ frames_up_to m (drop k bytes) else []))
+    ((if b then take k bytes ∷ frames_up_to n (drop k bytes) else [])
+    ≡ (if b then take k bytes ∷ frames_up_to m (drop k bytes) else []))
     × ((if b then rest_up_to n (drop k bytes) else bytes) ≡ (if b then rest_up_to m (drop k bytes) else bytes))
 next_room true n m k bytes f = (ap (λ xs. take k bytes ∷ xs) (f refl).frames, (f refl).rest)
 next_room false n m k bytes f = (refl, refl)
 
 pub more_room : (n m : ℕ) (bytes : List ℕ) → length bytes ≤ n → length bytes ≤ m → IsSame n m bytes
 more_room zero m bytes a b = no_room m bytes a
-more_room (suc n) zero bytes a b = let s = no_room (suc n) bytes b in record { frames = sym s.frames; rest = sym s.rest }
+more_room (suc n) zero bytes a b = let s = no_room (suc n) bytes b in
+    record { frames = sym s.frames; rest = sym s.rest }
 more_room (suc n) (suc m) bytes a b =
     let k = length_field bytes in
     let same = next_room (begins_whole bytes) n m k bytes
-    (λ e. let h = both_hold k (length bytes) e in more_room n m (drop k bytes) (shorter n k bytes h.0 a) (shorter m k bytes h.0 b)) in
+    (λ e. let h = both_hold k (length bytes) e in
+    more_room n m (drop k bytes) (shorter n k bytes h.0 a) (shorter m k bytes h.0 b)) in
     record { frames = same.0; rest = same.1 }
 
 -- with room for one more
@@ -58,7 +61,8 @@ pub frame_first : (frame after bytes : List ℕ) → IsFrame frame → bytes ≡
 unfolding frames_of rest_of
 frame_first frame after bytes f e =
     let k = length_field bytes in
-    let size : k ≡ length frame = ap length_field e ∙ (length_field-append frame after (omega (arith, f.header)) ∙ f.whole) in
+    let size : k ≡ length frame = ap length_field e
+    ∙ (length_field-append frame after (omega (arith, f.header)) ∙ f.whole) in
     let total : length bytes ≡ length frame + length after = ap length e ∙ length-append frame after in
     let holds : begins_whole bytes ≡ true = they_hold k (length bytes) (omega (arith, f.header)) (omega arith) in
     let front : take k bytes ≡ frame = (λ i. take (size i) (e i)) ∙ take_at frame after (length frame) refl in
@@ -67,7 +71,8 @@ frame_first frame after bytes f e =
     let enough : length (drop k bytes) ≤ length bytes = omega (arith, length-drop k bytes) in
     let same = more_room (length bytes) (length after) after (omega arith) (omega arith) in
     record {
-      frames = room.frames ∙ (ap (λ b. if b then take k bytes ∷ frames_up_to (length bytes) (drop k bytes) else []) holds
+      frames = room.frames
+          ∙ (ap (λ b. if b then take k bytes ∷ frames_up_to (length bytes) (drop k bytes) else []) holds
           ∙ ((λ i. front i ∷ frames_up_to (length bytes) (back i)) ∙ ap (λ xs. frame ∷ xs) same.frames));
       rest = room.rest ∙ (ap (λ b. if b then rest_up_to (length bytes) (drop k bytes) else bytes) holds
           ∙ (ap (rest_up_to (length bytes)) back ∙ same.rest));
@@ -86,17 +91,20 @@ pub no_frame_first : (bytes : List ℕ) → (BeginsWithFrame bytes → ⊥) → 
 unfolding frames_of rest_of
 no_frame_first bytes none =
     let k = length_field bytes in
-    let holds : begins_whole bytes ≡ false = not_true (begins_whole bytes) (λ e. let h = both_hold k (length bytes) e in none (begins bytes h.0 h.1)) in
+    let holds : begins_whole bytes ≡ false =
+    not_true (begins_whole bytes) (λ e. let h = both_hold k (length bytes) e in none (begins bytes h.0 h.1)) in
     let room = with_room bytes in
     record {
-      frames = room.frames ∙ ap (λ b. if b then take k bytes ∷ frames_up_to (length bytes) (drop k bytes) else []) holds;
+      frames = room.frames ∙ ap (λ b. if b then take k bytes ∷ frames_up_to (length bytes) (drop k bytes) else [])
+          holds;
       rest = room.rest ∙ ap (λ b. if b then rest_up_to (length bytes) (drop k bytes) else bytes) holds;
     }
 
 -- bytes with a short length begin with no frame
 pub short_begins_none : (bytes : List ℕ) → IsShort bytes → BeginsWithFrame bytes → ⊥
 short_begins_none bytes s (frame, after, f, e) =
-    let size : length_field bytes ≡ length frame = ap length_field e ∙ (length_field-append frame after (omega (arith, f.header)) ∙ f.whole) in
+    let size : length_field bytes ≡ length frame = ap length_field e
+    ∙ (length_field-append frame after (omega (arith, f.header)) ∙ f.whole) in
     let small = s.1 in
     let big = f.header in
     absurd (omega arith)

@@ -16,18 +16,23 @@ place_next b k size e h =
     let h2 : cond (not false) (1 + k) 0 < suc size = subst (λ c. cond (not c) (1 + k) 0 < suc size) e h in omega arith
 
 lines_next : (b : Bool) (line : List ℕ) (byte : ℕ) (bytes more : List ℕ) (k : ℕ)
-    → (b ≡ false → whole_lines (line ++ byte ∷ []) (bytes ++ more) ≡ ((line ++ byte ∷ []) ++ take k bytes) ∷ whole_lines [] (drop (k + 1) bytes ++ more))
+    → (b ≡ false → whole_lines (line ++ byte ∷ []) (bytes ++ more)
+    ≡ ((line ++ byte ∷ []) ++ take k bytes) ∷ whole_lines [] (drop (k + 1) bytes ++ more))
     → (if b then line ∷ whole_lines [] (bytes ++ more) else whole_lines (line ++ byte ∷ []) (bytes ++ more))
-    ≡ (line ++ take (cond (not b) (1 + k) 0) (byte ∷ bytes)) ∷ whole_lines [] (drop (cond (not b) (1 + k) 0 + 1) (byte ∷ bytes) ++ more)
-lines_next true line byte bytes more k f = ap (λ (xs : List ℕ). xs ∷ whole_lines [] (bytes ++ more)) (sym (append-nil line))
+    ≡ (line ++ take (cond (not b) (1 + k) 0) (byte ∷ bytes)) ∷ whole_lines []
+    (drop (cond (not b) (1 + k) 0 + 1) (byte ∷ bytes) ++ more)
+lines_next true line byte bytes more k f =
+    ap (λ (xs : List ℕ). xs ∷ whole_lines [] (bytes ++ more)) (sym (append-nil line))
 lines_next false line byte bytes more k f =
     let e : 1 + k ≡ suc k = omega arith in
     let d : 1 + k + 1 ≡ suc (k + 1) = omega arith in
-    rw (d, e) (f refl ∙ ap (λ (xs : List ℕ). xs ∷ whole_lines [] (drop (k + 1) bytes ++ more)) (append_assoc line (byte ∷ []) (take k bytes)))
+    rw (d, e) (f refl ∙ ap (λ (xs : List ℕ). xs ∷ whole_lines [] (drop (k + 1) bytes ++ more))
+    (append_assoc line (byte ∷ []) (take k bytes)))
 
 -- up to the first line feed
 pub whole_at : (line bytes more : List ℕ) → before bytes < length bytes →
-    whole_lines line (bytes ++ more) ≡ (line ++ take (before bytes) bytes) ∷ whole_lines [] (drop (before bytes + 1) bytes ++ more)
+    whole_lines line (bytes ++ more) ≡ (line ++ take (before bytes) bytes)
+    ∷ whole_lines [] (drop (before bytes + 1) bytes ++ more)
 whole_at line [] more h = absurd (omega arith)
 whole_at line (byte ∷ bytes) more h =
     lines_next (byte == 10) line byte bytes more (before bytes)
@@ -54,14 +59,18 @@ feedless : (b : Bool) (k size : ℕ) → suc size ≤ cond (not b) (1 + k) 0 →
 feedless true k size h = absurd (omega arith)
 feedless false k size h = (refl, omega arith)
 
-pub part_lines : (line bytes more : List ℕ) → length bytes ≤ before bytes → whole_lines line (bytes ++ more) ≡ whole_lines (line ++ bytes) more
+pub part_lines : (line bytes more : List ℕ) → length bytes ≤ before bytes
+    → whole_lines line (bytes ++ more) ≡ whole_lines (line ++ bytes) more
 part_lines line [] more h = ap (λ (xs : List ℕ). whole_lines xs more) (sym (append-nil line))
 part_lines line (byte ∷ bytes) more h =
     let n = feedless (byte == 10) (before bytes) (length bytes) h in
-    rw n.0 (part_lines (line ++ byte ∷ []) bytes more n.1 ∙ ap (λ (xs : List ℕ). whole_lines xs more) (append_assoc line (byte ∷ []) bytes))
+    rw n.0 (part_lines (line ++ byte ∷ []) bytes more n.1
+    ∙ ap (λ (xs : List ℕ). whole_lines xs more) (append_assoc line (byte ∷ []) bytes))
 
-pub part_rest : (line bytes more : List ℕ) → length bytes ≤ before bytes → unfinished line (bytes ++ more) ≡ unfinished (line ++ bytes) more
+pub part_rest : (line bytes more : List ℕ) → length bytes ≤ before bytes
+    → unfinished line (bytes ++ more) ≡ unfinished (line ++ bytes) more
 part_rest line [] more h = ap (λ (xs : List ℕ). unfinished xs more) (sym (append-nil line))
 part_rest line (byte ∷ bytes) more h =
     let n = feedless (byte == 10) (before bytes) (length bytes) h in
-    rw n.0 (part_rest (line ++ byte ∷ []) bytes more n.1 ∙ ap (λ (xs : List ℕ). unfinished xs more) (append_assoc line (byte ∷ []) bytes))
+    rw n.0 (part_rest (line ++ byte ∷ []) bytes more n.1
+    ∙ ap (λ (xs : List ℕ). unfinished xs more) (append_assoc line (byte ∷ []) bytes))

@@ -18,7 +18,8 @@ use Rattle.script_text.specs.declared.form.Form.TheVariants.{Replay}
 use Rattle.replay_report.specs.Bench.{IsBench, bench_read}
 use Rattle.replay_report.specs.MadeCounts.{counted, counted_unless, nothing}
 use Rattle.replay_report.specs.Making.{Stepped, Tally, after_line, after_lines, first, line_steps, lines_steps, made_of}
-use Rattle.replay_report.specs.Making.{made_steps, script_steps, steps_over, summary_in, summary_over, tally_of, with_line}
+use Rattle.replay_report.specs.Making.{made_steps, script_steps, steps_over, summary_in, summary_over, tally_of}
+use Rattle.replay_report.specs.Making.{with_line}
 use Rattle.replay_report.specs.declared.made_counts.Counts.{Counts}
 
 -- after an error nothing is owed of the value
@@ -42,7 +43,8 @@ used_some k n used = omega (arith, used)
 pub used_within : (k n : ℕ) → k ≡ n + 1 → k ≤ n + 1
 used_within k n used = omega (arith, used)
 
-step_of : (refused : Option Kind) (form : Form) (p : PolicyOf) (before after : Progress) (line old text : List ℕ) (used : ℕ)
+step_of : (refused : Option Kind) (form : Form) (p : PolicyOf) (before after : Progress) (line old text : List ℕ)
+    (used : ℕ)
     → form ≡ Replay → old ≡ [] → used ≡ length line + 1
     → Takes refused (taken form p before line used) used before after old text
     → Takes refused (taken Replay p before line (length line + 1)) (length line + 1) before after [] text
@@ -88,7 +90,8 @@ line_counted refused old new after n m line report steps told counts stands =
     (progress_of old) (progress_of new) n line (reported new) steps
 
 -- its steps, as they were counted
-pub line_counts : (player : Player) (line : List ℕ) (used old new : ℕ) → form_of player ≡ Replay → used ≡ length line + 1
+pub line_counts : (player : Player) (line : List ℕ) (used old new : ℕ) → form_of player ≡ Replay
+    → used ≡ length line + 1
     → new ≤ old + steps_in (taken (form_of player) (plan_of player) (progress_of player) line used)
     → new ≤ old + line_steps (plan_of player) (progress_of player) line
 unfolding line_steps

@@ -1,4 +1,5 @@
--- A replay as contracts see it. What it is made of stays closed to callers, whose proofs would else open the whole machine.
+-- A replay as contracts see it. What it is made of stays closed to callers, whose proofs would else open the whole
+-- machine.
 use Rattle.std.specs.Prelude.{◌≡◌, ℕ, true, List, ◌++◌, Option, Some, None, Result, Ok, Err}
 use Rattle.hyper_core.specs.Worlds.{rule_count}
 use Rattle.policy_file.specs.Policies.{PolicyOf}

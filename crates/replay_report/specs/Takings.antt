@@ -8,7 +8,7 @@ use Rattle.cv_io.specs.declared.leaf.Who.TheVariants.{Member, Switch, Audit}
 use Rattle.events.specs.declared.event.Event.{Event}
 use Rattle.events.specs.declared.event.Reply.{Reply}
 use Rattle.events.specs.declared.event.Reply.TheVariants.{Taken}
-use Rattle.hyper_core.specs.Costs.{cost_of}
+use Rattle.event_composes.specs.Costs.{cost_of}
 use Rattle.machine_meaning.specs.Lists.{changed_at}
 use Rattle.machine_meaning.specs.Runs.{after}
 use Rattle.machine_meaning.specs.Sessions.{outbox_of}

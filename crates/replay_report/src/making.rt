@@ -176,8 +176,8 @@ fn summary<R: Threads + Sync, G: Ledger>(
     told
 }
 
-/// What the script of a seed with so many messages gives over the policy of benchmarks. The steps of composition that it
-/// takes are counted.
+/// What the script of a seed with so many messages gives over the policy of benchmarks. The steps of composition that
+/// it takes are counted.
 pub fn make<R: Threads + Sync, G: Ledger>(
     rt: &R,
     alloc: Global,

@@ -1,6 +1,6 @@
 //! An event, and the report of what it puts into outboxes and audit.
 ghost use Rattle.std.specs.Prelude.{◌≡◌, ◌≤◌, ◌+◌, ◌++◌, [], IfOk, OnOk, true};
-ghost use Rattle.hyper_core.specs.Costs.{cost_of};
+ghost use Rattle.event_composes.specs.Costs.{cost_of};
 ghost use Rattle.machine_meaning.specs.States.{opening};
 ghost use Rattle.machine_meaning.specs.Steps.{step_of};
 ghost use Rattle.machine_drafts.specs.Machines.{state_of};

@@ -1,5 +1,6 @@
 -- The links stay those of what is held.
-use Rattle.std.proofs.Common.{◌≡◌, ◌≢◌, inl, inr, ℕ, ◌∷◌, [], arith, Bool, true, false, not, ◌&&◌, ◌||◌, List, Option, Some, None, refl, sym, ap, ◌∙◌}
+use Rattle.std.proofs.Common.{◌≡◌, ◌≢◌, inl, inr, ℕ, ◌∷◌, [], arith, Bool, true, false, not, ◌&&◌, ◌||◌, List, Option}
+use Rattle.std.proofs.Common.{Some, None, refl, sym, ap, ◌∙◌}
 use Rattle.std.specs.Prelude.{nat_eq}
 use Rattle.std.specs.Ordering.{nat_cmp, ordering_then, is_eq}
 use Rattle.std.specs.declared.cmp.Ordering.{Ordering}
@@ -67,26 +68,33 @@ module _ {N : Type 0} (cmp : N → N → Ordering) where
       ap (λ t. t || links_to cmp bs id q) (then-unequal (cmp b q.name) (nat_cmp id q.id) (unequal-ids id q.id n))
       ∙ links-other bs id q n
 
-undo-here : (t k old mid new : Bool) → old ≡ k → (t ≡ false → mid ≡ old) → (old ≡ true → mid ≡ true) → new ≡ ((not t || k) && mid) → new ≡ old
+undo-here : (t k old mid new : Bool) → old ≡ k → (t ≡ false → mid ≡ old) → (old ≡ true → mid ≡ true)
+    → new ≡ ((not t || k) && mid) → new ≡ old
 undo-here true true old mid new a b c d = d ∙ c a ∙ sym a
 undo-here true false old mid new a b c d = d ∙ sym a
 undo-here false k old mid new a b c d = d ∙ b refl
 
-pub undone-link : {N : Type 0} (cmp : N → N → Ordering) (borne known : List N) (id : ℕ) (q : Link N) (old mid new : Bool) → (q.id ≡ id → old ≡ links_to cmp known id q) → (links_to cmp borne id q ≡ false → mid ≡ old) → (old ≡ true → mid ≡ true) →
+pub undone-link : {N : Type 0} (cmp : N → N → Ordering) (borne known : List N) (id : ℕ) (q : Link N)
+    (old mid new : Bool) → (q.id ≡ id → old ≡ links_to cmp known id q) → (links_to cmp borne id q ≡ false → mid ≡ old)
+    → (old ≡ true → mid ≡ true) →
     new ≡ ((not (links_to cmp borne id q) || links_to cmp known id q) && mid) → new ≡ old
 undone-link cmp borne known id q old mid new a b c d = elim (cases_eq q.id id) [
   | inl e ↦ undo-here (links_to cmp borne id q) (links_to cmp known id q) old mid new (a e) b c d
-  | inr n ↦ d ∙ ap (λ t. (not t || links_to cmp known id q) && mid) (links-other cmp borne id q n) ∙ b (links-other cmp borne id q n)
+  | inr n ↦ d ∙ ap (λ t. (not t || links_to cmp known id q) && mid) (links-other cmp borne id q n)
+      ∙ b (links-other cmp borne id q n)
 ]
 
 module _ {N R : Type 0} (cmp : N → N → Ordering) (borne : R → List N) where
-  pub added-links : (old new : List (Option R)) (links links' : BTreeSet (Link N)) (id : ℕ) (r : R) → AreLinks cmp borne old links → at old id ≡ None → Updated old new id (Some r) →
-      ((q : Link N) → contains (by_link cmp) links' q ≡ (links_to cmp (borne r) id q || contains (by_link cmp) links q)) → AreLinks cmp borne new links'
+  pub added-links : (old new : List (Option R)) (links links' : BTreeSet (Link N)) (id : ℕ) (r : R)
+      → AreLinks cmp borne old links → at old id ≡ None → Updated old new id (Some r) →
+      ((q : Link N) → contains (by_link cmp) links' q ≡ (links_to cmp (borne r) id q || contains (by_link cmp) links q))
+      → AreLinks cmp borne new links'
   added-links old new links links' id r are vacant up more q =
       elim (cases_eq q.id id) [
         | inl e ↦
             more q
-            ∙ ap (λ b. links_to cmp (borne r) id q || b) (are q ∙ ap (λ o. names_at cmp borne o q.name) (ap (at old) e ∙ vacant))
+            ∙ ap (λ b. links_to cmp (borne r) id q || b) (are q
+            ∙ ap (λ o. names_at cmp borne o q.name) (ap (at old) e ∙ vacant))
             ∙ or-none (links_to cmp (borne r) id q)
             ∙ links-here cmp (borne r) id q e
             ∙ sym (ap (λ o. names_at cmp borne o q.name) (ap (at new) e ∙ up.here))
@@ -98,25 +106,34 @@ module _ {N R : Type 0} (cmp : N → N → Ordering) (borne : R → List N) wher
       ]
 
   -- no name of an id that holds nothing is linked to it
-  pub vacant-links : (old : List (Option R)) (links : BTreeSet (Link N)) (id : ℕ) → AreLinks cmp borne old links → at old id ≡ None → (q : Link N) → q.id ≡ id → contains (by_link cmp) links q ≡ false
+  pub vacant-links : (old : List (Option R)) (links : BTreeSet (Link N)) (id : ℕ) → AreLinks cmp borne old links
+      → at old id ≡ None → (q : Link N) → q.id ≡ id → contains (by_link cmp) links q ≡ false
   vacant-links old links id are vacant q e = are q ∙ ap (λ o. names_at cmp borne o q.name) (ap (at old) e ∙ vacant)
 
   -- those of the item that an id holds are linked to it
-  pub known-links : (old : List (Option R)) (links : BTreeSet (Link N)) (id : ℕ) (r : R) → AreLinks cmp borne old links → at old id ≡ Some r → (q : Link N) → q.id ≡ id → contains (by_link cmp) links q ≡ links_to cmp (borne r) id q
-  known-links old links id r are there q e = are q ∙ ap (λ o. names_at cmp borne o q.name) (ap (at old) e ∙ there) ∙ sym (links-here cmp (borne r) id q e)
+  pub known-links : (old : List (Option R)) (links : BTreeSet (Link N)) (id : ℕ) (r : R) → AreLinks cmp borne old links
+      → at old id ≡ Some r → (q : Link N) → q.id ≡ id → contains (by_link cmp) links q ≡ links_to cmp (borne r) id q
+  known-links old links id r are there q e = are q ∙ ap (λ o. names_at cmp borne o q.name) (ap (at old) e ∙ there)
+      ∙ sym (links-here cmp (borne r) id q e)
 
-  pub same-links : (old : List (Option R)) (links links' : BTreeSet (Link N)) → AreLinks cmp borne old links → ((q : Link N) → contains (by_link cmp) links' q ≡ contains (by_link cmp) links q) → AreLinks cmp borne old links'
+  pub same-links : (old : List (Option R)) (links links' : BTreeSet (Link N)) → AreLinks cmp borne old links
+      → ((q : Link N) → contains (by_link cmp) links' q ≡ contains (by_link cmp) links q)
+      → AreLinks cmp borne old links'
   same-links old links links' are same q = same q ∙ are q
 
-  pub removed-links : (old new : List (Option R)) (links links' : BTreeSet (Link N)) (id : ℕ) (r : R) → AreLinks cmp borne old links → at old id ≡ Some r → Updated old new id None →
-      ((q : Link N) → contains (by_link cmp) links' q ≡ ((not (links_to cmp (borne r) id q) || false) && contains (by_link cmp) links q)) → AreLinks cmp borne new links'
+  pub removed-links : (old new : List (Option R)) (links links' : BTreeSet (Link N)) (id : ℕ) (r : R)
+      → AreLinks cmp borne old links → at old id ≡ Some r → Updated old new id None →
+      ((q : Link N) → contains (by_link cmp) links' q
+      ≡ ((not (links_to cmp (borne r) id q) || false) && contains (by_link cmp) links q))
+      → AreLinks cmp borne new links'
   removed-links old new links links' id r are there up less q =
       elim (cases_eq q.id id) [
         | inl e ↦
             less q
             ∙ ap (λ b. b && contains (by_link cmp) links q) (or-none (not (links_to cmp (borne r) id q)))
             ∙ ap (λ b. not b && contains (by_link cmp) links q) (links-here cmp (borne r) id q e)
-            ∙ ap (λ b. not (names cmp (borne r) q.name) && b) (are q ∙ ap (λ o. names_at cmp borne o q.name) (ap (at old) e ∙ there))
+            ∙ ap (λ b. not (names cmp (borne r) q.name) && b)
+            (are q ∙ ap (λ o. names_at cmp borne o q.name) (ap (at old) e ∙ there))
             ∙ not-and (names cmp (borne r) q.name)
             ∙ sym (ap (λ o. names_at cmp borne o q.name) (ap (at new) e ∙ up.here))
         | inr n ↦
@@ -133,9 +150,13 @@ module _ {N R : Type 0} (cmp : N → N → Ordering) (borne : R → List N) wher
   turned false false = refl
 
   -- another item under the id, whose names were linked before those of the old one went
-  pub renamed-links : (old new : List (Option R)) (links more links' : BTreeSet (Link N)) (id : ℕ) (was item : R) → AreLinks cmp borne old links → at old id ≡ Some was → Updated old new id (Some item) →
-      ((q : Link N) → contains (by_link cmp) more q ≡ (links_to cmp (borne item) id q || contains (by_link cmp) links q)) →
-      ((q : Link N) → contains (by_link cmp) links' q ≡ ((not (links_to cmp (borne was) id q) || links_to cmp (borne item) id q) && contains (by_link cmp) more q)) → AreLinks cmp borne new links'
+  pub renamed-links : (old new : List (Option R)) (links more links' : BTreeSet (Link N)) (id : ℕ) (was item : R)
+      → AreLinks cmp borne old links → at old id ≡ Some was → Updated old new id (Some item) →
+      ((q : Link N) → contains (by_link cmp) more q
+      ≡ (links_to cmp (borne item) id q || contains (by_link cmp) links q)) →
+      ((q : Link N) → contains (by_link cmp) links' q
+      ≡ ((not (links_to cmp (borne was) id q) || links_to cmp (borne item) id q) && contains (by_link cmp) more q))
+      → AreLinks cmp borne new links'
   renamed-links old new links more links' id was item are there up first then q =
       elim (cases_eq q.id id) [
         | inl e ↦
@@ -148,7 +169,8 @@ module _ {N R : Type 0} (cmp : N → N → Ordering) (borne : R → List N) wher
             ∙ sym (ap (λ o. names_at cmp borne o q.name) (ap (at new) e ∙ up.here))
         | inr n ↦
             then q
-            ∙ ap (λ b. (not b || links_to cmp (borne item) id q) && contains (by_link cmp) more q) (links-other cmp (borne was) id q n)
+            ∙ ap (λ b. (not b || links_to cmp (borne item) id q) && contains (by_link cmp) more q)
+            (links-other cmp (borne was) id q n)
             ∙ first q
             ∙ ap (λ b. b || contains (by_link cmp) links q) (links-other cmp (borne item) id q n)
             ∙ are q
@@ -160,9 +182,13 @@ module _ {N R : Type 0} (cmp : N → N → Ordering) (borne : R → List N) wher
   or-into false b h = refl
 
   -- no link is wanting, where an item bears no other names
-  pub fewer-links : (old : List (Option R)) (links : BTreeSet (Link N)) (id : ℕ) (item : R) → AreLinks cmp borne old links → ((name : N) → names cmp (borne item) name ≡ true → names_at cmp borne (at old id) name ≡ true) →
+  pub fewer-links : (old : List (Option R)) (links : BTreeSet (Link N)) (id : ℕ) (item : R)
+      → AreLinks cmp borne old links
+      → ((name : N) → names cmp (borne item) name ≡ true → names_at cmp borne (at old id) name ≡ true) →
       (q : Link N) → contains (by_link cmp) links q ≡ (links_to cmp (borne item) id q || contains (by_link cmp) links q)
-  fewer-links old links id item are fewer q = or-into (links_to cmp (borne item) id q) (contains (by_link cmp) links q) (elim (cases_eq q.id id) [
-    | inl e ↦ λ h. are q ∙ ap (λ o. names_at cmp borne o q.name) (ap (at old) e) ∙ fewer q.name (sym (links-here cmp (borne item) id q e) ∙ h)
-    | inr n ↦ λ h. absurd (let z : true ≡ false = sym h ∙ links-other cmp (borne item) id q n in cc)
-  ])
+  fewer-links old links id item are fewer q =
+      or-into (links_to cmp (borne item) id q) (contains (by_link cmp) links q) (elim (cases_eq q.id id) [
+        | inl e ↦ λ h. are q ∙ ap (λ o. names_at cmp borne o q.name) (ap (at old) e)
+            ∙ fewer q.name (sym (links-here cmp (borne item) id q e) ∙ h)
+        | inr n ↦ λ h. absurd (let z : true ≡ false = sym h ∙ links-other cmp (borne item) id q n in cc)
+      ])

@@ -1,5 +1,6 @@
 -- The slots in which a store keeps its items: for each id from 0 on an item, or nothing.
-use Rattle.std.specs.Prelude.{◌≡◌, ◌≢◌, ◌+◌, ◌++◌, ℕ, Option, Some, None, List, [], ◌∷◌, slice_index_or, filter, IsPermutation}
+use Rattle.std.specs.Prelude.{◌≡◌, ◌≢◌, ◌+◌, ◌++◌, ℕ, Option, Some, None, List, [], ◌∷◌, slice_index_or, filter}
+use Rattle.std.specs.Prelude.{IsPermutation}
 use Rattle.rule_ancestry.specs.Holding.{Held, is_other}
 
 module _ {R : Type 0} where

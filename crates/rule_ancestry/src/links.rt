@@ -31,9 +31,13 @@ fn attach_some<N: Ord + Copy>(
     names: &[N],
     id: usize,
 ) -> Result<(), Memory>
-    ensures linked { OnOk result ((q : Link N) → contains (by_link N.cmp) links.new q ≡ (links_to N.cmp names.now id q || contains (by_link N.cmp) links.old q)) }
-    ensures others { OnErr result ((q : Link N) → links_to N.cmp names.now id q ≡ false → contains (by_link N.cmp) links.new q ≡ contains (by_link N.cmp) links.old q) }
-    ensures kept { OnErr result ((q : Link N) → contains (by_link N.cmp) links.old q ≡ true → contains (by_link N.cmp) links.new q ≡ true) }
+    ensures linked { OnOk result ((q : Link N)
+        → contains (by_link N.cmp) links.new q
+        ≡ (links_to N.cmp names.now id q || contains (by_link N.cmp) links.old q)) }
+    ensures others { OnErr result ((q : Link N) → links_to N.cmp names.now id q ≡ false
+        → contains (by_link N.cmp) links.new q ≡ contains (by_link N.cmp) links.old q) }
+    ensures kept { OnErr result ((q : Link N) → contains (by_link N.cmp) links.old q ≡ true
+        → contains (by_link N.cmp) links.new q ≡ true) }
 {
     for name in names {
         links.insert(Link { name: *name, id })?;
@@ -43,7 +47,9 @@ fn attach_some<N: Ord + Copy>(
 
 /// Takes the link of a name to an id away, unless it is one of those to keep.
 fn detach_one<N: Ord + Copy>(links: &mut BTreeSet<Link<N>>, name: N, id: usize, keep: &[N])
-    ensures { (q : Link N) → contains (by_link N.cmp) links.new q ≡ ((not (is_eq (by_link N.cmp (record { name = name; id = id }) q)) || links_to N.cmp keep.now id q) && contains (by_link N.cmp) links.old q) }
+    ensures { (q : Link N) → contains (by_link N.cmp) links.new q
+        ≡ ((not (is_eq (by_link N.cmp (record { name = name; id = id }) q)) || links_to N.cmp keep.now id q) && contains
+        (by_link N.cmp) links.old q) }
 {
     if is_among(keep, &name) {
         return;
@@ -58,7 +64,9 @@ pub(crate) fn detach<N: Ord + Copy>(
     id: usize,
     keep: &[N],
 )
-    ensures { (q : Link N) → contains (by_link N.cmp) links.new q ≡ ((not (links_to N.cmp names.now id q) || links_to N.cmp keep.now id q) && contains (by_link N.cmp) links.old q) }
+    ensures { (q : Link N) → contains (by_link N.cmp) links.new q
+        ≡ ((not (links_to N.cmp names.now id q) || links_to N.cmp keep.now id q) && contains (by_link N.cmp) links.old
+        q) }
 {
     for name in names {
         detach_one(links, *name, id, keep);
@@ -73,8 +81,11 @@ pub(crate) fn attach<N: Ord + Copy>(
     known: &[N],
 ) -> Result<(), Memory>
     requires known { (q : Link N) → q.id ≡ id → contains (by_link N.cmp) links.old q ≡ links_to N.cmp known.now id q }
-    ensures linked { OnOk result ((q : Link N) → contains (by_link N.cmp) links.new q ≡ (links_to N.cmp names.now id q || contains (by_link N.cmp) links.old q)) }
-    ensures memory { OnErr result ((q : Link N) → contains (by_link N.cmp) links.new q ≡ contains (by_link N.cmp) links.old q) }
+    ensures linked { OnOk result ((q : Link N)
+        → contains (by_link N.cmp) links.new q
+        ≡ (links_to N.cmp names.now id q || contains (by_link N.cmp) links.old q)) }
+    ensures memory { OnErr result ((q : Link N)
+        → contains (by_link N.cmp) links.new q ≡ contains (by_link N.cmp) links.old q) }
 {
     match attach_some(links, names, id) {
         Ok(()) => Ok(()),
@@ -91,7 +102,9 @@ pub(crate) fn linked<N: Ord + Copy>(
     links: &BTreeSet<Link<N>>,
     name: N,
 ) -> Result<Vec<usize>, Memory>
-    ensures { IfOk result (λ ids. ids.items ≡ map (λ (q : Link N). q.id) (filter (range_contains (by_link N.cmp) (Included (record { name = name; id = 0 })) (Included (record { name = name; id = 18446744073709551615 }))) links.now.keys)) }
+    ensures { IfOk result (λ ids. ids.items ≡ map (λ (q : Link N). q.id)
+        (filter (range_contains (by_link N.cmp) (Included (record { name = name; id = 0 }))
+        (Included (record { name = name; id = 18446744073709551615 }))) links.now.keys)) }
 {
     let first = Link { name, id: 0 };
     let last = Link {

@@ -1,5 +1,7 @@
 //! A store of what is found by names, each under an id.
-ghost use Rattle.std.specs.Prelude.{◌≡◌, ◌≤◌, ◌+◌, ◌||◌, ◌&&◌, [], ◌∷◌, ◌++◌, ℕ, true, not, IfOk, OnOk, OnErr, IsSome, None, Some, IsPermutation, filter, length, map, option_to_list, vec_capacity, vec_len};
+ghost use Rattle.std.specs.Prelude.{◌≡◌, ◌≤◌, ◌+◌, ◌||◌, ◌&&◌, [], ◌∷◌, ◌++◌, ℕ, true, not, IfOk, OnOk, OnErr, IsSome};
+ghost use Rattle.std.specs.Prelude.{None, Some, IsPermutation, filter, length, map, option_to_list, vec_capacity};
+ghost use Rattle.std.specs.Prelude.{vec_len};
 ghost use Rattle.std.specs.BTreeSet.{contains};
 ghost use Rattle.std.specs.List.Sorted.{IsStrictlySortedBy};
 ghost use Rattle.std.specs.Option.{option_copied};
@@ -156,7 +158,8 @@ impl<R: Filed + Drop> Store<R> {
     fn move_out(&mut self, id: usize, gone: &mut Vec<R>)
         requires { vec_len gone.old + 1 ≤ vec_capacity gone.old }
         ensures rest { self.new ≡ filter (is_other id) self.old }
-        ensures moved { IsPermutation (gone.old.items ++ map item_of self.old) (gone.new.items ++ map item_of self.new) }
+        ensures moved { IsPermutation (gone.old.items ++ map item_of self.old)
+            (gone.new.items ++ map item_of self.new) }
         ensures room { vec_capacity gone.new ≡ vec_capacity gone.old }
         ensures len { vec_len gone.new ≤ vec_len gone.old + 1 }
     {
@@ -167,8 +170,10 @@ impl<R: Filed + Drop> Store<R> {
 
     /// All that bears a name leaves the store, and nothing else.
     pub fn take(&mut self, name: R::Name) -> Result<Vec<R>, Memory>
-        ensures moved { IfOk result (λ gone. IsPermutation (map item_of self.old) (gone.items ++ map item_of self.new)) }
-        ensures rest { OnOk result (self.new ≡ filter (λ (h : Held R). not (bears R.Name.cmp R.borne name h)) self.old) }
+        ensures moved { IfOk result
+            (λ gone. IsPermutation (map item_of self.old) (gone.items ++ map item_of self.new)) }
+        ensures rest { OnOk result
+            (self.new ≡ filter (λ (h : Held R). not (bears R.Name.cmp R.borne name h)) self.old) }
         ensures memory { OnErr result (self.new ≡ self.old) }
     {
         let ids = self.descend(name)?;
@@ -195,7 +200,8 @@ impl<R: Filed + Drop> Store<R> {
     /// The same with an item that bears no name which the other lacks. It takes no memory.
     pub fn shed(&mut self, id: usize, item: R) -> R
         requires there { IsSome (item_at self.old id) }
-        requires fewer { (name : R.Name) → names R.Name.cmp (R.borne item) name ≡ true → names_at R.Name.cmp R.borne (item_at self.old id) name ≡ true }
+        requires fewer { (name : R.Name) → names R.Name.cmp (R.borne item) name ≡ true
+            → names_at R.Name.cmp R.borne (item_at self.old id) name ≡ true }
         ensures was { item_at self.old id ≡ Some result }
         ensures renamed { self.new ≡ with_item id item self.old }
     {
@@ -213,7 +219,10 @@ fn exchange<R: Filed + Drop>(
     requires { ContainsKey slab.old id }
     ensures was { at slab.old.slots id ≡ Some result }
     ensures item { Updated slab.old.slots slab.new.slots id (Some item) }
-    ensures links { (q : Link R.Name) → contains (by_link R.Name.cmp) links.new q ≡ ((not (links_to R.Name.cmp (R.borne result) id q) || links_to R.Name.cmp (R.borne item) id q) && contains (by_link R.Name.cmp) links.old q) }
+    ensures links { (q : Link R.Name)
+        → contains (by_link R.Name.cmp) links.new q
+        ≡ ((not (links_to R.Name.cmp (R.borne result) id q) || links_to R.Name.cmp (R.borne item) id q) && contains
+        (by_link R.Name.cmp) links.old q) }
 {
     let Kept { item: was } = slab.remove(id);
     detach(links, was.names(), id, item.names());

@@ -1,5 +1,5 @@
 //! What is in both lists of a change.
-use list_change::{Place, net};
+use list_change::{Netted, Place, net};
 use std::alloc::Global;
 use std::test::Fail;
 
@@ -12,12 +12,17 @@ fn places(alloc: Global, items: &[u16]) -> Result<Vec<Place<u16>>, Fail> {
     Ok(places)
 }
 
+/// What goes and what comes, without what does both.
+fn changed(alloc: Global, gone: &[u16], come: &[u16]) -> Result<Netted<u16>, Fail> {
+    let gone = places(alloc, gone)?;
+    let come = places(alloc, come)?;
+    Ok(net(alloc, gone, come)?)
+}
+
 /// What went and came again is left out, as often as it did both.
 #[test]
 fn what_goes_and_comes_stays(rt: HostRuntime) -> Result<(), Fail> {
-    let gone = places(rt.alloc(), &[3, 1, 2])?;
-    let come = places(rt.alloc(), &[2, 4, 1])?;
-    let net = net(rt.alloc(), gone, come)?;
+    let net = changed(rt.alloc(), &[3, 1, 2], &[2, 4, 1])?;
     assert_eq!(rt;
         net.gone.as_slice(),
         [Place { item: 3, place: 0 }].as_slice()

@@ -1,8 +1,13 @@
 //! Expressions as they are written, and their faults.
+ghost use Rattle.std.specs.Prelude.{◌≡◌, IfOk};
+ghost use Rattle.policy_expr.specs.Policy.{policy_of};
+ghost use Rattle.policy_expr.specs.Sizes.{leaf_count};
+
 use cv_io::{Bytes, List, Text};
 use policy_expr::{Expr, ExprFault, MemberName, parse};
 use std::alloc::Global;
-use std::test::Fail;
+use std::process::Abort;
+use std::test::*;
 
 fn text(alloc: Global, bytes: &[u8]) -> Result<Text, Fail> {
     Ok(Text::from_bytes(Bytes::from_slice(alloc, bytes)?)?)
@@ -52,12 +57,34 @@ fn told(alloc: Global, fault: &ExprFault) -> Result<String, Fail> {
     Ok(told)
 }
 
-/// What parsing the text over members of these names gives.
-fn outcome(alloc: Global, names: &[&[u8]], bytes: &[u8]) -> Result<String, Fail> {
-    match parse(alloc, &text(alloc, bytes)?, &members(alloc, names)?) {
+/// What parsing the text gives.
+fn parsed(alloc: Global, members: &List<MemberName>, text: &Text) -> Result<String, Fail> {
+    match parse(alloc, text, members) {
         Ok(expr) => shown(alloc, &expr),
         Err(fault) => told(alloc, &fault),
     }
+}
+
+/// What parsing the text over members of these names gives.
+fn outcome(alloc: Global, names: &[&[u8]], bytes: &[u8]) -> Result<String, Fail> {
+    let text = text(alloc, bytes)?;
+    let members = members(alloc, names)?;
+    let outcome = parsed(alloc, &members, &text);
+    drop(members);
+    outcome
+}
+
+/// Parsing each text over members of these names gives this.
+fn outcomes(
+    rt: &(impl Abort + AllocGlobal),
+    names: &[&[u8]],
+    cases: &[(&[u8], &str)],
+) -> Result<(), Fail> {
+    for (bytes, want) in cases {
+        let found = outcome(rt.alloc(), names, bytes)?;
+        assert_eq!(rt; found.as_str(), *want);
+    }
+    Ok(())
 }
 
 #[test]
@@ -80,13 +107,7 @@ fn two_members(rt: HostRuntime) -> Result<(), Fail> {
         (b"fw + x + )", "Syntax 9"),
         (b"mon + abcdefghijklmnopq", "Syntax 6"),
     ];
-    for (bytes, want) in cases {
-        assert_eq!(rt;
-            outcome(rt.alloc(), &[b"mon", b"rt"], bytes)?.as_str(),
-            want
-        );
-    }
-    Ok(())
+    outcomes(&rt, &[b"mon", b"rt"], &cases)
 }
 
 #[test]
@@ -102,79 +123,101 @@ fn three_members(rt: HostRuntime) -> Result<(), Fail> {
         (b"(mon |> lb) + rt", "ParallelLeft lb"),
         (b"rt + mon", "Unused lb"),
     ];
-    for (bytes, want) in cases {
-        assert_eq!(rt;
-            outcome(rt.alloc(), &[b"mon", b"rt", b"lb"], bytes)?.as_str(),
-            want
-        );
-    }
-    assert_eq!(rt;
-        outcome(rt.alloc(), &[b"lb", b"rt"], b"lb + rt")?.as_str(),
-        "ParallelLeft lb"
-    );
-    Ok(())
+    outcomes(&rt, &[b"mon", b"rt", b"lb"], &cases)?;
+    outcomes(&rt, &[b"lb", b"rt"], &[(b"lb + rt", "ParallelLeft lb")])
 }
 
-/// So many parentheses round a name.
-fn nested(alloc: Global, depth: usize) -> Result<Vec<u8>, Fail> {
-    let mut bytes = Vec::new(alloc);
-    for _ in 0..depth {
-        bytes.push(b'(')?;
-    }
-    bytes.extend_from_slice(b"mon")?;
-    for _ in 0..depth {
-        bytes.push(b')')?;
-    }
-    Ok(bytes)
+/// A name in so many parentheses.
+fn nested(alloc: Global, depth: usize) -> Result<String, Fail> {
+    let open = "(".repeat(alloc, depth)?;
+    let close = ")".repeat(alloc, depth)?;
+    Ok(format!(in alloc; "{open}mon{close}")?)
 }
 
 #[test]
-fn limits(rt: HostRuntime) -> Result<(), Fail> {
-    let alloc = rt.alloc();
-    assert_eq!(rt;
-        outcome(alloc, &[b"mon"], &nested(alloc, 32)?)?.as_str(),
-        "0"
-    );
-    assert_eq!(rt;
-        outcome(alloc, &[b"mon"], &nested(alloc, 33)?)?.as_str(),
-        "Syntax 32"
-    );
-
-    let mut bytes = b"mon".to_vec(alloc)?;
-    for _ in 3..1_024 {
-        bytes.push(b' ')?;
+fn depths(rt: HostRuntime) -> Result<(), Fail> {
+    for (depth, want) in [(32, "0"), (33, "Syntax 32")] {
+        let text = nested(rt.alloc(), depth)?;
+        outcomes(&rt, &[b"mon"], &[(text.as_bytes(), want)])?;
     }
-    assert_eq!(rt; outcome(alloc, &[b"mon"], &bytes)?.as_str(), "0");
-    bytes.push(b' ')?;
-    assert_eq!(rt; outcome(alloc, &[b"mon"], &bytes)?.as_str(), "Syntax 1024");
+    Ok(())
+}
 
-    let names: [&[u8]; 13] = [
-        b"a", b"b", b"c", b"d", b"e", b"f", b"g", b"h", b"i", b"j", b"k", b"l", b"m",
-    ];
-    assert_eq!(rt;
-        outcome(alloc, &names, b"a+b+c+d+e+f+g+h+i+j+k+l+m")?.as_str(),
-        "TooMany 13"
-    );
-    assert_eq!(rt;
-        outcome(alloc, &names[..12], b"a+b+c+d+e+f+g+h+i+j+k+l")?.len(),
-        69
-    );
+/// A name and so many spaces.
+fn padded(alloc: Global, spaces: usize) -> Result<String, Fail> {
+    let spaces = " ".repeat(alloc, spaces)?;
+    Ok(format!(in alloc; "mon{spaces}")?)
+}
+
+/// A text has up to 1024 bytes.
+#[test]
+fn lengths(rt: HostRuntime) -> Result<(), Fail> {
+    for (spaces, want) in [(1_021, "0"), (1_022, "Syntax 1024")] {
+        let text = padded(rt.alloc(), spaces)?;
+        outcomes(&rt, &[b"mon"], &[(text.as_bytes(), want)])?;
+    }
+    Ok(())
+}
+
+const NAMES: [&[u8]; 13] = [
+    b"a", b"b", b"c", b"d", b"e", b"f", b"g", b"h", b"i", b"j", b"k", b"l", b"m",
+];
+
+#[test]
+fn twelve_members(rt: HostRuntime) -> Result<(), Fail> {
+    let text = outcome(rt.alloc(), &NAMES[..12], b"a+b+c+d+e+f+g+h+i+j+k+l")?;
+    assert_eq!(rt; text.len(), 69);
     Ok(())
 }
 
 #[test]
-fn sizes_and_copies(rt: HostRuntime) -> Result<(), Fail> {
-    let alloc = rt.alloc();
+fn thirteen_members(rt: HostRuntime) -> Result<(), Fail> {
+    outcomes(&rt, &NAMES, &[(b"a+b+c+d+e+f+g+h+i+j+k+l+m", "TooMany 13")])
+}
+
+/// Two members side by side.
+fn pair(alloc: Global) -> Result<Expr, Fail>
+    ensures { IfOk result (λ expr. leaf_count (policy_of expr) ≡ 2) }
+{
     let left = Box::new(alloc, Expr::Member { index: 0 })?;
     let right = Box::new(alloc, Expr::Member { index: 1 })?;
-    let pair = Expr::Par { left, right };
-    let copied = pair.copy()?;
-    assert_eq!(rt; shown(alloc, &copied)?.as_str(), "(0 + 1)");
-    let left = Box::new(alloc, pair)?;
+    Ok(Expr::Par { left, right })
+}
+
+/// A third member after two.
+fn chained(alloc: Global, first: Expr) -> Result<Expr, Fail>
+    requires { leaf_count (policy_of first) ≡ 2 }
+    ensures { IfOk result (λ expr. leaf_count (policy_of expr) ≡ 3) }
+{
     let right = Box::new(alloc, Expr::Member { index: 2 })?;
-    let chain = Expr::Seq { left, right };
-    // 8 and 8 levels side by side make 15, and before 4 they make 60.
-    let bits = List::from_vec([3, 3, 2].to_vec(alloc)?);
-    assert_eq!(rt; chain.size(&bits), 60);
+    let left = Box::new(alloc, first)?;
+    Ok(Expr::Seq { left, right })
+}
+
+/// The copy of an expression.
+fn copy_shown(alloc: Global, expr: &Expr) -> Result<String, Fail> {
+    let copied = expr.copy()?;
+    let text = shown(alloc, &copied);
+    drop(copied);
+    text
+}
+
+#[test]
+fn copies(rt: HostRuntime) -> Result<(), Fail> {
+    let pair = pair(rt.alloc())?;
+    let text = copy_shown(rt.alloc(), &pair);
+    drop(pair);
+    assert_eq!(rt; text?.as_str(), "(0 + 1)");
+    Ok(())
+}
+
+/// 8 and 8 levels side by side make 15, and before 4 they make 60.
+#[test]
+fn sizes(rt: HostRuntime) -> Result<(), Fail> {
+    let bits = List::from_slice(rt.alloc(), &[3, 3, 2])?;
+    let chain = chained(rt.alloc(), pair(rt.alloc())?)?;
+    let size = chain.size(&bits);
+    drop(chain);
+    assert_eq!(rt; size, 60);
     Ok(())
 }

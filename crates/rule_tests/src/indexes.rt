@@ -6,7 +6,8 @@ use cv_io::Duplicate;
 use match_index::{Index, Item};
 use of10_match::{Header, Match, Prefix};
 use std::alloc::Global;
-use std::test::Fail;
+use std::process::Abort;
+use std::test::*;
 
 const ADDRESSES: [u32; 4] = [0x0a00_0001, 0x0a00_0101, 0x0a80_0001, 0xc0a8_0001];
 
@@ -171,20 +172,42 @@ fn scanned_answers(alloc: Global, items: &[Item], seed: u64) -> Result<String, F
     )?)
 }
 
-#[test]
-fn answers_are_those_of_a_look_at_each_item(rt: HostRuntime) -> Result<(), Fail> {
-    let alloc = rt.alloc();
-    let items = some_items(alloc, 90)?;
-    let index = indexed(alloc, &items, 90)?;
-    let copied = index.copy()?;
+/// Both answer random questions as a look at each item does.
+fn both_answer(
+    rt: &(impl Abort + AllocGlobal),
+    items: &[Item],
+    index: &Index,
+    copied: &Index,
+) -> Result<(), Fail> {
     let mut seed = 99;
     for _ in 0..200 {
         seed = next(seed);
-        let want = scanned_answers(alloc, &items, seed)?;
-        assert_eq!(rt; answers(alloc, &index, seed)?.as_str(), want.as_str());
-        assert_eq!(rt; answers(alloc, &copied, seed)?.as_str(), want.as_str());
+        let want = scanned_answers(rt.alloc(), items, seed)?;
+        assert_eq!(rt; answers(rt.alloc(), index, seed)?.as_str(), want.as_str());
+        assert_eq!(rt; answers(rt.alloc(), copied, seed)?.as_str(), want.as_str());
     }
     Ok(())
+}
+
+/// An index and its copy answer so.
+fn answers_with_its_copy(
+    rt: &(impl Abort + AllocGlobal),
+    items: &[Item],
+    index: &Index,
+) -> Result<(), Fail> {
+    let copied = index.copy()?;
+    let answered = both_answer(rt, items, index, &copied);
+    drop(copied);
+    answered
+}
+
+#[test]
+fn answers_are_those_of_a_look_at_each_item(rt: HostRuntime) -> Result<(), Fail> {
+    let items = some_items(rt.alloc(), 90)?;
+    let index = indexed(rt.alloc(), &items, 90)?;
+    let answered = answers_with_its_copy(&rt, &items, &index);
+    drop(index);
+    answered
 }
 
 /// An index of everything under 7, and of nothing else.
@@ -197,16 +220,22 @@ fn of_everything(alloc: Global) -> Result<Index, Fail> {
     Ok(index)
 }
 
-#[test]
-fn items_come_and_go(rt: HostRuntime) -> Result<(), Fail> {
-    let mut index = of_everything(rt.alloc())?;
+/// What the index of everything answers, before and after its item goes.
+fn told(alloc: Global, index: &mut Index) -> Result<String, Fail> {
     let (len, found) = (index.len(), index.get(7).map(|item| item.rank));
     let holding = index.holding(&some_header(1))?.len();
     let (gone, gone_again) = (index.remove(7), index.remove(7));
-    let shown = format!(in rt.alloc();
+    Ok(format!(in alloc;
         "{len} {found:?} {holding} {gone} {gone_again} {}",
         index.is_empty()
-    )?;
-    assert_eq!(rt; shown.as_str(), "1 Some(0) 1 true false true");
+    )?)
+}
+
+#[test]
+fn items_come_and_go(rt: HostRuntime) -> Result<(), Fail> {
+    let mut index = of_everything(rt.alloc())?;
+    let shown = told(rt.alloc(), &mut index);
+    drop(index);
+    assert_eq!(rt; shown?.as_str(), "1 Some(0) 1 true false true");
     Ok(())
 }

@@ -2,7 +2,7 @@
 use alg_priority::{TooWide, concat, fits, shift, size_concat, size_shift, size_sum, sum};
 
 #[test]
-fn levels_of_pairs(rt: HostRuntime) {
+fn levels_side_by_side(rt: HostRuntime) {
     // A member of 3 bits has 8 levels; its first rank has level 4 and a higher one 6, its miss 1.
     for (a, b, want) in [
         (4, 4, 8),
@@ -14,10 +14,18 @@ fn levels_of_pairs(rt: HostRuntime) {
     ] {
         assert_eq!(rt; sum(a, b), want, "{a} + {b}");
     }
+}
+
+#[test]
+fn levels_of_chains(rt: HostRuntime) {
     for (a, b, want) in [(4, 4, 36), (4, 1, 33), (1, 0, 8)] {
         assert_eq!(rt; concat(a, b, 8), want, "{a} >> {b}");
     }
     assert_eq!(rt; shift(4, 8), 12);
+}
+
+#[test]
+fn sizes_of_pairs(rt: HostRuntime) {
     assert_eq!(rt; size_sum(8, 8), 15);
     assert_eq!(rt; size_concat(8, 8), 64);
     assert_eq!(rt; size_shift(8, 8), 16);

@@ -2,7 +2,7 @@
 use of10_actions::Rewrite;
 use of10_match::{Match, Prefix};
 use pull_back::{image, pull};
-use std::test::Fail;
+use std::process::Abort;
 
 /// Packets go to the server at 2.0.0.1.
 fn to_server() -> Rewrite {
@@ -49,8 +49,13 @@ const NET_3: Prefix = Prefix {
     len: 8,
 };
 
+/// The pull of a match through a rewrite.
+fn pulls_to(rt: &impl Abort, rewrite: &Rewrite, m: &Match, want: Option<Match>) {
+    assert_eq!(rt; pull(rewrite, m), want);
+}
+
 #[test]
-fn worked_pulls(rt: HostRuntime) -> Result<(), Fail> {
+fn worked_pulls_of_addresses(rt: HostRuntime) {
     let arp = Match {
         nw_dst: Some(NET_10),
         ..of_type(0x0806)
@@ -63,6 +68,15 @@ fn worked_pulls(rt: HostRuntime) -> Result<(), Fail> {
         nw_dst: Some(NET_3),
         ..of_type(0x0800)
     };
+    // ARP stays as it is; a net with the address is no longer asked for; another has no pull.
+    pulls_to(&rt, &to_server(), &arp, Some(arp));
+    pulls_to(&rt, &to_server(), &to_net_2, Some(of_type(0x0800)));
+    pulls_to(&rt, &to_server(), &to_net_3, None);
+}
+
+/// Ports are set in TCP and UDP, and not in ICMP.
+#[test]
+fn worked_pulls_of_ports(rt: HostRuntime) {
     let web = Match {
         tp_src: Some(80),
         ..of_protocol(6)
@@ -71,18 +85,17 @@ fn worked_pulls(rt: HostRuntime) -> Result<(), Fail> {
         tp_src: Some(8),
         ..of_protocol(1)
     };
-    // ARP stays as it is; a net with the address is no longer asked for; another has no pull.
-    assert_eq!(rt; pull(&to_server(), &arp), Some(arp));
-    assert_eq!(rt; pull(&to_server(), &to_net_2), Some(of_type(0x0800)));
-    assert_eq!(rt; pull(&to_server(), &to_net_3), None);
-    // Ports are set in TCP and UDP, and not in ICMP.
-    assert_eq!(rt; pull(&from_web(), &web), Some(of_protocol(6)));
-    assert_eq!(rt; pull(&from_web(), &echo), Some(echo));
-    Ok(())
+    pulls_to(&rt, &from_web(), &web, Some(of_protocol(6)));
+    pulls_to(&rt, &from_web(), &echo, Some(echo));
+}
+
+/// The image of a match under the rewrite to the server.
+fn goes_to_server(rt: &impl Abort, m: &Match, want: Match) {
+    assert_eq!(rt; image(&to_server(), m), want);
 }
 
 #[test]
-fn worked_images(rt: HostRuntime) -> Result<(), Fail> {
+fn worked_images(rt: HostRuntime) {
     let arp = Match {
         nw_dst: Some(NET_10),
         ..of_type(0x0806)
@@ -96,11 +109,7 @@ fn worked_images(rt: HostRuntime) -> Result<(), Fail> {
         ..of_type(0x0800)
     };
     // ARP stays as it is; IPv4 packets go to the server; of what has no type nothing more is known.
-    assert_eq!(rt; image(&to_server(), &arp), arp);
-    assert_eq!(rt; image(&to_server(), &to_net_3), at_server);
-    assert_eq!(rt;
-        image(&to_server(), &Match::everything()),
-        Match::everything()
-    );
-    Ok(())
+    goes_to_server(&rt, &arp, arp);
+    goes_to_server(&rt, &to_net_3, at_server);
+    goes_to_server(&rt, &Match::everything(), Match::everything());
 }

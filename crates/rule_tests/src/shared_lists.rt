@@ -2,6 +2,7 @@
 use cv_io::{Duplicate, Memory};
 use shared_list::{SharedList, Wanted};
 use std::alloc::Global;
+use std::process::Abort;
 use std::test::Fail;
 
 /// Numbers from one on are wanted.
@@ -40,29 +41,53 @@ fn end(list: &SharedList<u64>) -> Result<(Option<u64>, usize), Memory> {
     Ok((items.as_slice().last().copied(), items.len()))
 }
 
+/// 101 stands between its neighbours.
+fn has_odd(rt: &impl Abort, list: &SharedList<u64>) -> Result<(), Memory> {
+    assert_eq!(rt; list.first(&From(101)), Some(&101));
+    assert_eq!(rt; list.first(&From(102)), Some(&102));
+    assert_eq!(rt; end(list)?, (Some(198), 101));
+    Ok(())
+}
+
 #[test]
 fn an_item_is_put_in_its_place(rt: HostRuntime) -> Result<(), Fail> {
     let list = with_odd(rt.alloc())?;
-    assert_eq!(rt; list.first(&From(101)), Some(&101));
-    assert_eq!(rt; list.first(&From(102)), Some(&102));
-    assert_eq!(rt; end(&list)?, (Some(198), 101));
+    let put = has_odd(&rt, &list);
+    drop(list);
+    Ok(put?)
+}
+
+/// 102 goes, and what isn't there doesn't.
+fn take(rt: &impl Abort, list: &mut SharedList<u64>) -> Result<(), Memory> {
+    assert_eq!(rt; list.take(&From(102))?, Some(102));
+    assert_eq!(rt; list.take_first(&From(199))?, None);
+    assert_eq!(rt; end(list)?, (Some(198), 100));
     Ok(())
 }
 
 #[test]
 fn items_are_taken(rt: HostRuntime) -> Result<(), Fail> {
     let mut list = with_odd(rt.alloc())?;
-    assert_eq!(rt; list.take(&From(102))?, Some(102));
-    assert_eq!(rt; list.take_first(&From(199))?, None);
-    assert_eq!(rt; end(&list)?, (Some(198), 100));
-    Ok(())
+    let taken = take(&rt, &mut list);
+    drop(list);
+    Ok(taken?)
+}
+
+/// The end of a copy of a list that goes on.
+fn end_of_copy(list: &mut SharedList<u64>) -> Result<(Option<u64>, usize), Memory> {
+    let copied = list.copy()?;
+    let put = list.put(&From(300), 300);
+    let end = end(&copied);
+    drop(copied);
+    put?;
+    end
 }
 
 #[test]
 fn a_copy_stays(rt: HostRuntime) -> Result<(), Fail> {
     let mut list = evens(rt.alloc())?;
-    let copied = list.copy()?;
-    list.put(&From(300), 300)?;
-    assert_eq!(rt; end(&copied)?, (Some(198), 100));
+    let end = end_of_copy(&mut list);
+    drop(list);
+    assert_eq!(rt; end?, (Some(198), 100));
     Ok(())
 }

@@ -80,21 +80,27 @@ fn levels_of_pairs(rt: HostRuntime) -> Result<(), Fail> {
     Ok(())
 }
 
-/// The levels of the rules of a member that sees ports 1 and 3 of the four.
-fn half_blind(alloc: Global) -> Result<List<u64>, Fail> {
+/// A member that sees ports 1 and 3 of the four.
+fn half_blind(alloc: Global) -> Result<LeafTable, Fail> {
     let first = entry(alloc, 1, from_net(), None, Tail::Nothing)?;
-    let half_blind = table(alloc, 0, &[1, 3], false, first)?;
-    if !half_blind.fits() {
+    table(alloc, 0, &[1, 3], false, first)
+}
+
+/// The levels of the rules of a member.
+fn member_levels(alloc: Global, member: &LeafTable) -> Result<List<u64>, Fail> {
+    if !member.fits() {
         return Ok(List::new(alloc));
     }
     let ports = List::from_slice(alloc, &PORTS)?;
-    levels(alloc, &half_blind.rules(alloc, &ports)?)
+    levels(alloc, &member.rules(alloc, &ports)?)
 }
 
 #[test]
 fn rules_by_port(rt: HostRuntime) -> Result<(), Fail> {
-    let found = half_blind(rt.alloc())?;
-    assert_eq!(rt; found.as_slice(), [0, 1, 1, 4, 4].as_slice());
+    let member = half_blind(rt.alloc())?;
+    let found = member_levels(rt.alloc(), &member);
+    drop(member);
+    assert_eq!(rt; found?.as_slice(), [0, 1, 1, 4, 4].as_slice());
     Ok(())
 }
 
@@ -111,11 +117,19 @@ fn rule(alloc: Global, level: u64, kind: u64, m: Match) -> Result<Rule, Fail> {
     })
 }
 
+/// The copy of such a rule.
+fn rule_copy(alloc: Global, level: u64, kind: u64, m: Match) -> Result<Rule, Fail> {
+    let rule = rule(alloc, level, kind, m)?;
+    let copied = rule.copy();
+    drop(rule);
+    Ok(copied?)
+}
+
 /// Rules in their order: by the kind of their leaf, then by their port. They are listed from the last.
 fn in_order(alloc: Global) -> Result<List<u64>, Fail> {
     let mut rules = List::new(alloc);
     for (level, kind, port) in [(3, 3, 2), (2, 3, 1), (1, 1, 9)] {
-        rules.push(rule(alloc, level, kind, by_port(port))?.copy()?)?;
+        rules.push(rule_copy(alloc, level, kind, by_port(port))?)?;
     }
     levels(alloc, &listed(rules)?)
 }

@@ -8,7 +8,8 @@ use policy_meaning::{
     node_rules, tables_fit, walk,
 };
 use std::alloc::Global;
-use std::test::Fail;
+use std::process::Abort;
+use std::test::*;
 
 const PORTS: [u16; 4] = [1, 2, 8, 9];
 
@@ -45,12 +46,21 @@ fn switch(alloc: Global, index: u32, other: u32) -> Result<VirtualSwitch, Fail> 
     })
 }
 
-/// Two virtual switches that split a physical one: the second sends what comes by link 9 to link 8.
+/// Of the second virtual switch: sends what comes by link 9 to link 8.
+fn second(alloc: Global) -> Result<LeafTable, Fail> {
+    table(alloc, 1, &PORTS, false, sending(alloc, 9, 8)?)
+}
+
+fn switches(alloc: Global) -> Result<List<VirtualSwitch>, Fail> {
+    two(alloc, switch(alloc, 0, 1)?, switch(alloc, 1, 0)?)
+}
+
+/// Two virtual switches that split a physical one.
 fn split(alloc: Global) -> Result<Network, Fail> {
-    let second = table(alloc, 1, &PORTS, false, sending(alloc, 9, 8)?)?;
+    let switches = switches(alloc)?;
     Ok(Network {
-        tables: two(alloc, first(alloc)?, second)?,
-        switches: two(alloc, switch(alloc, 0, 1)?, switch(alloc, 1, 0)?)?,
+        tables: two(alloc, first(alloc)?, second(alloc)?)?,
+        switches,
     })
 }
 
@@ -89,17 +99,23 @@ fn entering_levels(alloc: Global, network: &Network) -> Result<List<u64>, Fail> 
     }
 }
 
+/// The rules of both kinds have the same levels.
+fn have_levels(
+    rt: &(impl Abort + AllocGlobal),
+    network: &Network,
+    want: &[u64],
+) -> Result<(), Fail> {
+    let of_node = node_levels(rt.alloc(), network)?;
+    assert_eq!(rt; of_node.as_slice(), want);
+    let entering = entering_levels(rt.alloc(), network)?;
+    assert_eq!(rt; entering.as_slice(), want);
+    Ok(())
+}
+
 #[test]
 fn levels_over_hops(rt: HostRuntime) -> Result<(), Fail> {
     let network = split(rt.alloc())?;
-    let want = [512, 2112, 2312, 2336];
-    assert_eq!(rt;
-        node_levels(rt.alloc(), &network)?.as_slice(),
-        want.as_slice()
-    );
-    assert_eq!(rt;
-        entering_levels(rt.alloc(), &network)?.as_slice(),
-        want.as_slice()
-    );
-    Ok(())
+    let compared = have_levels(&rt, &network, &[512, 2112, 2312, 2336]);
+    drop(network);
+    compared
 }

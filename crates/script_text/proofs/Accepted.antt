@@ -1,5 +1,7 @@
 -- A line that is read says what was read, by the grammar.
-use Rattle.std.proofs.Common.{◌≡◌, ℕ, zero, suc, ◌+◌, ◌^◌, ◌<◌, ◌≤◌, Bool, true, false, cond, List, [], ◌∷◌, ◌++◌, length, take, drop, Option, Some, None, Result, Ok, Err, refl, sym, ap, subst, ◌∙◌, inl, inr, eqb-true, arith}
+use Rattle.std.proofs.Common.{◌≡◌, ℕ, zero, suc, ◌+◌, ◌^◌, ◌<◌, ◌≤◌, Bool, true, false, cond, List, [], ◌∷◌, ◌++◌}
+use Rattle.std.proofs.Common.{length, take, drop, Option, Some, None, Result, Ok, Err, refl, sym, ap, subst, ◌∙◌, inl}
+use Rattle.std.proofs.Common.{inr, eqb-true, arith}
 use Rattle.std.specs.Prelude.{◌&&◌, ◌||◌, ◌==◌, ◌⊎◌, codes, decimal, nat_le, nat_lt, not, position, slice_index}
 use Rattle.std.specs.List.{list_all}
 use Rattle.std.specs.Str.{bytes_eq}
@@ -9,7 +11,9 @@ use Rattle.hex.specs.declared.error.FromHexError.{FromHexError}
 use Rattle.script_text.specs.Grammar.{IsHex, IsPlace, IsThree, IsTwo, Says}
 use Rattle.script_text.specs.Names.{is_member, is_name, is_session}
 use Rattle.script_text.specs.Numbers.{number_in}
-use Rattle.script_text.specs.Reading.{◌>>=◌, by_count, hex_in, is_blank, line_in, number_or_fault, packet_in, place_about, place_in, said, session_in, some_bytes, switch_in, three_of, three_words, two_of, two_words, where_named}
+use Rattle.script_text.specs.Reading.{◌>>=◌, by_count, hex_in, is_blank, line_in, number_or_fault, packet_in}
+use Rattle.script_text.specs.Reading.{place_about, place_in, said, session_in, some_bytes, switch_in, three_of}
+use Rattle.script_text.specs.Reading.{three_words, two_of, two_words, where_named}
 use Rattle.script_text.specs.Verbs.{is_explain, is_sim, verb_in, verb_text}
 use Rattle.script_text.specs.Words.{is_word, onto_first, spaced, words}
 use Rattle.script_text.specs.declared.fault.LineFault.{LineFault}
@@ -27,7 +31,8 @@ use Rattle.script_text.proofs.WordBytes.{either}
 
 -- ---- steps that did not fail
 
-bind_ok : {A B : Type 0} (r : Result A LineFault) (f : A → Result B LineFault) (y : B) → (r >>= f) ≡ Ok y → (x : A) × (r ≡ Ok x) × (f x ≡ Ok y)
+bind_ok : {A B : Type 0} (r : Result A LineFault) (f : A → Result B LineFault) (y : B) → (r >>= f) ≡ Ok y
+    → (x : A) × (r ≡ Ok x) × (f x ≡ Ok y)
 bind_ok (Ok x) f y e = (x, refl, e)
 bind_ok (Err d) f y e = absurd cc
 
@@ -37,11 +42,13 @@ done l = Ok l
 line_is : (x y : Line) → done x ≡ done y → x ≡ y
 line_is x y e = cc
 
-unless_ok : {A : Type 0} (b : Bool) (d : LineFault) (r : Result A LineFault) (y : A) → cond b (Err d) r ≡ Ok y → (b ≡ false) × (r ≡ Ok y)
+unless_ok : {A : Type 0} (b : Bool) (d : LineFault) (r : Result A LineFault) (y : A) → cond b (Err d) r ≡ Ok y
+    → (b ≡ false) × (r ≡ Ok y)
 unless_ok true d r y e = absurd cc
 unless_ok false d r y e = (refl, e)
 
-when_ok : {A : Type 0} (b : Bool) (d : LineFault) (r : Result A LineFault) (y : A) → cond b r (Err d) ≡ Ok y → (b ≡ true) × (r ≡ Ok y)
+when_ok : {A : Type 0} (b : Bool) (d : LineFault) (r : Result A LineFault) (y : A) → cond b r (Err d) ≡ Ok y
+    → (b ≡ true) × (r ≡ Ok y)
 when_ok true d r y e = (refl, e)
 when_ok false d r y e = absurd cc
 
@@ -52,7 +59,8 @@ named_ok : (holds : Bool) (word name : List ℕ) → where_named holds word ≡ 
 named_ok true word name e = (refl, text_ok word name e)
 named_ok false word name e = absurd cc
 
-hex_ok : (r : Result (List ℕ) FromHexError) (bytes : List ℕ) → some_bytes r ≡ Ok bytes → (r ≡ Ok bytes) × (0 < length bytes)
+hex_ok : (r : Result (List ℕ) FromHexError) (bytes : List ℕ) → some_bytes r ≡ Ok bytes
+    → (r ≡ Ok bytes) × (0 < length bytes)
 hex_ok (Err fault) bytes e = absurd cc
 hex_ok (Ok []) bytes e = absurd cc
 hex_ok (Ok (b ∷ bs)) bytes e =
@@ -72,10 +80,12 @@ number_ok fault (Some m) n e = ap (λ (k : ℕ). Some k) (numbers m n e)
 pair_ok : (x y : List ℕ × ℕ) → ◌≡◌ {A = Result (List ℕ × ℕ) LineFault} (Ok x) (Ok y) → x ≡ y
 pair_ok x y e = cc
 
-place_ok : (word : List ℕ) (o : Option ℕ) (at : List ℕ × ℕ) → position (λ c. c == 58) word ≡ o → place_about word o ≡ Ok at → IsPlace at.0 at.1 word
+place_ok : (word : List ℕ) (o : Option ℕ) (at : List ℕ × ℕ) → position (λ c. c == 58) word ≡ o
+    → place_about word o ≡ Ok at → IsPlace at.0 at.1 word
 place_ok word None at found e = absurd cc
 place_ok word (Some k) at found e =
-    let p = bind_ok (number_or_fault Name (number_in 65535 (drop (k + 1) word))) (λ port. switch_in (take k word) >>= λ switch. Ok (switch, port)) at e in
+    let p = bind_ok (number_or_fault Name (number_in 65535 (drop (k + 1) word)))
+    (λ port. switch_in (take k word) >>= λ switch. Ok (switch, port)) at e in
     let q = bind_ok (switch_in (take k word)) (λ switch. Ok (switch, p.0)) at p.2 in
     let n = number_is 65535 (drop (k + 1) word) p.0 (number_ok Name (number_in 65535 (drop (k + 1) word)) p.0 p.1) in
     let s = named_ok (is_name (take k word)) (take k word) q.0 q.1 in
@@ -102,7 +112,9 @@ some_verb : (x y : Verb) → Some x ≡ Some y → x ≡ y
 some_verb x y e = cc
 
 -- one test of a chain
-one_test : (form : Form) (word : List ℕ) (test : Bool) (this verb : Verb) (others : Option Verb) → (test ≡ true → IsVerb form word this) → (others ≡ Some verb → IsVerb form word verb) → cond test (Some this) others ≡ Some verb → IsVerb form word verb
+one_test : (form : Form) (word : List ℕ) (test : Bool) (this verb : Verb) (others : Option Verb)
+    → (test ≡ true → IsVerb form word this) → (others ≡ Some verb → IsVerb form word verb)
+    → cond test (Some this) others ≡ Some verb → IsVerb form word verb
 one_test form word true this verb others here there e = subst (IsVerb form word) (some_verb this verb e) (here refl)
 one_test form word false this verb others here there e = there e
 
@@ -116,30 +128,38 @@ is_verb form word verb e =
     let o4 : Option Verb = cond (t Tick) (Some Tick) o5 in
     let o3 : Option Verb = cond (t Gone) (Some Gone) o4 in
     let o2 : Option Verb = cond (t From) (Some From) o3 in
-    let said_so : (v : Verb) → Knows form v → t v ≡ true → IsVerb form word v = λ v knows h. record { text = same_text word (verb_text v) h; knows = knows } in
+    let said_so : (v : Verb) → Knows form v → t v ≡ true
+    → IsVerb form word v = λ v knows h. record { text = same_text word (verb_text v) h; knows = knows } in
     one_test form word (t Up) Up verb o2 (said_so Up tt)
     (one_test form word (t From) From verb o3 (said_so From tt)
     (one_test form word (t Gone) Gone verb o4 (said_so Gone tt)
     (one_test form word (t Tick) Tick verb o5 (said_so Tick tt)
     (one_test form word (t Expr) Expr verb o6 (said_so Expr tt)
-    (one_test form word (is_explain form && t Ask) Ask verb o7 (λ h. let p = both (is_explain form) (t Ask) h in said_so Ask p.0 p.1)
-    (one_test form word (is_sim form && t Packet) Packet verb none (λ h. let p = both (is_sim form) (t Packet) h in said_so Packet p.0 p.1) (λ h. absurd cc))))))) e
+    (one_test form word (is_explain form && t Ask) Ask verb o7
+    (λ h. let p = both (is_explain form) (t Ask) h in said_so Ask p.0 p.1)
+    (one_test form word (is_sim form && t Packet) Packet verb none
+    (λ h. let p = both (is_sim form) (t Packet) h in said_so Packet p.0 p.1) (λ h. absurd cc))))))) e
 
 -- ---- lines
 
-two_said : (form : Form) (verb : Verb) (word line : List ℕ) (l : Line) → IsTwo verb word line → two_words verb word ≡ Ok l → Says form l line
+two_said : (form : Form) (verb : Verb) (word line : List ℕ) (l : Line) → IsTwo verb word line
+    → two_words verb word ≡ Ok l → Says form l line
 two_said form Up word line l whole e =
     let p = bind_ok (session_in word) (λ name. done (lines.Up name false)) l e in
     let s = named_ok (is_session word) word p.0 p.1 in
-    subst (λ (x : Line). Says form x line) (line_is (lines.Up p.0 false) l p.2) (ap is_session (sym s.1) ∙ s.0, subst (λ (w : List ℕ). IsTwo Up w line) s.1 whole)
+    subst (λ (x : Line). Says form x line) (line_is (lines.Up p.0 false) l p.2)
+    (ap is_session (sym s.1) ∙ s.0, subst (λ (w : List ℕ). IsTwo Up w line) s.1 whole)
 two_said form Gone word line l whole e =
     let p = bind_ok (session_in word) (λ name. done (lines.Gone name)) l e in
     let s = named_ok (is_session word) word p.0 p.1 in
-    subst (λ (x : Line). Says form x line) (line_is (lines.Gone p.0) l p.2) (ap is_session (sym s.1) ∙ s.0, subst (λ (w : List ℕ). IsTwo Gone w line) s.1 whole)
+    subst (λ (x : Line). Says form x line) (line_is (lines.Gone p.0) l p.2)
+    (ap is_session (sym s.1) ∙ s.0, subst (λ (w : List ℕ). IsTwo Gone w line) s.1 whole)
 two_said form Tick word line l whole e =
-    let p = bind_ok (number_or_fault Number (number_in 18446744073709551615 word)) (λ second. done (lines.Tick second)) l e in
+    let p = bind_ok (number_or_fault Number (number_in 18446744073709551615 word)) (λ second. done (lines.Tick second))
+    l e in
     let n = number_is 18446744073709551615 word p.0 (number_ok Number (number_in 18446744073709551615 word) p.0 p.1) in
-    subst (λ (x : Line). Says form x line) (line_is (lines.Tick p.0) l p.2) (omega (arith, n.1), subst (λ (w : List ℕ). IsTwo Tick w line) n.0 whole)
+    subst (λ (x : Line). Says form x line) (line_is (lines.Tick p.0) l p.2)
+    (omega (arith, n.1), subst (λ (w : List ℕ). IsTwo Tick w line) n.0 whole)
 two_said form _ word line l whole e = absurd cc
 
 not_true : (b : Bool) → not b ≡ false → b ≡ true
@@ -158,9 +178,11 @@ and_so : (a b : Bool) → (a && b) ≡ false → a ≡ true → b ≡ false
 and_so true b e f = e
 and_so false b e f = absurd cc
 
-three_said : (form : Form) (verb : Verb) (word last line : List ℕ) (l : Line) → Knows form verb → is_word last ≡ true → IsThree verb word last line → three_words form verb word last ≡ Ok l → Says form l line
+three_said : (form : Form) (verb : Verb) (word last line : List ℕ) (l : Line) → Knows form verb → is_word last ≡ true
+    → IsThree verb word last line → three_words form verb word last ≡ Ok l → Says form l line
 three_said form Up word last line l knows w whole e =
-    let u = unless_ok (is_sim form || (is_member word || not (bytes_eq last (codes "noarp")))) Word (session_in word >>= λ name. done (lines.Up name true)) l e in
+    let u = unless_ok (is_sim form || (is_member word || not (bytes_eq last (codes "noarp")))) Word
+    (session_in word >>= λ name. done (lines.Up name true)) l e in
     let n = or_neither (is_sim form) (is_member word || not (bytes_eq last (codes "noarp"))) u.0 in
     let m = or_neither (is_member word) (not (bytes_eq last (codes "noarp"))) n.1 in
     let p = bind_ok (session_in word) (λ name. done (lines.Up name true)) l u.1 in
@@ -170,12 +192,17 @@ three_said form Up word last line l knows w whole e =
     subst (λ (x : Line). Says form x line) (line_is (lines.Up p.0 true) l p.2)
     (ap is_name (sym s.1) ∙ named, n.0, whole ∙ (λ i. spaced (verb_text Up ∷ s.1 i ∷ noarp i ∷ [])))
 three_said form From word last line l knows w whole e =
-    let u = unless_ok (is_sim form && is_name word) Word (session_in word >>= λ name. hex_in last >>= λ bytes. done (lines.From name bytes)) l e in
+    let u = unless_ok (is_sim form && is_name word) Word
+    (session_in word >>= λ name. hex_in last >>= λ bytes. done (lines.From name bytes)) l e in
     let p = bind_ok (session_in word) (λ name. hex_in last >>= λ bytes. done (lines.From name bytes)) l u.1 in
     let q = bind_ok (hex_in last) (λ bytes. done (lines.From p.0 bytes)) l p.2 in
     let s = named_ok (is_session word) word p.0 p.1 in
-    subst (λ (x : Line). Says form x line) (line_is (lines.From p.0 q.0) l q.2)
-    (ap is_session (sym s.1) ∙ s.0, λ sim. ap is_name (sym s.1) ∙ and_so (is_sim form) (is_name word) u.0 sim, (last, is_hex last q.0 q.1, whole ∙ (λ i. spaced (verb_text From ∷ s.1 i ∷ last ∷ []))))
+    subst (λ (x : Line). Says form x line) (line_is (lines.From p.0 q.0) l q.2) (
+      ap is_session (sym s.1) ∙ s.0,
+      λ sim. ap is_name (sym s.1)
+          ∙ and_so (is_sim form) (is_name word) u.0 sim,
+      (last, is_hex last q.0 q.1, whole ∙ (λ i. spaced (verb_text From ∷ s.1 i ∷ last ∷ []))),
+    )
 three_said form Expr word last line l knows w whole e =
     let u = unless_ok (nat_lt 1024 (length last)) Word (switch_in word >>= λ name. done (lines.Expr name last)) l e in
     let p = bind_ok (switch_in word) (λ name. done (lines.Expr name last)) l u.1 in
@@ -190,21 +217,29 @@ three_said form Ask word last line l knows w whole e =
 three_said form Packet word last line l knows w whole e =
     let p = bind_ok (place_in word) (λ at. packet_in last >>= λ bytes. done (lines.Packet at.0 at.1 bytes)) l e in
     let q = bind_ok (packet_in last) (λ bytes. done (lines.Packet p.0.0 p.0.1 bytes)) l p.2 in
-    let r = bind_ok (hex_in last) (λ bytes. cond (nat_le 14 (length bytes) && nat_le (length bytes) 65513) (Ok bytes) (Err Hex)) q.0 q.1 in
+    let r =
+    bind_ok (hex_in last)
+    (λ bytes. cond (nat_le 14 (length bytes) && nat_le (length bytes) 65513) (Ok bytes) (Err Hex)) q.0 q.1 in
     let t = when_ok (nat_le 14 (length r.0) && nat_le (length r.0) 65513) Hex (Ok r.0) q.0 r.2 in
     let is : r.0 ≡ q.0 = text_ok r.0 q.0 t.1 in
     let fits = both (nat_le 14 (length r.0)) (nat_le (length r.0) 65513) t.0 in
     let size = ap (λ (x : List ℕ). length x) is in
-    subst (λ (x : Line). Says form x line) (line_is (lines.Packet p.0.0 p.0.1 q.0) l q.2)
-    (knows, omega (arith, leb-true _ _ fits.0, size), omega (arith, leb-true _ _ fits.1, size), (word, last, is_place word p.0 p.1, subst (IsHex last) is (is_hex last r.0 r.1), whole))
+    subst (λ (x : Line). Says form x line) (line_is (lines.Packet p.0.0 p.0.1 q.0) l q.2) (
+      knows,
+      omega (arith, leb-true _ _ fits.0, size),
+      omega (arith, leb-true _ _ fits.1, size),
+      (word, last, is_place word p.0 p.1, subst (IsHex last) is (is_hex last r.0 r.1), whole),
+    )
 three_said form _ word last line l knows w whole e = absurd cc
 
 -- the pieces make the line
-spaced_onto : (c : ℕ) (piece : List ℕ) (pieces : List (List ℕ)) → spaced (onto_first c (piece ∷ pieces)) ≡ c ∷ spaced (piece ∷ pieces)
+spaced_onto : (c : ℕ) (piece : List ℕ) (pieces : List (List ℕ))
+    → spaced (onto_first c (piece ∷ pieces)) ≡ c ∷ spaced (piece ∷ pieces)
 spaced_onto c piece [] = refl
 spaced_onto c piece (next ∷ pieces) = refl
 
-spaced_cut : (c : ℕ) (cs : List ℕ) (pieces : List (List ℕ)) → 0 < length pieces → spaced pieces ≡ cs → spaced (cond (c == 32) ([] ∷ pieces) (onto_first c pieces)) ≡ c ∷ cs
+spaced_cut : (c : ℕ) (cs : List ℕ) (pieces : List (List ℕ)) → 0 < length pieces → spaced pieces ≡ cs
+    → spaced (cond (c == 32) ([] ∷ pieces) (onto_first c pieces)) ≡ c ∷ cs
 spaced_cut c cs [] some is = absurd (omega (arith, some))
 spaced_cut c cs (piece ∷ pieces) some is = by (c == 32) refl
   where
@@ -216,22 +251,27 @@ pub spaced_words : (line : List ℕ) → spaced (words line) ≡ line
 spaced_words [] = refl
 spaced_words (c ∷ cs) = spaced_cut c cs (words cs) (some_words cs) (spaced_words cs)
 
-count_said : (form : Form) (line : List ℕ) (l : Line) (pieces : List (List ℕ)) → list_all is_word pieces ≡ true → spaced pieces ≡ line → by_count form pieces ≡ Ok l → Says form l line
+count_said : (form : Form) (line : List ℕ) (l : Line) (pieces : List (List ℕ)) → list_all is_word pieces ≡ true
+    → spaced pieces ≡ line → by_count form pieces ≡ Ok l → Says form l line
 count_said form line l [] known is e = absurd cc
 count_said form line l (a ∷ []) known is e = absurd cc
 count_said form line l (a ∷ b ∷ []) known is e = by (verb_in form a) refl e
   where
     by : (o : Option Verb) → verb_in form a ≡ o → two_of o b ≡ Ok l → Says form l line
     by None v e = absurd cc
-    by (Some verb) v e = two_said form verb b line l (sym is ∙ ap (λ (w : List ℕ). spaced (w ∷ b ∷ [])) (is_verb form a verb v).text) e
+    by (Some verb) v e = two_said form verb b line l (sym is
+        ∙ ap (λ (w : List ℕ). spaced (w ∷ b ∷ [])) (is_verb form a verb v).text) e
 count_said form line l (a ∷ b ∷ c ∷ []) known is e = by (verb_in form a) refl e
   where
     last : is_word c ≡ true
-    last = (both (is_word c) true (both (is_word b) (is_word c && true) (both (is_word a) (is_word b && (is_word c && true)) known).1).1).0
+    last =
+        (both (is_word c) true
+        (both (is_word b) (is_word c && true) (both (is_word a) (is_word b && (is_word c && true)) known).1).1).0
 
     by : (o : Option Verb) → verb_in form a ≡ o → three_of form o b c ≡ Ok l → Says form l line
     by None v e = absurd cc
-    by (Some verb) v e = three_said form verb b c line l (is_verb form a verb v).knows last (sym is ∙ ap (λ (w : List ℕ). spaced (w ∷ b ∷ c ∷ [])) (is_verb form a verb v).text) e
+    by (Some verb) v e = three_said form verb b c line l (is_verb form a verb v).knows last
+        (sym is ∙ ap (λ (w : List ℕ). spaced (w ∷ b ∷ c ∷ [])) (is_verb form a verb v).text) e
 count_said form line l (a ∷ b ∷ c ∷ d ∷ rest) known is e = absurd cc
 
 blank_said : (form : Form) (line : List ℕ) → is_blank line ≡ true → Says form lines.Blank line

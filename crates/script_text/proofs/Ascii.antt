@@ -19,4 +19,5 @@ is_ascii_text (x ∷ xs) e zero = ltb-true x 128 (both (nat_lt x 128) (list_all 
 is_ascii_text (x ∷ xs) e (suc i) = is_ascii_text xs (both (nat_lt x 128) (list_all is_ascii xs) e).1 i
 
 pub hex_ascii : (bytes : List ℕ) → list_all is_ascii (encode_lower bytes) ≡ true
-hex_ascii bytes = all_ascii (encode_lower bytes) (IsAscii-encode_with lower_digits bytes (is_ascii_text lower_digits refl))
+hex_ascii bytes = all_ascii (encode_lower bytes)
+    (IsAscii-encode_with lower_digits bytes (is_ascii_text lower_digits refl))

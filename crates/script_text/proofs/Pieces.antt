@@ -1,5 +1,7 @@
 -- The pieces between the blanks of a line.
-use Rattle.std.proofs.Common.{◌≡◌, ℕ, zero, suc, ◌+◌, ◌-◌, ◌<◌, ◌≤◌, Bool, true, false, cond, eqb, List, [], ◌∷◌, ◌++◌, length, get_or, take, drop, Option, Some, None, Result, Ok, Err, All, refl, sym, ap, subst, ◌∙◌, inl, inr, drop-drop, arith}
+use Rattle.std.proofs.Common.{◌≡◌, ℕ, zero, suc, ◌+◌, ◌-◌, ◌<◌, ◌≤◌, Bool, true, false, cond, eqb, List, [], ◌∷◌, ◌++◌}
+use Rattle.std.proofs.Common.{length, get_or, take, drop, Option, Some, None, Result, Ok, Err, All, refl, sym, ap}
+use Rattle.std.proofs.Common.{subst, ◌∙◌, inl, inr, drop-drop, arith}
 use Rattle.std.specs.Prelude.{◌&&◌, ◌==◌, ◌⊎◌, not, nat_le, nat_lt, position}
 use Rattle.std.specs.List.{list_all, prefix_len}
 use Rattle.std.proofs.lemmas.Bool.{leb-true, ltb-false, ltb-true, ne_eqb}
@@ -27,7 +29,8 @@ record IsCut (line : List ℕ) : Type 0 where
 cut_at_blank : (c : ℕ) (cs : List ℕ) → (c == 32) ≡ true → IsCut (c ∷ cs)
 cut_at_blank c cs blank =
     let none : before (c ∷ cs) ≡ 0 = ap (λ (t : Bool). cond (not t) (1 + before cs) 0) blank in
-    let pieces : words (c ∷ cs) ≡ [] ∷ words cs = ap (λ (t : Bool). cond t ([] ∷ words cs) (onto_first c (words cs))) blank in
+    let pieces : words (c ∷ cs) ≡ [] ∷ words cs =
+    ap (λ (t : Bool). cond t ([] ∷ words cs) (onto_first c (words cs))) blank in
     record {
       whole = λ e. absurd (omega (arith, e, none));
       cut = λ lt. pieces ∙ ap (λ (n : ℕ). take n (c ∷ cs) ∷ words (drop (n + 1) (c ∷ cs))) (sym none);
@@ -35,12 +38,16 @@ cut_at_blank c cs blank =
 
 cut_behind : (c : ℕ) (cs : List ℕ) → (c == 32) ≡ false → IsCut cs → IsCut (c ∷ cs)
 cut_behind c cs other rest =
-    let one : before (c ∷ cs) ≡ suc (before cs) = ap (λ (t : Bool). cond (not t) (1 + before cs) 0) other ∙ omega arith in
+    let one : before (c ∷ cs) ≡ suc (before cs) = ap (λ (t : Bool). cond (not t) (1 + before cs) 0) other
+    ∙ omega arith in
     let step : suc (before cs + 1) ≡ suc (before cs) + 1 = omega arith in
-    let pieces : words (c ∷ cs) ≡ onto_first c (words cs) = ap (λ (t : Bool). cond t ([] ∷ words cs) (onto_first c (words cs))) other in
+    let pieces : words (c ∷ cs) ≡ onto_first c (words cs) =
+    ap (λ (t : Bool). cond t ([] ∷ words cs) (onto_first c (words cs))) other in
     record {
       whole = λ e. pieces ∙ ap (onto_first c) (rest.whole (omega (arith, e, one)));
-      cut = λ lt. pieces ∙ (ap (onto_first c) (rest.cut (omega (arith, lt, one))) ∙ (ap (λ (n : ℕ). (c ∷ take (before cs) cs) ∷ words (drop n (c ∷ cs))) step ∙ ap (λ (n : ℕ). take n (c ∷ cs) ∷ words (drop (n + 1) (c ∷ cs))) (sym one)));
+      cut = λ lt. pieces ∙ (ap (onto_first c) (rest.cut (omega (arith, lt, one)))
+          ∙ (ap (λ (n : ℕ). (c ∷ take (before cs) cs) ∷ words (drop n (c ∷ cs))) step
+          ∙ ap (λ (n : ℕ). take n (c ∷ cs) ∷ words (drop (n + 1) (c ∷ cs))) (sym one)));
     }
 
 is_cut : (line : List ℕ) → IsCut line
@@ -54,7 +61,8 @@ is_cut (c ∷ cs) = by (c == 32) refl (is_cut cs)
 -- a line without a blank is one piece
 pub one_piece : (line : List ℕ) → position (λ c. c == 32) line ≡ None → words line ≡ line ∷ []
 one_piece line none =
-    let over : length line ≤ before line = ltb-false _ _ (no_place (nat_lt (before line) (length line)) (before line) none) in
+    let over : length line ≤ before line =
+    ltb-false _ _ (no_place (nat_lt (before line) (length line)) (before line) none) in
     (is_cut line).whole (omega (arith, over, prefix_len-le-length (λ (c : ℕ). not (c == 32)) line))
   where
     no_place : (b : Bool) (n : ℕ) → cond b (Some n) None ≡ None → b ≡ false
@@ -62,7 +70,8 @@ one_piece line none =
     no_place false n e = refl
 
 -- the first piece ends at the first blank
-pub first_piece : (line : List ℕ) (at : ℕ) → position (λ c. c == 32) line ≡ Some at → words line ≡ take at line ∷ words (drop (at + 1) line)
+pub first_piece : (line : List ℕ) (at : ℕ) → position (λ c. c == 32) line ≡ Some at
+    → words line ≡ take at line ∷ words (drop (at + 1) line)
 first_piece line at found =
     let p = cond_some (nat_lt (before line) (length line)) (before line) at found in
     (is_cut line).cut (ltb-true _ _ p.0) ∙ ap (λ (n : ℕ). take n line ∷ words (drop (n + 1) line)) p.1
@@ -75,7 +84,8 @@ pub visible_alone : (word : List ℕ) → list_all is_visible word ≡ true → 
 visible_alone [] v = refl
 visible_alone (c ∷ cs) v =
     let p = both (is_visible c) (list_all is_visible cs) v in
-    ap (λ (t : Bool). cond t ([] ∷ words cs) (onto_first c (words cs))) (visible_other c p.0) ∙ ap (onto_first c) (visible_alone cs p.1)
+    ap (λ (t : Bool). cond t ([] ∷ words cs) (onto_first c (words cs))) (visible_other c p.0)
+    ∙ ap (onto_first c) (visible_alone cs p.1)
 
 pub word_alone : (word : List ℕ) → is_word word ≡ true → words word ≡ word ∷ []
 word_alone word w = visible_alone word (both (nat_lt 0 (length word)) (list_all is_visible word) w).1
@@ -108,15 +118,20 @@ second_not : (a b : Bool) → b ≡ false → (a && b) ≡ false
 second_not true b e = e
 second_not false b e = refl
 
-pub first_bad : (form : Form) (first : List ℕ) (rest : List (List ℕ)) → is_word first ≡ false → fault ≡ said form (first ∷ rest)
+pub first_bad : (form : Form) (first : List ℕ) (rest : List (List ℕ)) → is_word first ≡ false
+    → fault ≡ said form (first ∷ rest)
 first_bad form first rest never = said_not form (first ∷ rest) (first_not (is_word first) (list_all is_word rest) never)
 
-pub second_bad : (form : Form) (first second : List ℕ) (rest : List (List ℕ)) → is_word second ≡ false → fault ≡ said form (first ∷ second ∷ rest)
+pub second_bad : (form : Form) (first second : List ℕ) (rest : List (List ℕ)) → is_word second ≡ false
+    → fault ≡ said form (first ∷ second ∷ rest)
 second_bad form first second rest never =
-    said_not form (first ∷ second ∷ rest) (second_not (is_word first) (list_all is_word (second ∷ rest)) (first_not (is_word second) (list_all is_word rest) never))
+    said_not form (first ∷ second ∷ rest)
+    (second_not (is_word first) (list_all is_word (second ∷ rest))
+    (first_not (is_word second) (list_all is_word rest) never))
 
 -- four pieces or more
-four_bad : (form : Form) (first second third : List ℕ) (rest : List (List ℕ)) → 0 < length rest → fault ≡ said form (first ∷ second ∷ third ∷ rest)
+four_bad : (form : Form) (first second third : List ℕ) (rest : List (List ℕ)) → 0 < length rest
+    → fault ≡ said form (first ∷ second ∷ third ∷ rest)
 four_bad form first second third [] some = absurd (omega (arith, some))
 four_bad form first second third (fourth ∷ rest) some = by (list_all is_word (first ∷ second ∷ third ∷ fourth ∷ rest))
   where
@@ -133,22 +148,28 @@ some_words (c ∷ cs) = by (c == 32) (words cs)
     by false [] = omega arith
     by false (piece ∷ pieces) = omega arith
 
-pub third_bad : (form : Form) (first second third : List ℕ) → is_word third ≡ false → fault ≡ said form (first ∷ second ∷ words third)
+pub third_bad : (form : Form) (first second third : List ℕ) → is_word third ≡ false
+    → fault ≡ said form (first ∷ second ∷ words third)
 third_bad form first second third never = by (position (λ c. c == 32) third) refl
   where
     by : (o : Option ℕ) → position (λ c. c == 32) third ≡ o → fault ≡ said form (first ∷ second ∷ words third)
     by None none =
         subst (λ (pieces : List (List ℕ)). fault ≡ said form (first ∷ second ∷ pieces)) (sym (one_piece third none))
-        (said_not form (first ∷ second ∷ third ∷ []) (second_not (is_word first) (list_all is_word (second ∷ third ∷ [])) (second_not (is_word second) (list_all is_word (third ∷ [])) (first_not (is_word third) true never))))
+        (said_not form (first ∷ second ∷ third ∷ [])
+        (second_not (is_word first) (list_all is_word (second ∷ third ∷ []))
+        (second_not (is_word second) (list_all is_word (third ∷ [])) (first_not (is_word third) true never))))
     by (Some at) found =
-        subst (λ (pieces : List (List ℕ)). fault ≡ said form (first ∷ second ∷ pieces)) (sym (first_piece third at found))
+        subst (λ (pieces : List (List ℕ)). fault ≡ said form (first ∷ second ∷ pieces))
+        (sym (first_piece third at found))
         (four_bad form first second (take at third) (words (drop (at + 1) third)) (some_words (drop (at + 1) third)))
 
-pub said_two : (form : Form) (first second : List ℕ) → is_word first ≡ true → is_word second ≡ true → two_of (verb_in form first) second ≡ said form (first ∷ second ∷ [])
+pub said_two : (form : Form) (first second : List ℕ) → is_word first ≡ true → is_word second ≡ true
+    → two_of (verb_in form first) second ≡ said form (first ∷ second ∷ [])
 said_two form first second f s =
     λ i. cond (sym f i && (sym s i && true)) (two_of (verb_in form first) second) fault
 
-pub said_three : (form : Form) (first second third : List ℕ) → is_word first ≡ true → is_word second ≡ true → is_word third ≡ true → three_of form (verb_in form first) second third ≡ said form (first ∷ second ∷ words third)
+pub said_three : (form : Form) (first second third : List ℕ) → is_word first ≡ true → is_word second ≡ true
+    → is_word third ≡ true → three_of form (verb_in form first) second third ≡ said form (first ∷ second ∷ words third)
 said_three form first second third f s t =
     (λ i. cond (sym f i && (sym s i && (sym t i && true))) (three_of form (verb_in form first) second third) fault)
     ∙ ap (λ (pieces : List (List ℕ)). said form (first ∷ second ∷ pieces)) (sym (word_alone third t))

@@ -1,5 +1,6 @@
 -- The place of a byte among others.
-use Rattle.std.proofs.Common.{◌≡◌, ℕ, zero, suc, ◌+◌, ◌<◌, ◌≤◌, Bool, true, false, cond, List, [], ◌∷◌, ◌++◌, length, get_or, take, drop, Option, Some, None, refl, sym, ap, subst, ◌∙◌, inl, inr, arith}
+use Rattle.std.proofs.Common.{◌≡◌, ℕ, zero, suc, ◌+◌, ◌<◌, ◌≤◌, Bool, true, false, cond, List, [], ◌∷◌, ◌++◌, length}
+use Rattle.std.proofs.Common.{get_or, take, drop, Option, Some, None, refl, sym, ap, subst, ◌∙◌, inl, inr, arith}
 use Rattle.std.specs.Prelude.{◌&&◌, ◌||◌, ◌==◌, ◌⊎◌, not, nat_lt, position}
 use Rattle.std.specs.List.{list_all, prefix_len}
 use Rattle.std.proofs.lemmas.Bool.{eq-eqb, eqb-true, le-ltb, lt-ltb, ltb-true}
@@ -21,12 +22,17 @@ not_false true e = refl
 not_false false e = absurd cc
 
 -- what stands before and behind a byte that was found
-pub parted : (c : ℕ) (xs : List ℕ) (at : ℕ) → position (λ x. x == c) xs ≡ Some at → xs ≡ take at xs ++ (c ∷ drop (at + 1) xs)
+pub parted : (c : ℕ) (xs : List ℕ) (at : ℕ) → position (λ x. x == c) xs ≡ Some at
+    → xs ≡ take at xs ++ (c ∷ drop (at + 1) xs)
 parted c xs at found =
     let p = cond_some (nat_lt (before c xs) (length xs)) (before c xs) at found in
     let lt : before c xs < length xs = ltb-true _ _ p.0 in
-    let is : get_or xs (before c xs) 0 ≡ c = eqb-true _ _ (not_false (get_or xs (before c xs) 0 == c) (prefix_len_stops (λ (x : ℕ). not (x == c)) xs 0 lt)) in
-    let whole : xs ≡ take (before c xs) xs ++ (get_or xs (before c xs) 0 ∷ drop (before c xs + 1) xs) = sym (take-append-drop (before c xs) xs) ∙ ap (λ (ys : List ℕ). take (before c xs) xs ++ ys) (drop_more xs (before c xs) 0 lt) in
+    let is : get_or xs (before c xs) 0 ≡ c =
+    eqb-true _ _ (not_false (get_or xs (before c xs) 0 == c) (prefix_len_stops (λ (x : ℕ). not (x == c)) xs 0 lt))
+    in
+    let whole : xs ≡ take (before c xs) xs ++ (get_or xs (before c xs) 0 ∷ drop (before c xs + 1) xs) =
+    sym (take-append-drop (before c xs) xs)
+    ∙ ap (λ (ys : List ℕ). take (before c xs) xs ++ ys) (drop_more xs (before c xs) 0 lt) in
     whole ∙ (λ i. take (p.1 i) xs ++ (is i ∷ drop (p.1 i + 1) xs))
 
 -- the first c stands behind bytes that lack it
@@ -39,7 +45,8 @@ before_is c (x ∷ a) b lack =
 pub found_behind : (c : ℕ) (a b : List ℕ) → lacks c a ≡ true → position (λ x. x == c) (a ++ (c ∷ b)) ≡ Some (length a)
 found_behind c a b lack =
     let n = before_is c a b lack in
-    let within : nat_lt (before c (a ++ (c ∷ b))) (length (a ++ (c ∷ b))) ≡ true = lt-ltb _ _ (omega (arith, n, length-append a (c ∷ b))) in
+    let within : nat_lt (before c (a ++ (c ∷ b))) (length (a ++ (c ∷ b))) ≡ true =
+    lt-ltb _ _ (omega (arith, n, length-append a (c ∷ b))) in
     (λ i. cond (within i) (Some (before c (a ++ (c ∷ b)))) None) ∙ ap (λ (k : ℕ). Some k) n
 
 -- bytes that lack c have no place of it
@@ -54,7 +61,8 @@ not_found c xs lack =
     ap (λ (t : Bool). cond t (Some (before c xs)) None) (le-ltb _ _ (omega (arith, before_all c xs lack)))
 
 -- a test that follows from another, byte by byte
-pub weaker : (p q : ℕ → Bool) → ((c : ℕ) → p c ≡ true → q c ≡ true) → (xs : List ℕ) → list_all p xs ≡ true → list_all q xs ≡ true
+pub weaker : (p q : ℕ → Bool) → ((c : ℕ) → p c ≡ true → q c ≡ true) → (xs : List ℕ) → list_all p xs ≡ true
+    → list_all q xs ≡ true
 weaker p q follows [] all = refl
 weaker p q follows (x ∷ xs) all =
     let h = both (p x) (list_all p xs) all in

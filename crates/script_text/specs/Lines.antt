@@ -30,7 +30,10 @@ outcome_text (Some kind) = codes " refused=" ++ kind
 
 abbrev pub audit_text : Audit → List ℕ
 audit_text (Deny controller vsw xid rule detail) =
-    codes "deny ctl=" ++ (controller ++ (codes " vsw=" ++ (vsw ++ (codes " xid=" ++ (decimal xid ++ (codes " rule=" ++ (rule ++ (codes " " ++ detail))))))))
+    codes "deny ctl="
+    ++ (controller
+    ++ (codes " vsw="
+    ++ (vsw ++ (codes " xid=" ++ (decimal xid ++ (codes " rule=" ++ (rule ++ (codes " " ++ detail))))))))
 audit_text (Down name cause) = codes "down " ++ (name ++ (codes " why=" ++ cause_text cause))
 audit_text (Slow name) = codes "slow " ++ name
 audit_text (NoArp name) = codes "note " ++ (name ++ codes " noarp")

@@ -12,4 +12,5 @@ value_of text = value_after 0 text
 
 -- the number whose decimal digits the text is, where it is at most the limit
 unfoldable pub number_in : ℕ → List ℕ → Option ℕ
-number_in most text = if bytes_eq (decimal (value_of text)) text && nat_le (value_of text) most then Some (value_of text) else None
+number_in most text = if bytes_eq (decimal (value_of text)) text && nat_le (value_of text) most
+    then Some (value_of text) else None

@@ -1,5 +1,7 @@
 -- Reading a line: what it says, or its first fault.
-use Rattle.std.specs.Prelude.{◌≡◌, ℕ, ◌+◌, ◌==◌, ◌&&◌, ◌||◌, Bool, true, false, not, List, [], ◌∷◌, Option, Some, None, Result, Ok, Err, codes, length, nat_le, nat_lt, position, slice_index, take, drop, if◌then◌else◌}
+use Rattle.std.specs.Prelude.{◌≡◌, ℕ, ◌+◌, ◌==◌, ◌&&◌, ◌||◌, Bool, true, false, not, List, [], ◌∷◌, Option, Some, None}
+use Rattle.std.specs.Prelude.{Result, Ok, Err, codes, length, nat_le, nat_lt, position, slice_index, take, drop}
+use Rattle.std.specs.Prelude.{if◌then◌else◌}
 use Rattle.std.specs.List.{list_all}
 use Rattle.std.specs.Str.{bytes_eq}
 use Rattle.hex.specs.Hex.{decode_of}
@@ -81,9 +83,10 @@ two_words _ word = Err Word
 
 -- a line of three words, behind its first
 abbrev pub three_words : Form → Verb → List ℕ → List ℕ → Result Line LineFault
-three_words form Up word last = if is_sim form || (is_member word || not (bytes_eq last (codes "noarp"))) then Err Word else do
-  name ← session_in word
-  Ok (lines.Up name true)
+three_words form Up word last = if is_sim form || (is_member word || not (bytes_eq last (codes "noarp"))) then Err Word
+    else do
+      name ← session_in word
+      Ok (lines.Up name true)
 three_words form From word last = if is_sim form && is_name word then Err Word else do
   name ← session_in word
   bytes ← hex_in last

@@ -2,7 +2,8 @@
 ghost use Rattle.std.specs.Prelude.{◌≡◌, ◌∷◌, []};
 ghost use Rattle.std.specs.List.{list_all};
 ghost use Rattle.cv_io.specs.Text.{IsAsciiText};
-ghost use Rattle.script_text.specs.Reading.{Gives, hex_in, is_blank, line_in, place_in, said, session_in, switch_in, three_words, two_words};
+ghost use Rattle.script_text.specs.Reading.{Gives, hex_in, is_blank, line_in, place_in, said, session_in, switch_in};
+ghost use Rattle.script_text.specs.Reading.{three_words, two_words};
 ghost use Rattle.script_text.specs.Words.{is_visible, is_word, words};
 
 use crate::fault::LineFault;

@@ -1,5 +1,6 @@
 -- The lines of the audit that a history takes are those that the audit's work takes.
-use Rattle.std.proofs.Common.{◌≡◌, ◌||◌, ℕ, Bool, true, false, List, [], ◌∷◌, ◌++◌, All, IsTrue, map, if◌then◌else◌, refl, sym, ap, ◌∙◌, subst, append_assoc}
+use Rattle.std.proofs.Common.{◌≡◌, ◌||◌, ℕ, Bool, true, false, List, [], ◌∷◌, ◌++◌, All, IsTrue, map, if◌then◌else◌}
+use Rattle.std.proofs.Common.{refl, sym, ap, ◌∙◌, subst, append_assoc}
 use Rattle.std.proofs.lemmas.List.Elements.{All-cons, All-head, All-nil, All-tail}
 use Rattle.events.specs.declared.event.Event.{Event}
 use Rattle.events.specs.declared.event.Reply.{Reply}
@@ -22,7 +23,8 @@ module _ (P : Post → Type 0) (n : List ℕ) (x : Entry Event Reply) (xs : List
   of-one : (b : Bool) → same_number x.by n ≡ b → All P (map post_of (if b then (x ∷ calls_by n xs) else calls_by n xs))
       → (All P (posts_by n xs) → All Holds xs) → All Holds (x ∷ xs)
   of-one true e all rest =
-      All-cons Holds x xs (λ _. All-head P (post_of x) (posts_by n xs) all) (rest (All-tail P (post_of x) (posts_by n xs) all))
+      All-cons Holds x xs (λ _. All-head P (post_of x) (posts_by n xs) all)
+      (rest (All-tail P (post_of x) (posts_by n xs) all))
   of-one false e all rest = All-cons Holds x xs (λ t. absurd (cc)) (rest all)
 
 -- what holds of the calls of a number holds of each entry under it
@@ -42,13 +44,15 @@ audits-line x is =
 
 taken-one : (n : List ℕ) (x : Entry Event Reply) (xs : List (Entry Event Reply)) → IsAuditsAlone n x
     → lines_taken xs ≡ taken_in (posts_by n xs) → (b : Bool) → same_number x.by n ≡ b
-    → line_of x.event x.reply ++ lines_taken xs ≡ taken_in (map post_of (if b then (x ∷ calls_by n xs) else calls_by n xs))
+    → line_of x.event x.reply ++ lines_taken xs
+    ≡ taken_in (map post_of (if b then (x ∷ calls_by n xs) else calls_by n xs))
 taken-one n x xs is rest true e =
     ap (λ (l : List (List ℕ)). l ++ lines_taken xs) (audits-line x (is.0 e))
     ∙ ap (λ (l : List (List ℕ)). message_of x.event x.reply ++ l) rest
 taken-one n x xs is rest false e = ap (λ (l : List (List ℕ)). l ++ lines_taken xs) (is.1 e) ∙ rest
 
-pub taken-by : (n : List ℕ) (log : List (Entry Event Reply)) → All (IsAuditsAlone n) log → lines_taken log ≡ taken_in (posts_by n log)
+pub taken-by : (n : List ℕ) (log : List (Entry Event Reply)) → All (IsAuditsAlone n) log
+    → lines_taken log ≡ taken_in (posts_by n log)
 taken-by n [] all = refl
 taken-by n (x ∷ xs) all =
     taken-one n x xs (All-head (IsAuditsAlone n) x xs all) (taken-by n xs (All-tail (IsAuditsAlone n) x xs all))

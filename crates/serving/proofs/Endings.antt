@@ -1,5 +1,6 @@
 -- Lines of the audit that are taken and written at the end of a run, one by one.
-use Rattle.std.proofs.Common.{◌≡◌, ◌+◌, ℕ, true, false, List, [], ◌∷◌, ◌++◌, Option, All, length, take, refl, sym, ap, subst, ◌∙◌, append_assoc}
+use Rattle.std.proofs.Common.{◌≡◌, ◌+◌, ℕ, true, false, List, [], ◌∷◌, ◌++◌, Option, All, length, take, refl, sym, ap}
+use Rattle.std.proofs.Common.{subst, ◌∙◌, append_assoc}
 use Rattle.std.proofs.Math.Seq.{take-append-add}
 use Rattle.std.proofs.lemmas.List.{append-nil}
 use Rattle.std.proofs.lemmas.List.Concat.{flat_map-append}
@@ -35,10 +36,17 @@ lines-more rest line =
 
 module _ {M S : Type 0} (g : Ghosts M Event Reply S) where
   pub wrote-none : (s : S) (a : Option (List ℕ)) → WroteRest g s s a a
-  wrote-none s a = record { rest = []; takings = All-nil TakesLine; legal = record {}; means = refl; wrote = appends-none a }
+  wrote-none s a = record {
+    rest = [];
+    takings = All-nil TakesLine;
+    legal = record {};
+    means = refl;
+    wrote = appends-none a;
+  }
 
   module _ (s t u : S) (a b c : Option (List ℕ)) (h : WroteRest g s t a b) (line : List ℕ)
-      (busy : g.idle t (Take audit) ≡ false) (found : Taken line ≡ g.reply t (Take audit)) (next : u ≡ g.next t (Take audit)) where
+      (busy : g.idle t (Take audit) ≡ false) (found : Taken line ≡ g.reply t (Take audit))
+      (next : u ≡ g.next t (Take audit)) where
     legal : IsLegal g s (h.rest ++ taking line ∷ [])
     legal =
         legal-snoc g s h.rest [] (Take audit) (Taken line) h.legal
@@ -69,7 +77,8 @@ module _ {M S : Type 0} (g : Ghosts M Event Reply S) where
       takings = takings;
       legal = legal;
       count = length (lines (lines_taken h.rest)) + w.0;
-      wrote = subst (λ z. Appends a c (take (length (lines (lines_taken h.rest)) + w.0) z)) (sym (lines-more h.rest line))
+      wrote = subst (λ z. Appends a c (take (length (lines (lines_taken h.rest)) + w.0) z))
+          (sym (lines-more h.rest line))
           (subst (Appends a c) (sym (take-append-add (lines (lines_taken h.rest)) (line ++ 10 ∷ []) w.0))
           (appends-more a b c (lines (lines_taken h.rest)) (take w.0 (line ++ 10 ∷ [])) h.wrote w.1));
     }

@@ -1,5 +1,6 @@
 -- The works of a run stand for its endpoints.
-use Rattle.std.proofs.Common.{◌≡◌, ◌⊎◌, ◌||◌, ℕ, Bool, true, false, List, [], ◌∷◌, ◌++◌, Option, All, IsTrue, map, refl, sym, ap, ◌∙◌, subst, inl, inr}
+use Rattle.std.proofs.Common.{◌≡◌, ◌⊎◌, ◌||◌, ℕ, Bool, true, false, List, [], ◌∷◌, ◌++◌, Option, All, IsTrue, map, refl}
+use Rattle.std.proofs.Common.{sym, ap, ◌∙◌, subst, inl, inr}
 use Rattle.std.proofs.lemmas.List.Elements.{All-cons, All-head, All-nil, All-tail}
 use Rattle.cv_io.specs.Connections.{Connection}
 use Rattle.cv_io.specs.declared.links.Endpoint.{Endpoint}
@@ -43,14 +44,17 @@ either_true false b e = inr e
 both : {X : Type 0} (P Q R : X → Type 0) → ((x : X) → P x → Q x → R x) → (xs : List X) → All P xs → All Q xs → All R xs
 both P Q R f [] p q = All-nil R
 both P Q R f (x ∷ xs) p q =
-    All-cons R x xs (f x (All-head P x xs p) (All-head Q x xs q)) (both P Q R f xs (All-tail P x xs p) (All-tail Q x xs q))
+    All-cons R x xs (f x (All-head P x xs p) (All-head Q x xs q))
+    (both P Q R f xs (All-tail P x xs p) (All-tail Q x xs q))
 
 every : {X : Type 0} (P Q : X → Type 0) → ((x : X) → P x → Q x) → (xs : List X) → All P xs → All Q xs
 every P Q f [] p = All-nil Q
 every P Q f (x ∷ xs) p = All-cons Q x xs (f x (All-head P x xs p)) (every P Q f xs (All-tail P x xs p))
 
-module _ {M S D : Type 0} (g : Ghosts M Event Reply S) (start : S) (told : Endpoint → Option (List Connection)) (reliable : Endpoint → Bool)
-    (left : D → Option (List Connection)) (never_fails : D → Bool) (lock : LockOf S) (log : List (Entry Event Reply)) where
+module _ {M S D : Type 0} (g : Ghosts M Event Reply S) (start : S) (told : Endpoint
+    → Option (List Connection)) (reliable : Endpoint → Bool)
+    (left : D → Option (List Connection)) (never_fails : D
+    → Bool) (lock : LockOf S) (log : List (Entry Event Reply)) where
   abbrev Seated : Type 0
   Seated = SeatOf Event Reply S
 
@@ -79,7 +83,8 @@ module _ {M S D : Type 0} (g : Ghosts M Event Reply S) (start : S) (told : Endpo
           subst (λ (links : Option (List Connection)).
           HasReceived (λ (seat : Seated). own_posts seat.pass) (λ (seat : Seated). HasEnded g seat.pass) IsSince
           place.side (never_fails line.dial) links h.rest s w h.end) is.gives
-          (subst (λ (side : Side). HasReceived (λ (seat : Seated). own_posts seat.pass) (λ (seat : Seated). HasEnded g seat.pass) IsSince
+          (subst (λ (side : Side). HasReceived (λ (seat : Seated). own_posts seat.pass)
+          (λ (seat : Seated). HasEnded g seat.pass) IsSince
           side (never_fails line.dial) (left line.dial) h.rest s w h.end) is.side h.received);
       cut = k.cut;
       sent = record {
@@ -97,12 +102,16 @@ module _ {M S D : Type 0} (g : Ghosts M Event Reply S) (start : S) (told : Endpo
         → All (λ (x : Seated). own_posts x.pass ≡ []) seats → All (HasSeen log) after → HasAudited s
         → AreServed g start told reliable undialled failed wanted places log (numbers (seats ++ s ∷ []))
     served-all [] lines seats after s are is silent seen audits =
-        let a = subst (λ (l : List (Line D)). AreTeams (HasRead g lock left never_fails failed wanted) (HasWritten lock) l seats after) are is in
+        let a =
+        subst (λ (l : List (Line D)). AreTeams (HasRead g lock left never_fails failed wanted) (HasWritten lock) l
+        seats after) are is in
         record { number = numbered s.pass; is = ap (λ (l : List Seated). numbers (l ++ s ∷ [])) a.0; takings = audits }
     served-all (place ∷ places) lines seats after s (inl are) is silent seen audits =
         inl (are.0, served-all places lines seats after s are.1 is silent seen audits)
     served-all (place ∷ places) lines seats after s (inr one) is silent seen audits =
-        let a = subst (λ (l : List (Line D)). AreTeams (HasRead g lock left never_fails failed wanted) (HasWritten lock) l seats after) one.are is in
+        let a =
+        subst (λ (l : List (Line D)). AreTeams (HasRead g lock left never_fails failed wanted) (HasWritten lock) l
+        seats after) one.are is in
         let Silent : Seated → Type 0 = λ (x : Seated). own_posts x.pass ≡ [] in
         let q = subst (All Silent) a.are_seats silent in
         let q1 = All-tail Silent a.first (a.second ∷ a.other_seats) q in
@@ -114,7 +123,8 @@ module _ {M S D : Type 0} (g : Ghosts M Event Reply S) (start : S) (told : Endpo
           others = numbers (a.other_seats ++ s ∷ []);
           are = ap (λ (l : List Seated). numbers (l ++ s ∷ [])) a.are_seats;
           served = served-one place one.line a.first a.reader a.second a.writer one.is
-              (All-head Silent a.first (a.second ∷ a.other_seats) q) (All-head (HasSeen log) a.reader (a.writer ∷ a.other_works) m) a.reads
+              (All-head Silent a.first (a.second ∷ a.other_seats) q)
+              (All-head (HasSeen log) a.reader (a.writer ∷ a.other_works) m) a.reads
               (All-head Silent a.second a.other_seats q1) (All-head (HasSeen log) a.writer a.other_works m1) a.writes;
           rest = served-all places one.others a.other_seats a.other_works s one.rest a.rest
               (All-tail Silent a.second a.other_seats q1) (All-tail (HasSeen log) a.writer a.other_works m1) audits;
@@ -122,23 +132,29 @@ module _ {M S D : Type 0} (g : Ghosts M Event Reply S) (start : S) (told : Endpo
 
     -- the audit's work posts takings of the audit alone
     audits-last : (d : Numbered) (places : List Place) (all : List Numbered)
-        → AreServed g start told reliable undialled failed wanted places log all → All IsAudits (posts_by (last_or d all).0 log)
-    audits-last d [] all is = subst (λ (l : List Numbered). All IsAudits (posts_by (last_or d l).0 log)) (sym is.is) is.takings
+        → AreServed g start told reliable undialled failed wanted places log all
+        → All IsAudits (posts_by (last_or d all).0 log)
+    audits-last d [] all is = subst (λ (l : List Numbered). All IsAudits (posts_by (last_or d l).0 log)) (sym is.is)
+        is.takings
     audits-last d (place ∷ places) all (inl is) = audits-last d places all is.1
     audits-last d (place ∷ places) all (inr is) =
         subst (λ (l : List Numbered). All IsAudits (posts_by (last_or d l).0 log)) (sym is.are)
         (audits-last is.second places is.others is.rest)
 
     -- the works of an endpoint post no such
-    first-none : (place : Place) (first second : List ℕ) → IsServed g start told reliable failed wanted place log first second
+    first-none : (place : Place) (first second : List ℕ)
+        → IsServed g start told reliable failed wanted place log first second
         → All TakesNone (posts_by first log)
     first-none place first second is =
-        let more = adds-rounds (λ (seat : Seated). own_posts seat.pass) (λ (seat : Seated). HasEnded g seat.pass) IsSince place.side
+        let more = adds-rounds (λ (seat : Seated). own_posts seat.pass) (λ (seat : Seated). HasEnded g seat.pass)
+        IsSince place.side
         is.end.wanted (told place.end) is.left is.began is.ended is.received.passes is.received.rounds in
         subst (λ (n : List ℕ). All TakesNone (posts_by n log)) (sym is.number)
-        (subst (All TakesNone) (sym (ap (map post_of) is.seen.1 ∙ (more.is ∙ ap (λ (l : List Post). l ++ more.more) is.silent))) more.none)
+        (subst (All TakesNone)
+        (sym (ap (map post_of) is.seen.1 ∙ (more.is ∙ ap (λ (l : List Post). l ++ more.more) is.silent))) more.none)
 
-    second-none : (place : Place) (first second : List ℕ) → IsServed g start told reliable failed wanted place log first second
+    second-none : (place : Place) (first second : List ℕ)
+        → IsServed g start told reliable failed wanted place log first second
         → All TakesNone (posts_by second log)
     second-none place first second is =
         subst (All TakesNone) (sym is.sent.posted) (senders-none is.cut is.sent.more is.sent.each)
@@ -151,7 +167,8 @@ module _ {M S D : Type 0} (g : Ghosts M Event Reply S) (start : S) (told : Endpo
     turned a b e = same-eq b a (sym (same-true a b e))
 
     others-none : (d : Numbered) (places : List Place) (all : List Numbered)
-        → AreServed g start told reliable undialled failed wanted places log all → All (IsOneOf all (last_or d all).0) log
+        → AreServed g start told reliable undialled failed wanted places log all
+        → All (IsOneOf all (last_or d all).0) log
     others-none d [] all is =
         subst (λ (l : List Numbered). All (IsOneOf l (last_or d l).0) log) (sym is.is)
         (every (λ (x : Entry Event Reply). same_number x.by is.number.0 ≡ true → IsAudits (post_of x))
@@ -167,19 +184,24 @@ module _ {M S D : Type 0} (g : Ghosts M Event Reply S) (start : S) (told : Endpo
         let n = (last_or is.second is.others).0 in
         subst (λ (l : List Numbered). All (IsOneOf l (last_or d l).0) log) (sym is.are)
         (both (λ (x : Entry Event Reply). same_number x.by is.first.0 ≡ true → TakesNone (post_of x))
-        (λ (x : Entry Event Reply). (same_number x.by is.second.0 ≡ true → TakesNone (post_of x)) × IsOneOf is.others n x)
+        (λ (x : Entry Event Reply). (same_number x.by is.second.0 ≡ true → TakesNone (post_of x))
+        × IsOneOf is.others n x)
         (IsOneOf (is.first ∷ is.second ∷ is.others) n)
         (λ x p q e. by x p q.0 q.1 (either_true (same_number is.first.0 x.by) _ e)) log
         (of-number TakesNone is.first.0 log (first-none place is.first.0 is.second.0 is.served))
-        (both (λ (x : Entry Event Reply). same_number x.by is.second.0 ≡ true → TakesNone (post_of x)) (IsOneOf is.others n)
-        (λ (x : Entry Event Reply). (same_number x.by is.second.0 ≡ true → TakesNone (post_of x)) × IsOneOf is.others n x)
+        (both (λ (x : Entry Event Reply). same_number x.by is.second.0 ≡ true
+        → TakesNone (post_of x)) (IsOneOf is.others n)
+        (λ (x : Entry Event Reply). (same_number x.by is.second.0 ≡ true → TakesNone (post_of x))
+        × IsOneOf is.others n x)
         (λ x p q. (p, q)) log
         (of-number TakesNone is.second.0 log (second-none place is.first.0 is.second.0 is.served))
         (others-none is.second places is.others is.rest)))
       where
         by : (x : Entry Event Reply) → (same_number x.by is.first.0 ≡ true → TakesNone (post_of x))
-            → (same_number x.by is.second.0 ≡ true → TakesNone (post_of x)) → IsOneOf is.others (last_or is.second is.others).0 x
-            → (same_number is.first.0 x.by ≡ true) ⊎ ((same_number is.second.0 x.by || has_number x.by is.others) ≡ true)
+            → (same_number x.by is.second.0 ≡ true → TakesNone (post_of x))
+            → IsOneOf is.others (last_or is.second is.others).0 x
+            → (same_number is.first.0 x.by ≡ true)
+            ⊎ ((same_number is.second.0 x.by || has_number x.by is.others) ≡ true)
             → (same_number x.by (last_or is.second is.others).0 ≡ true) ⊎ TakesNone (post_of x)
         by x p q r (inl e) = inr (p (turned is.first.0 x.by e))
         by x p q r (inr e) = by-second (either_true (same_number is.second.0 x.by) (has_number x.by is.others) e)
@@ -189,7 +211,8 @@ module _ {M S D : Type 0} (g : Ghosts M Event Reply S) (start : S) (told : Endpo
             by-second (inl s) = inr (q (turned is.second.0 x.by s))
             by-second (inr s) = r s
 
-    pub audits-alone : (places : List Place) (front : List Numbered) (n : Numbered) (all : List Numbered) → all ≡ front ++ n ∷ []
+    pub audits-alone : (places : List Place) (front : List Numbered) (n : Numbered) (all : List Numbered)
+        → all ≡ front ++ n ∷ []
         → AreServed g start told reliable undialled failed wanted places log all
         → All (λ (x : Entry Event Reply). IsTrue (has_number x.by all)) log → All (IsAuditsAlone n.0) log
     audits-alone places front n all e is under =
@@ -201,7 +224,8 @@ module _ {M S D : Type 0} (g : Ghosts M Event Reply S) (start : S) (told : Endpo
         (λ x p q. (p, λ isnt. other x isnt (q.0 q.1))) log
         (of-number IsAudits (last_or n all).0 log (audits-last n places all is))
         (both (IsOneOf all (last_or n all).0) (λ (x : Entry Event Reply). IsTrue (has_number x.by all))
-        (λ (x : Entry Event Reply). IsOneOf all (last_or n all).0 x × IsTrue (has_number x.by all)) (λ x p q. (p, q)) log
+        (λ (x : Entry Event Reply). IsOneOf all (last_or n all).0 x × IsTrue (has_number x.by all)) (λ x p q. (p, q))
+        log
         (others-none n places all is) under))
       where
         other : (x : Entry Event Reply) → same_number x.by (last_or n all).0 ≡ false

@@ -1,5 +1,6 @@
 -- The endpoints that have a dial, one more; and counts that rose.
-use Rattle.std.proofs.Common.{◌≡◌, ◌≤◌, ◌+◌, ◌⊎◌, ◌<◌, ℕ, nat_lt, Bool, true, false, List, [], ◌∷◌, ◌++◌, Option, length, All, refl, ap, sym, subst, ◌∙◌, inl, inr, arith}
+use Rattle.std.proofs.Common.{◌≡◌, ◌≤◌, ◌+◌, ◌⊎◌, ◌<◌, ℕ, nat_lt, Bool, true, false, List, [], ◌∷◌, ◌++◌, Option}
+use Rattle.std.proofs.Common.{length, All, refl, ap, sym, subst, ◌∙◌, inl, inr, arith}
 use Rattle.std.proofs.lemmas.List.Elements.{All-cons, All-head, All-nil, All-tail}
 use Rattle.cv_io.specs.Connections.{Connection}
 use Rattle.cv_io.specs.Outside.{Rose}
@@ -28,7 +29,8 @@ module _ {D : Type 0} (told : Endpoint → Option (List Connection)) (reliable :
 
   -- one that could
   pub lines-more : (failed : Bool) (places : List Place) (lines : List (Line D)) (place : Place) (line : Line D)
-      → AreLinesOf told reliable left never_fails failed places lines → IsLineOf told reliable left never_fails place line
+      → AreLinesOf told reliable left never_fails failed places lines
+      → IsLineOf told reliable left never_fails place line
       → AreLinesOf told reliable left never_fails failed (places ++ place ∷ []) (lines ++ line ∷ [])
   lines-more failed [] lines place line are new = inr (record {
     line = line;
@@ -37,7 +39,8 @@ module _ {D : Type 0} (told : Endpoint → Option (List Connection)) (reliable :
     is = new;
     rest = refl;
   })
-  lines-more failed (p ∷ places) lines place line (inl are) new = inl (are.0, lines-more failed places lines place line are.1 new)
+  lines-more failed (p ∷ places) lines place line (inl are) new =
+      inl (are.0, lines-more failed places lines place line are.1 new)
   lines-more failed (p ∷ places) lines place line (inr is) new = inr (record {
     line = is.line;
     others = is.others ++ line ∷ [];
@@ -86,21 +89,25 @@ module _ {D : Type 0} (told : Endpoint → Option (List Connection)) (reliable :
       → (failed : Bool) (places : List Place) (lines : List (Line D))
       → AreLinesOf told reliable left never_fails failed places lines → All X places → All Y lines
   lines-all X Y f failed [] lines are all = subst (All Y) (sym are) (All-nil Y)
-  lines-all X Y f failed (p ∷ places) lines (inl are) all = lines-all X Y f failed places lines are.1 (All-tail X p places all)
+  lines-all X Y f failed (p ∷ places) lines (inl are) all =
+      lines-all X Y f failed places lines are.1 (All-tail X p places all)
   lines-all X Y f failed (p ∷ places) lines (inr is) all =
       subst (All Y) (sym is.are)
       (All-cons Y is.line is.others (f p is.line is.is (All-head X p places all))
       (lines-all X Y f failed places is.others is.rest (All-tail X p places all)))
 
   pub lines-served : (serves : Who → Type 0) (failed : Bool) (places : List Place) (lines : List (Line D))
-      → AreLinesOf told reliable left never_fails failed places lines → All (λ (p : Place). IsServedSide serves p.side) places
+      → AreLinesOf told reliable left never_fails failed places lines
+      → All (λ (p : Place). IsServedSide serves p.side) places
       → All (λ (l : Line D). IsServedSide serves l.side) lines
   lines-served serves =
       lines-all (λ (p : Place). IsServedSide serves p.side) (λ (l : Line D). IsServedSide serves l.side)
       (λ p l is s. subst (IsServedSide serves) (sym is.side) s)
 
   pub lines-reliable : (failed : Bool) (places : List Place) (lines : List (Line D))
-      → AreLinesOf told reliable left never_fails failed places lines → All (λ (p : Place). reliable p.end ≡ true) places
+      → AreLinesOf told reliable left never_fails failed places lines
+      → All (λ (p : Place). reliable p.end ≡ true) places
       → All (λ (l : Line D). never_fails l.dial ≡ true) lines
   lines-reliable =
-      lines-all (λ (p : Place). reliable p.end ≡ true) (λ (l : Line D). never_fails l.dial ≡ true) (λ p l is r. is.dials r)
+      lines-all (λ (p : Place). reliable p.end ≡ true) (λ (l : Line D). never_fails l.dial ≡ true)
+      (λ p l is r. is.dials r)

@@ -1,5 +1,6 @@
 -- Which posts take a line of the audit.
-use Rattle.std.proofs.Common.{◌≡◌, ◌⊎◌, ℕ, Bool, true, false, List, [], ◌∷◌, ◌++◌, Option, All, map, if◌then◌else◌, refl, sym, ap, ◌∙◌, subst, inl, inr, append_assoc, append-nil}
+use Rattle.std.proofs.Common.{◌≡◌, ◌⊎◌, ℕ, Bool, true, false, List, [], ◌∷◌, ◌++◌, Option, All, map, if◌then◌else◌}
+use Rattle.std.proofs.Common.{refl, sym, ap, ◌∙◌, subst, inl, inr, append_assoc, append-nil}
 use Rattle.std.proofs.lemmas.List.Elements.{All-append, All-cons, All-head, All-nil, All-tail}
 use Rattle.cv_io.specs.Connections.{Connection}
 use Rattle.cv_io.specs.declared.leaf.Session.{Session}
@@ -38,21 +39,27 @@ adds-both a b c p q = record {
 }
 
 adds-one : (old new : List Post) (post : Post) → TakesNone post → new ≡ old ++ post ∷ [] → Adds old new
-adds-one old new post none e = record { more = post ∷ []; none = All-cons TakesNone post [] none (All-nil TakesNone); is = e }
+adds-one old new post none e =
+    record { more = post ∷ []; none = All-cons TakesNone post [] none (All-nil TakesNone); is = e }
 
 frames-none : (session : Session) (frames : List (List ℕ)) → All TakesNone (messages session frames)
 frames-none session [] = All-nil TakesNone
-frames-none session (frame ∷ frames) = All-cons TakesNone (message session frame) (messages session frames) refl (frames-none session frames)
+frames-none session (frame ∷ frames) = All-cons TakesNone (message session frame) (messages session frames) refl
+    (frames-none session frames)
 
-adds-frames : (old new : List Post) (session : Session) (frames : List (List ℕ)) → new ≡ old ++ messages session frames → Adds old new
-adds-frames old new session frames e = record { more = messages session frames; none = frames-none session frames; is = e }
+adds-frames : (old new : List Post) (session : Session) (frames : List (List ℕ)) → new ≡ old ++ messages session frames
+    → Adds old new
+adds-frames old new session frames e =
+    record { more = messages session frames; none = frames-none session frames; is = e }
 
-adds-leaving : (ended : ℕ → Type 0) (old new : List Post) (session : Session) → Leaves ended old new session → Adds old new
+adds-leaving : (ended : ℕ → Type 0) (old new : List Post) (session : Session) → Leaves ended old new session
+    → Adds old new
 adds-leaving ended old new session (inl e) = adds-one old new (going session) refl e
 adds-leaving ended old new session (inr e) = adds-nothing old new e.0
 
 module _ (before after : Option (List ℕ)) (old : List ℕ) (session : Session) (posts : List Post) where
-  adds-all : (ended : ℕ → Type 0) (now : List Post) (left : List ℕ) → HasPostedAll before after old session posts ended now left → Adds posts now
+  adds-all : (ended : ℕ → Type 0) (now : List Post) (left : List ℕ)
+      → HasPostedAll before after old session posts ended now left → Adds posts now
   adds-all ended now left h =
       adds-both posts (posts ++ messages session h.frames) now (adds-frames posts _ session h.frames refl)
       (adds-leaving ended _ now session h.posted)
@@ -65,34 +72,43 @@ module _ (before after : Option (List ℕ)) (old : List ℕ) (session : Session)
   adds-read ended now left read_ends.ReadFault h = adds-all ended now left h
 
   pub adds-some : (now : List Post) → HasPostedSome before after old session posts now → Adds posts now
-  adds-some now h = adds-both posts h.heard now (adds-frames posts h.heard session h.front.frames h.front.posted) (gone h.posted)
+  adds-some now h = adds-both posts h.heard now (adds-frames posts h.heard session h.front.frames h.front.posted)
+      (gone h.posted)
     where
       gone : (now ≡ h.heard) ⊎ (now ≡ h.heard ++ going session ∷ []) → Adds h.heard now
       gone (inl e) = adds-nothing h.heard now e
       gone (inr e) = adds-one h.heard now (going session) refl e
 
 module _ (side : Side) (before after held : Option (List ℕ)) (writes : Bool) (posts now : List Post) where
-  adds-up : (up : CameUp side before after held writes posts now) → Adds posts (up_posts side before after held writes posts now up)
+  adds-up : (up : CameUp side before after held writes posts now)
+      → Adds posts (up_posts side before after held writes posts now up)
   adds-up up = adds-one posts _ (coming_up up.who up.arp up.round) refl refl
 
   adds-round : (ended : Session → ℕ → Type 0) (faults risen : ℕ) (reads : Bool) (end : RoundEnd)
       → RoundPosts side before after held writes posts now ended faults risen reads end → Adds posts now
   adds-round ended faults risen reads (round_ends.Unopened end) h = adds-nothing posts now h.posted
   adds-round ended faults risen reads (round_ends.Read end) h =
-      adds-both posts _ now (adds-up h.up) (adds-read h.up.middle after h.up.kept (in_round h.up.who h.up.round) _ _ now h.left end h.posted)
+      adds-both posts _ now (adds-up h.up)
+      (adds-read h.up.middle after h.up.kept (in_round h.up.who h.up.round) _ _ now h.left end h.posted)
 
   adds-wanting : RoundWants side before after held writes posts now → Adds posts now
   adds-wanting (inl e) = adds-nothing posts now e
-  adds-wanting (inr h) = adds-both posts _ now (adds-up h.0) (adds-some h.0.middle after h.0.kept (in_round h.0.who h.0.round) _ now h.1)
+  adds-wanting (inr h) = adds-both posts _ now (adds-up h.0)
+      (adds-some h.0.middle after h.0.kept (in_round h.0.who h.0.round) _ now h.1)
 
 -- a work that takes connections takes no line
-module _ {P : Type 0} (posts : P → List Post) (ended : P → Session → ℕ → Type 0) (later : P → P → Type 0) (side : Side) (wanted : Bool) where
-  adds-given : (links left : Option (List Connection)) (v w : P) → IsGiven posts ended later side wanted links left v w → Adds (posts v) (posts w)
+module _ {P : Type 0} (posts : P → List Post) (ended : P → Session → ℕ → Type 0) (later : P → P
+    → Type 0) (side : Side) (wanted : Bool) where
+  adds-given : (links left : Option (List Connection)) (v w : P) → IsGiven posts ended later side wanted links left v w
+      → Adds (posts v) (posts w)
   adds-given links left v w g = by g.round.posted
     where
-      by : ((end : RoundEnd) × RoundPosts side g.bytes g.round.after g.held g.writes (posts v) (posts w) (ended w) g.round.faults g.round.risen g.reads end)
-          ⊎ ((wanted ≡ true) × RoundWants side g.bytes g.round.after g.held g.writes (posts v) (posts w)) → Adds (posts v) (posts w)
-      by (inl h) = adds-round side g.bytes g.round.after g.held g.writes (posts v) (posts w) (ended w) g.round.faults g.round.risen g.reads h.0 h.1
+      by : ((end : RoundEnd) × RoundPosts side g.bytes g.round.after g.held g.writes (posts v) (posts w) (ended w)
+          g.round.faults g.round.risen g.reads end)
+          ⊎ ((wanted ≡ true) × RoundWants side g.bytes g.round.after g.held g.writes (posts v) (posts w))
+          → Adds (posts v) (posts w)
+      by (inl h) = adds-round side g.bytes g.round.after g.held g.writes (posts v) (posts w) (ended w) g.round.faults
+          g.round.risen g.reads h.0 h.1
       by (inr h) = adds-wanting side g.bytes g.round.after g.held g.writes (posts v) (posts w) h.1
 
   pub adds-rounds : (links left : Option (List Connection)) (v w : P) (passes : List P)

@@ -8,9 +8,11 @@ use Rattle.lock_desk.proofs.Posts.{since_itself}
 
 module _ {S : Type 0} where
   -- the same seat is of the same lock
-  pub seat-of : (lock same : LockOf S) (seat now : SeatOf Event Reply S) → same ≡ lock → now ≡ seat → IsSeatOf lock seat → IsSeatOf same now
+  pub seat-of : (lock same : LockOf S) (seat now : SeatOf Event Reply S) → same ≡ lock → now ≡ seat → IsSeatOf lock seat
+      → IsSeatOf same now
   seat-of lock same seat now l s is =
-      subst (λ (k : LockOf S). IsSeatOf k now) (sym l) (subst (λ (t : SeatOf Event Reply S). IsSeatOf lock t) (sym s) is)
+      subst (λ (k : LockOf S). IsSeatOf k now) (sym l)
+      (subst (λ (t : SeatOf Event Reply S). IsSeatOf lock t) (sym s) is)
 
   -- and is itself, later
   pub since-same : (seat old now : SeatOf Event Reply S) → old ≡ seat → now ≡ seat → IsSince old now

@@ -16,7 +16,8 @@ use Rattle.endpoint_works.specs.declared.works.Task.TheVariants as works
 use Rattle.lock_desk.specs.Passes.{HasEnded, IsSince, own_posts}
 use Rattle.lock_desk.specs.declared.desk.LockDesk.{LockDesk}
 use Rattle.serving.specs.Working.{Does, HasRead, HasWritten}
-use Rattle.serving.specs.Works.{AreTeams, IsReaderFor, IsWriterFor, failed_of, has_failed, has_wanted, pass_of, wanted_of}
+use Rattle.serving.specs.Works.{AreTeams, IsReaderFor, IsWriterFor, failed_of, has_failed, has_wanted, pass_of}
+use Rattle.serving.specs.Works.{wanted_of}
 use Rattle.serving.specs.declared.dialling.Line.{Line}
 use Rattle.serving.proofs.Seats.{seat-of, since-seat}
 use Rattle.serving.proofs.Works.{any-known, any-none, changed-and, teams-all, teams-changed, teams-lines, teams-map}
@@ -30,7 +31,8 @@ JobOf R H M S D C I O = Task R (LockDesk R H M S) (Dialled D) C (SeatOf Event Re
 
 module _ {R H M S D C I O : Type 0} (g : Ghosts M Event Reply S) (lock : LockOf S) (left : D → Option (List Connection))
     (never_fails : D → Bool) (IsShared : Type 0) (failed wanted : Bool) where
-  reads-one : (line : Line D) (s : SeatOf Event Reply S) (t u : JobOf R H M S D C I O) → IsReaderFor lock line s t → (Does g left never_fails IsShared t u × Flags failed wanted u)
+  reads-one : (line : Line D) (s : SeatOf Event Reply S) (t u : JobOf R H M S D C I O) → IsReaderFor lock line s t
+      → (Does g left never_fails IsShared t u × Flags failed wanted u)
       → HasRead g lock left never_fails failed wanted line s (pass_of u)
   reads-one line s (works.Reader r) (works.Reader u) h k = record {
     later = record {
@@ -43,39 +45,46 @@ module _ {R H M S D C I O : Type 0} (g : Ghosts M Event Reply S) (lock : LockOf 
     rest = left u.arrivals.dial;
     received =
         subst (λ (d : D). HasReceived (λ (seat : SeatOf Event Reply S). own_posts seat.pass)
-        (λ (seat : SeatOf Event Reply S). HasEnded g seat.pass) IsSince line.side (never_fails d) (left d) (left u.arrivals.dial) s u.pass k.0.2.0)
+        (λ (seat : SeatOf Event Reply S). HasEnded g seat.pass) IsSince line.side (never_fails d) (left d)
+        (left u.arrivals.dial) s u.pass k.0.2.0)
         h.4
         (subst (λ (x : SeatOf Event Reply S). HasReceived (λ (seat : SeatOf Event Reply S). own_posts seat.pass)
-        (λ (seat : SeatOf Event Reply S). HasEnded g seat.pass) IsSince line.side (never_fails r.arrivals.dial) (left r.arrivals.dial)
+        (λ (seat : SeatOf Event Reply S). HasEnded g seat.pass) IsSince line.side (never_fails r.arrivals.dial)
+        (left r.arrivals.dial)
         (left u.arrivals.dial) x u.pass k.0.2.0) h.0
         (subst (λ (x : Side). HasReceived (λ (seat : SeatOf Event Reply S). own_posts seat.pass)
-        (λ (seat : SeatOf Event Reply S). HasEnded g seat.pass) IsSince x (never_fails r.arrivals.dial) (left r.arrivals.dial)
+        (λ (seat : SeatOf Event Reply S). HasEnded g seat.pass) IsSince x (never_fails r.arrivals.dial)
+        (left r.arrivals.dial)
         (left u.arrivals.dial) r.pass u.pass k.0.2.0) h.3 k.0.2.2));
   }
   reads-one line s (works.Reader r) (works.Writer u) h k = absurd k.0
   reads-one line s (works.Writer r) u h k = absurd h
 
-  writes-one : (s : SeatOf Event Reply S) (t u : JobOf R H M S D C I O) → IsWriterFor lock s t → (Does g left never_fails IsShared t u × Flags failed wanted u) → HasWritten lock s (pass_of u)
+  writes-one : (s : SeatOf Event Reply S) (t u : JobOf R H M S D C I O) → IsWriterFor lock s t
+      → (Does g left never_fails IsShared t u × Flags failed wanted u) → HasWritten lock s (pass_of u)
   writes-one s (works.Writer r) (works.Writer u) h k = record {
     later = record {
       of = seat-of r.desk.lock.now lock u.pass u.pass (sym h.1) refl k.0.0.1;
       since = since-seat s r.pass u.pass h.0 k.0.1;
     };
     cut = k.0.2.0.cut;
-    sent = subst (λ (x : SeatOf Event Reply S). HasSent k.0.2.0.cut (own_posts x.pass) (own_posts u.pass.pass)) h.0 k.0.2.2;
+    sent = subst (λ (x : SeatOf Event Reply S). HasSent k.0.2.0.cut (own_posts x.pass) (own_posts u.pass.pass)) h.0
+        k.0.2.2;
   }
   writes-one s (works.Writer r) (works.Reader u) h k = absurd k.0
   writes-one s (works.Reader r) u h k = absurd h
 
   -- a dial that never fails hasn't
-  reads-well : (line : Line D) (s : SeatOf Event Reply S) (t u : JobOf R H M S D C I O) → (never_fails line.dial ≡ true) × IsReaderFor lock line s t
+  reads-well : (line : Line D) (s : SeatOf Event Reply S) (t u : JobOf R H M S D C I O)
+      → (never_fails line.dial ≡ true) × IsReaderFor lock line s t
       → Does g left never_fails IsShared t u → failed_of u ≡ false
   reads-well line s (works.Reader r) (works.Reader u) h k =
       ap has_failed k.2.1 ∙ k.2.2.dials (ap never_fails h.1.4 ∙ h.0)
   reads-well line s (works.Reader r) (works.Writer u) h k = absurd k
   reads-well line s (works.Writer r) u h k = absurd h.1
 
-  writes-well : (s : SeatOf Event Reply S) (t u : JobOf R H M S D C I O) → IsWriterFor lock s t → Does g left never_fails IsShared t u → failed_of u ≡ false
+  writes-well : (s : SeatOf Event Reply S) (t u : JobOf R H M S D C I O) → IsWriterFor lock s t
+      → Does g left never_fails IsShared t u → failed_of u ≡ false
   writes-well s (works.Writer r) (works.Writer u) h k = refl
   writes-well s (works.Writer r) (works.Reader u) h k = absurd k
   writes-well s (works.Reader r) u h k = absurd h
@@ -86,21 +95,28 @@ module _ {R H M S D C I O : Type 0} (g : Ghosts M Event Reply S) (lock : LockOf 
     pub worked-teams : list_any failed_of now ≡ failed → list_any wanted_of now ≡ wanted
         → AreTeams (HasRead g lock left never_fails failed wanted) (HasWritten lock) lines seats (map pass_of now)
     worked-teams f w =
-        teams-map (λ line s u. HasRead g lock left never_fails failed wanted line s (pass_of u)) (λ s u. HasWritten lock s (pass_of u)) pass_of
+        teams-map (λ line s u. HasRead g lock left never_fails failed wanted line s (pass_of u))
+        (λ s u. HasWritten lock s (pass_of u)) pass_of
         (HasRead g lock left never_fails failed wanted) (HasWritten lock) (λ line s u h. h) (λ s u h. h) lines seats now
-        (teams-changed (IsReaderFor lock) (IsWriterFor lock) (λ line s u. HasRead g lock left never_fails failed wanted line s (pass_of u))
+        (teams-changed (IsReaderFor lock) (IsWriterFor lock)
+        (λ line s u. HasRead g lock left never_fails failed wanted line s (pass_of u))
         (λ s u. HasWritten lock s (pass_of u))
         (λ t u. Does g left never_fails IsShared t u × Flags failed wanted u) lines seats begun now teams
         (changed-and (Does g left never_fails IsShared) (Flags failed wanted) begun now done
-        (λ k d lt. (any-known failed_of failed now f k d lt, any-known wanted_of wanted now w k d lt))) reads-one writes-one)
+        (λ k d lt. (any-known failed_of failed now f k d lt, any-known wanted_of wanted now w k d lt))) reads-one
+        writes-one)
 
     pub worked-well : list_any failed_of now ≡ failed → All (λ (line : Line D). never_fails line.dial ≡ true) lines
         → failed ≡ false
     worked-well f well =
         sym f
         ∙ any-none failed_of now
-        (teams-all (λ line s u. failed_of u ≡ false) (λ s u. failed_of u ≡ false) (λ (u : JobOf R H M S D C I O). failed_of u ≡ false) (λ line s u h. h) (λ s u h. h)
+        (teams-all (λ line s u. failed_of u ≡ false) (λ s u. failed_of u ≡ false)
+        (λ (u : JobOf R H M S D C I O). failed_of u ≡ false) (λ line s u h. h) (λ s u h. h)
         lines seats now
-        (teams-changed (λ line s t. (never_fails line.dial ≡ true) × IsReaderFor lock line s t) (λ s t. IsWriterFor lock s t)
-        (λ line s u. failed_of u ≡ false) (λ s u. failed_of u ≡ false) (Does g left never_fails IsShared) lines seats begun now
-        (teams-lines (IsReaderFor lock) (IsWriterFor lock) (λ (line : Line D). never_fails line.dial ≡ true) lines seats begun teams well) done reads-well writes-well))
+        (teams-changed (λ line s t. (never_fails line.dial ≡ true) × IsReaderFor lock line s t)
+        (λ s t. IsWriterFor lock s t)
+        (λ line s u. failed_of u ≡ false) (λ s u. failed_of u ≡ false) (Does g left never_fails IsShared) lines seats
+        begun now
+        (teams-lines (IsReaderFor lock) (IsWriterFor lock) (λ (line : Line D). never_fails line.dial ≡ true) lines seats
+        begun teams well) done reads-well writes-well))

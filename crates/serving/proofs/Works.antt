@@ -1,5 +1,6 @@
 -- The works of a run, each in its place.
-use Rattle.std.proofs.Common.{◌≡◌, ◌<◌, ◌+◌, ◌*◌, ℕ, zero, suc, List, [], ◌∷◌, ◌++◌, ◌||◌, Bool, true, false, All, drop, length, map, refl, sym, ap, ◌∙◌, subst, arith}
+use Rattle.std.proofs.Common.{◌≡◌, ◌<◌, ◌+◌, ◌*◌, ℕ, zero, suc, List, [], ◌∷◌, ◌++◌, ◌||◌, Bool, true, false, All, drop}
+use Rattle.std.proofs.Common.{length, map, refl, sym, ap, ◌∙◌, subst, arith}
 use Rattle.std.specs.List.{list_any}
 use Rattle.std.proofs.lemmas.List.Elements.{All-cons, All-head, All-nil, All-tail}
 use Rattle.cv_io.specs.Works.{AllChanged}
@@ -65,7 +66,8 @@ module _ {L S T : Type 0} (IsReader : L → S → T → Type 0) (IsWriter : S �
       ap (map h) is.are_works
       ∙ (ap (λ (x : X). x ∷ h is.writer ∷ map h is.other_works) (r line is.first is.reader is.reads)
       ∙ (ap (λ (x : X). f is.first ∷ x ∷ map h is.other_works) (w is.second is.writer is.writes)
-      ∙ (ap (λ (x : List X). f is.first ∷ f is.second ∷ x) (teams-same f h r w lines is.other_seats is.other_works is.rest)
+      ∙ (ap (λ (x : List X). f is.first ∷ f is.second ∷ x)
+      (teams-same f h r w lines is.other_seats is.other_works is.rest)
       ∙ ap (map f) (sym is.are_seats))))
 
 or_true : (b : Bool) → (b || true) ≡ true
@@ -85,11 +87,14 @@ nothing-long [] e = refl
 nothing-long (x ∷ l) e = absurd (grind arith)
 
 -- what any of these is, each that is makes known
-pub any-known : {T : Type 0} (f : T → Bool) (b : Bool) (works : List T) → list_any f works ≡ b → All (λ t. f t ≡ true → b ≡ true) works
+pub any-known : {T : Type 0} (f : T → Bool) (b : Bool) (works : List T) → list_any f works ≡ b
+    → All (λ t. f t ≡ true → b ≡ true) works
 any-known f b [] e = All-nil (λ t. f t ≡ true → b ≡ true)
 any-known f b (t ∷ works) e =
     All-cons (λ u. f u ≡ true → b ≡ true) t works (λ yes. sym e ∙ ap (λ x. x || list_any f works) yes)
-    (All-weaker {P = λ u. f u ≡ true → list_any f works ≡ true} {Q = λ u. f u ≡ true → b ≡ true} works (any-known f (list_any f works) works refl) (λ u h yes. sym e ∙ (ap (λ x. f t || x) (h yes) ∙ or_true (f t))))
+    (All-weaker {P = λ u. f u ≡ true → list_any f works ≡ true} {Q = λ u. f u ≡ true
+    → b ≡ true} works (any-known f (list_any f works) works refl)
+    (λ u h yes. sym e ∙ (ap (λ x. f t || x) (h yes) ∙ or_true (f t))))
 
 pub any-none : {T : Type 0} (f : T → Bool) (works : List T) → All (λ t. f t ≡ false) works → list_any f works ≡ false
 any-none f [] all = refl
@@ -104,7 +109,8 @@ changed-and changes X works others c all = (c.0, λ i d lt. (c.1 i d lt, all i d
 
 module _ {L S T : Type 0} (IsReader : L → S → T → Type 0) (IsWriter : S → T → Type 0) where
   -- the same lines and seats
-  pub teams-at : (lines same : List L) (seats now : List S) (works : List T) → AreTeams IsReader IsWriter lines seats works
+  pub teams-at : (lines same : List L) (seats now : List S) (works : List T)
+      → AreTeams IsReader IsWriter lines seats works
       → same ≡ lines → now ≡ seats → AreTeams IsReader IsWriter same now works
   teams-at lines same seats now works is l s =
       subst (λ (x : List L). AreTeams IsReader IsWriter x now works) (sym l)
@@ -148,7 +154,8 @@ module _ {L S T : Type 0} (IsReader : L → S → T → Type 0) (IsWriter : S �
         are_works = is.are_works;
         reads = (All-head X line lines x, All-head Y is.first (is.second ∷ is.other_seats) z, is.reads);
         writes = (All-head Y is.second is.other_seats z1, is.writes);
-        rest = teams-known X Y lines is.other_seats is.other_works is.rest (All-tail X line lines x) (All-tail Y is.second is.other_seats z1);
+        rest = teams-known X Y lines is.other_seats is.other_works is.rest (All-tail X line lines x)
+            (All-tail Y is.second is.other_seats z1);
       }
 
 module _ {L S T : Type 0} (IsReader : L → S → T → Type 0) (IsWriter : S → T → Type 0)
@@ -161,14 +168,16 @@ module _ {L S T : Type 0} (IsReader : L → S → T → Type 0) (IsWriter : S �
         (y, (ys, refl, c.1 0 x (grind arith), ((let n = c.0 in grind arith), λ i d lt. c.1 (suc i) d (grind arith))))
 
     -- each work has changed in its place
-    pub teams-changed : (lines : List L) (seats : List S) (works others : List T) → AreTeams IsReader IsWriter lines seats works
+    pub teams-changed : (lines : List L) (seats : List S) (works others : List T)
+        → AreTeams IsReader IsWriter lines seats works
         → AllChanged changes works others
         → ((line : L) (s : S) (t u : T) → IsReader line s t → changes t u → Reads line s u)
         → ((s : S) (t u : T) → IsWriter s t → changes t u → Writes s u)
         → AreTeams Reads Writes lines seats others
     teams-changed [] seats works others is c r w = (is.0, nothing-long others (c.0 ∙ ap length is.1))
     teams-changed (line ∷ lines) seats works others is c r w =
-        let n = changed-next is.reader (is.writer ∷ is.other_works) others (subst (λ (l : List T). AllChanged changes l others) is.are_works c) in
+        let n = changed-next is.reader (is.writer ∷ is.other_works) others
+        (subst (λ (l : List T). AllChanged changes l others) is.are_works c) in
         let m = changed-next is.writer is.other_works n.1.0 n.1.3 in
         record {
           first = is.first;

@@ -32,7 +32,8 @@ module _ {M S : Type 0} (g : Ghosts M Event Reply S) (start : S)
   -- of two numbers one is that of the work that took the connections of an endpoint and read from them, and the other
   -- that of the work that wrote to them: what each posted in the history. Whether a dial failed, and whether memory was
   -- wanted, is known of all works
-  pub record IsServed (failed wanted : Bool) (place : Place) (log : List (Entry Event Reply)) (first second : List ℕ) : Type 0 where
+  pub record IsServed (failed wanted : Bool) (place : Place) (log : List (Entry Event Reply))
+      (first second : List ℕ) : Type 0 where
     -- the first work's seat as it began, when it had posted nothing, and in the end
     pub began : SeatOf Event Reply S
     pub silent : own_posts began.pass ≡ []
@@ -47,7 +48,8 @@ module _ {M S : Type 0} (g : Ghosts M Event Reply S) (start : S)
     pub dials : reliable place.end ≡ true → never_fails ≡ true
     pub left : Option (List Connection)
     pub received :
-        HasReceived (λ (seat : SeatOf Event Reply S). own_posts seat.pass) (λ (seat : SeatOf Event Reply S). HasEnded g seat.pass) IsSince
+        HasReceived (λ (seat : SeatOf Event Reply S). own_posts seat.pass)
+        (λ (seat : SeatOf Event Reply S). HasEnded g seat.pass) IsSince
         place.side never_fails (told place.end) left began ended end
     pub cut : Bool
     pub sent : HasSent cut [] (posts_by second log)
@@ -68,21 +70,24 @@ module _ {M S : Type 0} (g : Ghosts M Event Reply S) (start : S)
     pub is : numbers ≡ number ∷ []
     pub takings : All IsAudits (posts_by number.0 log)
 
-  -- the works of the endpoints have the first of these numbers, two for each that was dialled, and the audit's has the last
-  abbrev pub AreServed : (undialled failed wanted : Bool) → List Place → List (Entry Event Reply) → List Numbered → Type 0
+  -- the works of the endpoints have the first of these numbers, two for each that was dialled, and the audit's has the
+  -- last
+  abbrev pub AreServed : (undialled failed wanted : Bool) → List Place → List (Entry Event Reply) → List Numbered
+      → Type 0
   AreServed undialled failed wanted [] log numbers = HasAuditAlone log numbers
   AreServed undialled failed wanted (place ∷ places) log numbers =
       ((undialled ≡ true) × AreServed undialled failed wanted places log numbers)
       ⊎ HasWorks failed wanted place log (AreServed undialled failed wanted places log) numbers
 
   -- the one history of a run, which `rest` continues: then takings of the audit followed
-  pub record IsRun (undialled failed wanted : Bool) (places : List Place) (log rest : List (Entry Event Reply)) : Type 0 where
-    pub legal : IsLegal g start (log ++ rest)
-    pub takings : All TakesLine rest
-    -- whose works posted the entries of the history
-    pub numbers : List Numbered
-    pub under : All (λ (x : Entry Event Reply). IsTrue (has_number x.by numbers)) log
-    pub works : AreServed undialled failed wanted places log numbers
+  pub record IsRun (undialled failed wanted : Bool) (places : List Place) (log rest : List (Entry Event Reply)) : Type 0
+    where
+      pub legal : IsLegal g start (log ++ rest)
+      pub takings : All TakesLine rest
+      -- whose works posted the entries of the history
+      pub numbers : List Numbered
+      pub under : All (λ (x : Entry Event Reply). IsTrue (has_number x.by numbers)) log
+      pub works : AreServed undialled failed wanted places log numbers
 
   -- of the lines of the audit that a history has, and of links of which so many calls failed before and after
   module _ (audit_of : List (Entry Event Reply) → List (List ℕ)) (places : List Place) (held written : Option (List ℕ))

@@ -33,21 +33,25 @@ module _ {S : Type 0} (lock : LockOf S) where
     pub sent : HasSent cut (own_posts old.pass) (own_posts new.pass)
 
 -- what a work of an endpoint does, from how it was; of a runtime that threads may share
-module _ {R H M S D C I O : Type 0} (g : Ghosts M Event Reply S) (left : D → Option (List Connection)) (never_fails : D → Bool)
+module _ {R H M S D C I O : Type 0} (g : Ghosts M Event Reply S) (left : D → Option (List Connection)) (never_fails : D
+    → Bool)
     (IsShared : Type 0) where
   abbrev pub Does : (old new : Task R (LockDesk R H M S) (Dialled D) C (SeatOf Event Reply S) I O) → Type 0
   Does (works.Reader old) (works.Reader new) =
-      (IsShared × IsSeatOf old.desk.lock.now new.pass × IsSince old.desk.since.value new.pass) × IsSince old.pass new.pass
+      (IsShared × IsSeatOf old.desk.lock.now new.pass × IsSince old.desk.since.value new.pass)
+      × IsSince old.pass new.pass
       × ((end : Received) × (new.end ≡ Some end) × HasReceived (λ (seat : SeatOf Event Reply S). own_posts seat.pass)
       (λ (seat : SeatOf Event Reply S). HasEnded g seat.pass) IsSince
       old.side (never_fails old.arrivals.dial) (left old.arrivals.dial) (left new.arrivals.dial) old.pass new.pass end)
   Does (works.Reader old) (works.Writer new) = ⊥
   Does (works.Writer old) (works.Reader new) = ⊥
   Does (works.Writer old) (works.Writer new) =
-      (IsShared × IsSeatOf old.desk.lock.now new.pass × IsSince old.desk.since.value new.pass) × IsSince old.pass new.pass
+      (IsShared × IsSeatOf old.desk.lock.now new.pass × IsSince old.desk.since.value new.pass)
+      × IsSince old.pass new.pass
       × ((end : Sent) × (new.end ≡ Some end) × HasSent end.cut (own_posts old.pass.pass) (own_posts new.pass.pass))
 
-module _ {M S D : Type 0} (g : Ghosts M Event Reply S) (lock : LockOf S) (left : D → Option (List Connection)) (never_fails : D → Bool) where
+module _ {M S D : Type 0} (g : Ghosts M Event Reply S) (lock : LockOf S) (left : D
+    → Option (List Connection)) (never_fails : D → Bool) where
   -- the work that took the connections of a line had the seat `old`, which is `new` then
   pub record HasRead (failed wanted : Bool) (line : Line D) (old new : SeatOf Event Reply S) : Type 0 where
     pub later : IsLaterSeat lock old new
@@ -56,7 +60,8 @@ module _ {M S D : Type 0} (g : Ghosts M Event Reply S) (lock : LockOf S) (left :
     pub wants : end.wanted ≡ true → wanted ≡ true
     pub rest : Option (List Connection)
     pub received :
-        HasReceived (λ (seat : SeatOf Event Reply S). own_posts seat.pass) (λ (seat : SeatOf Event Reply S). HasEnded g seat.pass) IsSince
+        HasReceived (λ (seat : SeatOf Event Reply S). own_posts seat.pass)
+        (λ (seat : SeatOf Event Reply S). HasEnded g seat.pass) IsSince
         line.side (never_fails line.dial) (left line.dial) rest old new end
 
   -- all works have ended, whose seats were `old` and are `new`; the last is that of the audit

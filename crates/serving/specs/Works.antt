@@ -62,9 +62,11 @@ module _ {R H M S D C I O : Type 0} (lock : LockOf S) where
   abbrev pub IsReaderFor : Line D → SeatOf Event Reply S
       → Task R (LockDesk R H M S) (Dialled D) C (SeatOf Event Reply S) I O → Type 0
   IsReaderFor line seat (works.Reader r) =
-      (r.pass ≡ seat) × (r.desk.lock.now ≡ lock) × (r.desk.since.value ≡ seat) × (r.side ≡ line.side) × (r.arrivals.dial ≡ line.dial)
+      (r.pass ≡ seat) × (r.desk.lock.now ≡ lock) × (r.desk.since.value ≡ seat) × (r.side ≡ line.side)
+      × (r.arrivals.dial ≡ line.dial)
   IsReaderFor line seat (works.Writer w) = ⊥
 
-  abbrev pub IsWriterFor : SeatOf Event Reply S → Task R (LockDesk R H M S) (Dialled D) C (SeatOf Event Reply S) I O → Type 0
+  abbrev pub IsWriterFor : SeatOf Event Reply S → Task R (LockDesk R H M S) (Dialled D) C (SeatOf Event Reply S) I O
+      → Type 0
   IsWriterFor seat (works.Reader r) = ⊥
   IsWriterFor seat (works.Writer w) = (w.pass ≡ seat) × (w.desk.lock.now ≡ lock) × (w.desk.since.value ≡ seat)

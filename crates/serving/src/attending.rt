@@ -1,5 +1,6 @@
 //! Attending to the endpoints that were dialled.
-ghost use Rattle.std.specs.Prelude.{◌≡◌, ◌≢◌, ◌<◌, ◌+◌, ◌*◌, ◌^◌, ◌||◌, [], All, Bool, IfOk, List, OnErr, Option, false, length, true};
+ghost use Rattle.std.specs.Prelude.{◌≡◌, ◌≢◌, ◌<◌, ◌+◌, ◌*◌, ◌^◌, ◌||◌, [], All, Bool, IfOk, List, OnErr, Option};
+ghost use Rattle.std.specs.Prelude.{false, length, true};
 ghost use Rattle.std.specs.Prelude.{ℕ, is_err, vec_capacity};
 ghost use Rattle.cv_io.specs.Connections.{Connection};
 ghost use Rattle.cv_io.specs.Outside.{Rose};
@@ -97,8 +98,8 @@ fn is_cut(end: &Result<AuditEnd, Memory>) -> bool
     matches!(end, Ok(AuditEnd::WriteFault))
 }
 
-/// How a run ended whose audit was written so far: where an endpoint could not be dialled, or a dial failed, or memory was
-/// wanted for a connection, or the audit's work ended for want of it.
+/// How a run ended whose audit was written so far: where an endpoint could not be dialled, or a dial failed, or memory
+/// was wanted for a connection, or the audit's work ended for want of it.
 fn settle(rest: Rest, undialled: bool, failed: bool, wanted: bool, lost: bool) -> Served
     ensures { result ≡ settled rest (undialled || failed) (wanted || lost) }
 {

@@ -2,16 +2,10 @@
 #![tactic(auto)]
 
 #[cfg(test)]
-mod endpoints;
-#[cfg(test)]
-mod lines;
-#[cfg(test)]
 mod locks;
 #[cfg(test)]
 mod loops;
 #[cfg(test)]
 mod outside;
-#[cfg(test)]
-mod runs;
 #[cfg(test)]
 mod works;

@@ -1,9 +1,11 @@
 //! The calls that want memory, once each with ample memory; the forms in memory; the real things.
 use cv_io::{
     Bytes, Clock, Dial, DiskFiles, Duplicate, Endpoint, Failed, FileFault, Files, Links, List,
-    MemSink, MemSource, Sink, Source, Steps, SystemClock, TcpLinks, Text,
+    MemSink, MemSource, Memory, Sink, Source, Steps, SystemClock, TcpLinks, Text,
 };
+use std::alloc::Global;
 use std::fs;
+use std::process::Abort;
 use std::sync::ledger::Ledger;
 use std::test::Fail;
 
@@ -40,24 +42,31 @@ fn calls_that_want_memory(rt: HostRuntime) -> Result<(), Fail> {
     Ok(())
 }
 
-#[test]
-fn texts(rt: HostRuntime) -> Result<(), Fail> {
-    let alloc = rt.alloc();
-    let mut text = Text::from_slice(alloc, b"ab")?;
+/// Adds a letter to a text, and then the text itself.
+fn add(text: &mut Text) -> Result<(), Memory> {
     text.push(b'c')?;
     let more = text.copy()?;
-    text.push_text(&more)?;
-    let printed = format!(in alloc; "{text}")?;
+    text.push_text(&more)
+}
+
+#[test]
+fn texts(rt: HostRuntime) -> Result<(), Fail> {
+    let mut text = Text::from_slice(rt.alloc(), b"ab")?;
+    add(&mut text)?;
+    let printed = format!(in rt.alloc(); "{text}")?;
     assert_eq!(rt; printed.as_str(), "abcabc");
     Ok(())
 }
 
-#[test]
-fn the_outside_in_memory(rt: HostRuntime) -> Result<(), Fail> {
-    let alloc = rt.alloc();
+/// A source of three bytes whose second call fails.
+fn source_of_three(alloc: Global) -> Result<MemSource, Memory> {
     let bytes = Bytes::from_slice(alloc, b"abc")?;
-    let mut source = MemSource::new(bytes, List::from_slice(alloc, &[2])?);
-    let mut sink = MemSink::new(Bytes::new(alloc), List::from_slice(alloc, &[1])?);
+    let fails = List::from_slice(alloc, &[2])?;
+    Ok(MemSource::new(bytes, fails))
+}
+
+/// Two bytes go from a source of three to a sink whose first call fails.
+fn pass_on(rt: &impl Abort, source: &mut MemSource, sink: &mut MemSink) {
     let mut place = [0u8; 2];
     assert_eq!(rt; source.read(&mut place), Ok(2));
     assert_eq!(rt; source.read(&mut place), Err(Failed));
@@ -65,6 +74,14 @@ fn the_outside_in_memory(rt: HostRuntime) -> Result<(), Fail> {
     assert_eq!(rt; sink.write(&place), Ok(2));
     assert_eq!(rt; source.read(&mut place), Ok(1));
     assert_eq!(rt; source.read(&mut place), Ok(0));
+}
+
+#[test]
+fn the_outside_in_memory(rt: HostRuntime) -> Result<(), Fail> {
+    let mut source = source_of_three(rt.alloc())?;
+    let fails = List::from_slice(rt.alloc(), &[1])?;
+    let mut sink = MemSink::new(Bytes::new(rt.alloc()), fails);
+    pass_on(&rt, &mut source, &mut sink);
     assert!(rt; sink.held.as_slice() == b"ab".as_slice());
     Ok(())
 }
@@ -108,19 +125,28 @@ where
     Ok(place[0])
 }
 
+const ADDRESS: &[u8] = b"127.0.0.1:46633";
+
+fn switch_end(alloc: Global) -> Result<Endpoint, Memory> {
+    Ok(Endpoint::Switch {
+        index: 0,
+        listen: Text::from_slice(alloc, ADDRESS)?,
+        rounds: 1,
+    })
+}
+
+fn member_end(alloc: Global) -> Result<Endpoint, Memory> {
+    Ok(Endpoint::Member {
+        index: 0,
+        address: Text::from_slice(alloc, ADDRESS)?,
+        rounds: 1,
+    })
+}
+
 #[test]
 fn a_connection(rt: HostRuntime) -> Result<(), Fail> {
-    let at = Text::from_slice(rt.alloc(), b"127.0.0.1:46633")?;
-    let switch = Endpoint::Switch {
-        index: 0,
-        listen: at.copy()?,
-        rounds: 1,
-    };
-    let member = Endpoint::Member {
-        index: 0,
-        address: at,
-        rounds: 1,
-    };
+    let switch = switch_end(rt.alloc())?;
+    let member = member_end(rt.alloc())?;
     let mut links = TcpLinks::new(&rt, rt.alloc());
     let to = linked(&mut links, &switch)?;
     let from = linked(&mut links, &member)?;

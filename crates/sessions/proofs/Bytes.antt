@@ -1,5 +1,6 @@
 -- Bytes that are read and written piece by piece.
-use Rattle.std.proofs.Common.{◌≡◌, ◌≤◌, ◌+◌, ◌-◌, ℕ, List, [], ◌∷◌, ◌++◌, Option, Some, None, length, take, drop, refl, sym, ap, subst, ◌∙◌, append_assoc, arith, length-drop}
+use Rattle.std.proofs.Common.{◌≡◌, ◌≤◌, ◌+◌, ◌-◌, ℕ, List, [], ◌∷◌, ◌++◌, Option, Some, None, length, take, drop, refl}
+use Rattle.std.proofs.Common.{sym, ap, subst, ◌∙◌, append_assoc, arith, length-drop}
 use Rattle.std.specs.Prelude.{Bool, Result, Ok, Err, IfErr, OnErr, OnOk, true, false}
 use Rattle.std.specs.Result.{is_err}
 use Rattle.std.proofs.Math.Seq.{take-add, take-append-add}
@@ -26,7 +27,12 @@ reads-more (Some left) b c xs ys p q =
 -- one read of the next n
 pub reads-one : (a b : Option (List ℕ)) (n : ℕ) (into : List ℕ) → TakesNext a b n into → Reads a b (take n into)
 reads-one None b n into p = p
-reads-one (Some left) b n into p = (drop n left, sym (take-append-drop n left) ∙ ap (λ z. z ++ drop n left) (sym p.0), p.1)
+reads-one (Some left) b n into p = (
+  drop n left,
+  sym (take-append-drop n left)
+      ∙ ap (λ z. z ++ drop n left) (sym p.0),
+  p.1,
+)
 
 -- nothing was read
 pub reads-same : (a b : Option (List ℕ)) → b ≡ a → Reads a b []
@@ -46,16 +52,19 @@ pub appends-first : (a b c : Option (List ℕ)) (xs : List ℕ) (k n : ℕ) → 
     → AppendsFirst b c n (take (length xs - k) (drop k xs)) → Appends a c (take (k + n) xs)
 appends-first None b c xs k n e f = subst (λ z. AppendsFirst z c n (take (length xs - k) (drop k xs))) e f
 appends-first (Some held) b c xs k n e f =
-    let g : c ≡ Some ((held ++ take k xs) ++ take n (take (length xs - k) (drop k xs))) = subst (λ z. AppendsFirst z c n (take (length xs - k) (drop k xs))) e f in
+    let g : c ≡ Some ((held ++ take k xs) ++ take n (take (length xs - k) (drop k xs))) =
+    subst (λ z. AppendsFirst z c n (take (length xs - k) (drop k xs))) e f in
     g ∙ ap Some (append_assoc held (take k xs) (take n (take (length xs - k) (drop k xs)))
     ∙ ap (λ z. held ++ z) (ap (λ z. take k xs ++ take n z) (rest_is xs k) ∙ sym (take-add k n xs)))
 
 -- all is written
-pub appends-all : (a b : Option (List ℕ)) (xs : List ℕ) (k : ℕ) → length xs ≤ k → Appends a b (take k xs) → Appends a b xs
+pub appends-all : (a b : Option (List ℕ)) (xs : List ℕ) (k : ℕ) → length xs ≤ k → Appends a b (take k xs)
+    → Appends a b xs
 appends-all a b xs k most e = subst (Appends a b) (take_all k xs most) e
 
 -- some of the first are written, and a write of more failed
-pub appends-some : (a b c : Option (List ℕ)) (xs : List ℕ) (k : ℕ) → Appends a b (take k xs) → c ≡ b → AppendsSome a c xs
+pub appends-some : (a b c : Option (List ℕ)) (xs : List ℕ) (k : ℕ) → Appends a b (take k xs) → c ≡ b
+    → AppendsSome a c xs
 appends-some a b c xs k p e = (k, subst (λ z. Appends a z (take k xs)) (sym e) p)
 
 -- pieces one after the other
@@ -66,20 +75,24 @@ appends-more (Some held) b c xs ys p q =
     r ∙ ap Some (append_assoc held xs ys)
 
 -- a piece, and some of the first bytes of the next
-pub appends-part : (a b c : Option (List ℕ)) (xs ys : List ℕ) → Appends a b xs → AppendsSome b c ys → AppendsSome a c (xs ++ ys)
+pub appends-part : (a b c : Option (List ℕ)) (xs ys : List ℕ) → Appends a b xs → AppendsSome b c ys
+    → AppendsSome a c (xs ++ ys)
 appends-part a b c xs ys p q =
     (length xs + q.0, subst (Appends a c) (sym (take-append-add xs ys q.0)) (appends-more a b c xs (take q.0 ys) p q.1))
 
 -- one more part
-pub joined-more : (parts : List (List ℕ)) (part rest : List ℕ) → joined parts ++ (part ++ rest) ≡ joined (parts ++ part ∷ []) ++ rest
+pub joined-more : (parts : List (List ℕ)) (part rest : List ℕ)
+    → joined parts ++ (part ++ rest) ≡ joined (parts ++ part ∷ []) ++ rest
 joined-more parts part rest =
     sym (append_assoc (joined parts) part rest)
-    ∙ ap (λ z. z ++ rest) (ap (λ z. joined parts ++ z) (sym (append-nil part)) ∙ sym (flat_map-append (λ (x : List ℕ). x) parts (part ∷ [])))
+    ∙ ap (λ z. z ++ rest) (ap (λ z. joined parts ++ z) (sym (append-nil part))
+    ∙ sym (flat_map-append (λ (x : List ℕ). x) parts (part ∷ [])))
 
 -- what shows a short length begins with no frame
 pub short-begins : (bytes : List ℕ) → IsShort bytes → BeginsWithFrame bytes → ⊥
 short-begins bytes s b =
-    let same : length_field bytes ≡ length_field b.0 = ap length_field b.3 ∙ length_field-append b.0 b.1 (omega (arith, b.2.header)) in
+    let same : length_field bytes ≡ length_field b.0 = ap length_field b.3
+    ∙ length_field-append b.0 b.1 (omega (arith, b.2.header)) in
     absurd (omega (arith, s.1, b.2.header, b.2.whole, same))
 
 -- a fact holds whether a call failed or not
@@ -104,7 +117,8 @@ sink-failed f m g w x v s t p q r h = record {
   want = λ is. subst (λ z. Rose z v) q (h.want (r ∙ is));
 }
 
-pub source-failed : (kept : List ℕ) (f m g : ℕ) (w v : Bool) → m ≡ f → v ≡ w → SourceFailed kept m g v → SourceFailed kept f g w
+pub source-failed : (kept : List ℕ) (f m g : ℕ) (w v : Bool) → m ≡ f → v ≡ w → SourceFailed kept m g v
+    → SourceFailed kept f g w
 source-failed kept f m g w v p q h = record {
   unfinished = h.unfinished;
   rose = subst (λ z. Rose z g) p h.rose;

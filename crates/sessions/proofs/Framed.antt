@@ -13,7 +13,8 @@ use Rattle.sessions.specs.Streams.{Reads, joined}
 use Rattle.sessions.proofs.Bytes.{joined-more, reads-more, reads-none, source-failed}
 
 -- bytes that are read go on from what was left
-goes_on : (old read more taken mid left : List ℕ) → old ++ read ≡ taken ++ mid → mid ++ more ≡ left → old ++ (read ++ more) ≡ taken ++ left
+goes_on : (old read more taken mid left : List ℕ) → old ++ read ≡ taken ++ mid → mid ++ more ≡ left
+    → old ++ (read ++ more) ≡ taken ++ left
 goes_on old read more taken mid left p q =
     sym (append_assoc old read more) ∙ (ap (λ z. z ++ more) p ∙ (append_assoc taken mid more ∙ ap (λ z. taken ++ z) q))
 
@@ -29,7 +30,8 @@ module _ (a : Option (List ℕ)) (old : List ℕ) (s : Session) (p : List Post) 
     posted = sym (append-nil p);
   }
 
-module _ (a b c : Option (List ℕ)) (old mid new : List ℕ) (s : Session) (p q r : List Post) (h : HasPosted a b old s p q mid) where
+module _ (a b c : Option (List ℕ)) (old mid new : List ℕ) (s : Session) (p q r : List Post)
+    (h : HasPosted a b old s p q mid) where
   -- one more frame is posted
   pub posted-more : (f : List ℕ) → HasNext b c mid new f → r ≡ q ++ message s f ∷ [] → HasPosted a c old s p r new
   posted-more f n e = record {
@@ -38,7 +40,9 @@ module _ (a b c : Option (List ℕ)) (old mid new : List ℕ) (s : Session) (p q
     frames = h.frames ++ f ∷ [];
     whole = All-push IsFrame h.frames f h.whole n.whole;
     parts = goes_on old h.read n.read (joined h.frames) mid (f ++ new) h.parts n.parts ∙ joined-more h.frames f new;
-    posted = e ∙ (ap (λ z. z ++ message s f ∷ []) h.posted ∙ (append_assoc p (messages s h.frames) (message s f ∷ []) ∙ ap (λ z. p ++ z) (sym (map-append (message s) h.frames (f ∷ [])))));
+    posted = e ∙ (ap (λ z. z ++ message s f ∷ []) h.posted
+        ∙ (append_assoc p (messages s h.frames) (message s f ∷ [])
+        ∙ ap (λ z. p ++ z) (sym (map-append (message s) h.frames (f ∷ [])))));
   }
 
   -- one more frame is read
@@ -72,9 +76,15 @@ module _ (a b c : Option (List ℕ)) (old mid new : List ℕ) (s : Session) (p q
   posted-kept k e = subst (HasPosted a c old s p r) (sym k.parts) (posted-read k.read k.next e)
 
 -- there is no next frame
-pub posted-stopped : (a b c : Option (List ℕ)) (old mid new : List ℕ) (s : Session) (p q : List Post) (f m g : ℕ) (w v : Bool) (stop : Stop)
-    → HasPosted a b old s p q mid → m ≡ f → v ≡ w → HasStopped b c mid new m g v stop → HasHeard a c old s p q new f g w stop
-posted-stopped a b c old mid new s p q f m g w v stops.Ended h i j n = (posted-kept a b c old mid new s p q q h n.0 refl, n.1)
-posted-stopped a b c old mid new s p q f m g w v (stops.Short len) h i j n = (posted-kept a b c old mid new s p q q h n.0 refl, n.1)
-posted-stopped a b c old mid new s p q f m g w v stops.ReadFault h i j n = (posted-kept a b c old mid new s p q q h n.0 refl, source-failed new f m g w v i j n.1)
-posted-stopped a b c old mid new s p q f m g w v stops.Memory h i j n = (mid ++ n.0, posted-read a b c old mid new s p q q h n.0 n.1 refl)
+pub posted-stopped : (a b c : Option (List ℕ)) (old mid new : List ℕ) (s : Session) (p q : List Post) (f m g : ℕ)
+    (w v : Bool) (stop : Stop)
+    → HasPosted a b old s p q mid → m ≡ f → v ≡ w → HasStopped b c mid new m g v stop
+    → HasHeard a c old s p q new f g w stop
+posted-stopped a b c old mid new s p q f m g w v stops.Ended h i j n =
+    (posted-kept a b c old mid new s p q q h n.0 refl, n.1)
+posted-stopped a b c old mid new s p q f m g w v (stops.Short len) h i j n =
+    (posted-kept a b c old mid new s p q q h n.0 refl, n.1)
+posted-stopped a b c old mid new s p q f m g w v stops.ReadFault h i j n =
+    (posted-kept a b c old mid new s p q q h n.0 refl, source-failed new f m g w v i j n.1)
+posted-stopped a b c old mid new s p q f m g w v stops.Memory h i j n =
+    (mid ++ n.0, posted-read a b c old mid new s p q q h n.0 n.1 refl)

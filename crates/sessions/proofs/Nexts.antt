@@ -11,9 +11,12 @@ use Rattle.sessions.proofs.Bytes.{reads-more, reads-one}
 
 module _ (a b : Option (List ℕ)) (old mid read : List ℕ) (reads : Reads a b read) (kept : mid ≡ old ++ read) where
   -- nothing more is read
-  pub stops-read : (c : Option (List ℕ)) (f m g : ℕ) (w v : Bool) (stop : Stop) → IsUnfinished mid → m ≡ f → v ≡ w → IsReadStop b c m g v stop → HasStopped a c old mid f g w stop
-  stops-read c f m g w v stops.Ended u e i h =
-      (record { read = read; next = subst (λ z. Reads a z read) (sym h.0) reads; parts = kept }, record { unfinished = u; end = h.1 })
+  pub stops-read : (c : Option (List ℕ)) (f m g : ℕ) (w v : Bool) (stop : Stop) → IsUnfinished mid → m ≡ f → v ≡ w
+      → IsReadStop b c m g v stop → HasStopped a c old mid f g w stop
+  stops-read c f m g w v stops.Ended u e i h = (
+    record { read = read; next = subst (λ z. Reads a z read) (sym h.0) reads; parts = kept },
+    record { unfinished = u; end = h.1 },
+  )
   stops-read c f m g w v (stops.Short len) u e i h = absurd h
   stops-read c f m g w v stops.ReadFault u e i h = (
     record { read = read; next = subst (λ z. Reads a z read) (sym h.0) reads; parts = kept },
@@ -22,7 +25,8 @@ module _ (a b : Option (List ℕ)) (old mid read : List ℕ) (reads : Reads a b 
   stops-read c f m g w v stops.Memory u e i h = absurd h
 
   -- more is read
-  pub reads-next : (c : Option (List ℕ)) (n : ℕ) (into : List ℕ) → TakesNext b c n into → Reads a c (read ++ take n into)
+  pub reads-next : (c : Option (List ℕ)) (n : ℕ) (into : List ℕ) → TakesNext b c n into
+      → Reads a c (read ++ take n into)
   reads-next c n into h = reads-more a b c read (take n into) reads (reads-one b c n into h)
 
   -- and kept

@@ -15,15 +15,21 @@ use Rattle.sessions.proofs.Bytes.{joined-more, reads-more}
 pub to-switch-more : (passed : List (List ℕ)) (f : List ℕ) → to_switch passed ++ echo f ≡ to_switch (passed ++ f ∷ [])
 to-switch-more passed f =
     append_assoc (hello_message ++ features_request) (flat_map echo passed) (echo f)
-    ∙ ap (λ z. (hello_message ++ features_request) ++ z) (ap (λ z. flat_map echo passed ++ z) (sym (append-nil (echo f))) ∙ sym (flat_map-append echo passed (f ∷ [])))
+    ∙ ap (λ z. (hello_message ++ features_request) ++ z)
+    (ap (λ z. flat_map echo passed ++ z) (sym (append-nil (echo f))) ∙ sym (flat_map-append echo passed (f ∷ [])))
 
 -- bytes that are read go on from what was left, behind two parts
-goes_on : (old read more hello taken mid left : List ℕ) → old ++ read ≡ hello ++ (taken ++ mid) → mid ++ more ≡ left → old ++ (read ++ more) ≡ hello ++ (taken ++ left)
+goes_on : (old read more hello taken mid left : List ℕ) → old ++ read ≡ hello ++ (taken ++ mid) → mid ++ more ≡ left
+    → old ++ (read ++ more) ≡ hello ++ (taken ++ left)
 goes_on old read more hello taken mid left p q =
-    sym (append_assoc old read more) ∙ (ap (λ z. z ++ more) p ∙ (append_assoc hello (taken ++ mid) more ∙ ap (λ z. hello ++ z) (append_assoc taken mid more ∙ ap (λ z. taken ++ z) q)))
+    sym (append_assoc old read more)
+    ∙ (ap (λ z. z ++ more) p
+    ∙ (append_assoc hello (taken ++ mid) more
+    ∙ ap (λ z. hello ++ z) (append_assoc taken mid more ∙ ap (λ z. taken ++ z) q)))
 
 -- the HELLO came
-pub passed-none : (a b : Option (List ℕ)) (old new f : List ℕ) → HasNext a b old new f → is_hello f ≡ true → HasPassed a b old [] new
+pub passed-none : (a b : Option (List ℕ)) (old new f : List ℕ) → HasNext a b old new f → is_hello f ≡ true
+    → HasPassed a b old [] new
 passed-none a b old new f n is = record {
   read = n.read;
   next = n.next;
@@ -35,36 +41,38 @@ passed-none a b old new f n is = record {
   parts = n.parts;
 }
 
-module _ (a b c : Option (List ℕ)) (old mid new : List ℕ) (passed : List (List ℕ)) (h : HasPassed a b old passed mid) where
-  -- more is read
-  pub passed-read : (read left : List ℕ) → Reads b c read → mid ++ read ≡ left → HasPassed a c old passed left
-  passed-read read left n e = record {
-    read = h.read ++ read;
-    next = reads-more a b c h.read read h.next n;
-    hello = h.hello;
-    first = h.first;
-    greets = h.greets;
-    whole = h.whole;
-    others = h.others;
-    parts = goes_on old h.read read h.hello (joined passed) mid left h.parts e;
-  }
+module _ (a b c : Option (List ℕ)) (old mid new : List ℕ) (passed : List (List ℕ)) (h : HasPassed a b old passed mid)
+  where
+    -- more is read
+    pub passed-read : (read left : List ℕ) → Reads b c read → mid ++ read ≡ left → HasPassed a c old passed left
+    passed-read read left n e = record {
+      read = h.read ++ read;
+      next = reads-more a b c h.read read h.next n;
+      hello = h.hello;
+      first = h.first;
+      greets = h.greets;
+      whole = h.whole;
+      others = h.others;
+      parts = goes_on old h.read read h.hello (joined passed) mid left h.parts e;
+    }
 
-  pub passed-kept : HasKept b c mid new → HasPassed a c old passed new
-  passed-kept k = passed-read k.read new k.next (sym k.parts)
+    pub passed-kept : HasKept b c mid new → HasPassed a c old passed new
+    passed-kept k = passed-read k.read new k.next (sym k.parts)
 
-  -- the next frame is the last
-  pub passed-reply : (f : List ℕ) → HasNext b c mid new f → HasPassed a c old passed (f ++ new)
-  passed-reply f n = passed-read n.read (f ++ new) n.next n.parts
+    -- the next frame is the last
+    pub passed-reply : (f : List ℕ) → HasNext b c mid new f → HasPassed a c old passed (f ++ new)
+    passed-reply f n = passed-read n.read (f ++ new) n.next n.parts
 
-  -- the next frame is passed over
-  pub passed-more : (f : List ℕ) → HasNext b c mid new f → is_features f ≡ false → HasPassed a c old (passed ++ f ∷ []) new
-  passed-more f n other = let k = passed-reply f n in record {
-    read = k.read;
-    next = k.next;
-    hello = k.hello;
-    first = k.first;
-    greets = k.greets;
-    whole = All-push IsFrame passed f h.whole n.whole;
-    others = All-push (λ (frame : List ℕ). is_features frame ≡ false) passed f h.others other;
-    parts = k.parts ∙ ap (λ z. k.hello ++ z) (joined-more passed f new);
-  }
+    -- the next frame is passed over
+    pub passed-more : (f : List ℕ) → HasNext b c mid new f → is_features f ≡ false
+        → HasPassed a c old (passed ++ f ∷ []) new
+    passed-more f n other = let k = passed-reply f n in record {
+      read = k.read;
+      next = k.next;
+      hello = k.hello;
+      first = k.first;
+      greets = k.greets;
+      whole = All-push IsFrame passed f h.whole n.whole;
+      others = All-push (λ (frame : List ℕ). is_features frame ≡ false) passed f h.others other;
+      parts = k.parts ∙ ap (λ z. k.hello ++ z) (joined-more passed f new);
+    }

@@ -1,5 +1,6 @@
 -- Messages that are taken and written one by one.
-use Rattle.std.proofs.Common.{◌≡◌, ◌≤◌, ℕ, List, [], ◌∷◌, ◌++◌, Option, take, refl, sym, ap, subst, ◌∙◌, append_assoc, inl, inr, le_trans}
+use Rattle.std.proofs.Common.{◌≡◌, ◌≤◌, ℕ, List, [], ◌∷◌, ◌++◌, Option, take, refl, sym, ap, subst, ◌∙◌, append_assoc}
+use Rattle.std.proofs.Common.{inl, inr, le_trans}
 use Rattle.std.proofs.lemmas.List.{append-nil}
 use Rattle.std.proofs.lemmas.List.Concat.{flat_map-append}
 use Rattle.std.proofs.lemmas.List.Elements.{All-nil, All-push, All-weaker}
@@ -11,15 +12,18 @@ use Rattle.sessions.specs.Writing.{HasWritten, HasWrittenUpTo, IsWriters, MayTel
 use Rattle.sessions.proofs.Bytes.{appends-more, appends-none}
 
 -- one more taking
-taken-more : (posts : List Post) (s : Session) (m : List ℕ) → taken_in (posts ++ taking s m ∷ []) ≡ taken_in posts ++ m ∷ []
+taken-more : (posts : List Post) (s : Session) (m : List ℕ)
+    → taken_in (posts ++ taking s m ∷ []) ≡ taken_in posts ++ m ∷ []
 taken-more posts s m = flat_map-append (λ (post : Post). message_of post.event post.reply) posts (taking s m ∷ [])
 
 -- a second takes nothing
 taken-second : (posts : List Post) (t : ℕ) → taken_in (posts ++ second_told t ∷ []) ≡ taken_in posts
-taken-second posts t = flat_map-append (λ (post : Post). message_of post.event post.reply) posts (second_told t ∷ []) ∙ append-nil (taken_in posts)
+taken-second posts t = flat_map-append (λ (post : Post). message_of post.event post.reply) posts (second_told t ∷ [])
+    ∙ append-nil (taken_in posts)
 
 joined-push : (parts : List (List ℕ)) (part : List ℕ) → joined (parts ++ part ∷ []) ≡ joined parts ++ part
-joined-push parts part = flat_map-append (λ (x : List ℕ). x) parts (part ∷ []) ∙ ap (λ z. joined parts ++ z) (append-nil part)
+joined-push parts part = flat_map-append (λ (x : List ℕ). x) parts (part ∷ [])
+    ∙ ap (λ z. joined parts ++ z) (append-nil part)
 
 -- a writer's posts up to a second are its posts up to a later one
 later : (s : Session) (most now : ℕ) → most ≤ now → (post : Post) → IsWriters s most post → IsWriters s now post
@@ -43,7 +47,8 @@ module _ (s : Session) (most : ℕ) (p q r : List Post) (a b c : Option (List �
     more = h.more ++ taking s m ∷ [];
     each = All-push (IsWriters s most) h.more (taking s m) h.each (inl (m, refl));
     posted = e ∙ (ap (λ z. z ++ taking s m ∷ []) h.posted ∙ append_assoc p h.more (taking s m ∷ []));
-    written = subst (Appends a c) (sym (ap joined (taken-more h.more s m) ∙ joined-push (taken_in h.more) m)) (appends-more a b c (joined (taken_in h.more)) m h.written w);
+    written = subst (Appends a c) (sym (ap joined (taken-more h.more s m) ∙ joined-push (taken_in h.more) m))
+        (appends-more a b c (joined (taken_in h.more)) m h.written w);
   }
 
   -- a message is taken, of which some is written
@@ -70,7 +75,8 @@ module _ (s : Session) (p : List Post) (a b : Option (List ℕ)) where
   }
 
   -- a second may be told
-  pub written-told : (most now : ℕ) (q r : List Post) → most ≤ now → HasWritten s most p a b q → MayTell now q r → HasWritten s now p a b r
+  pub written-told : (most now : ℕ) (q r : List Post) → most ≤ now → HasWritten s most p a b q → MayTell now q r
+      → HasWritten s now p a b r
   written-told most now q r le h (inl e) = subst (HasWritten s now p a b) (sym e) (written-later most now q le h)
   written-told most now q r le h (inr t) = let k = written-later most now q le h in record {
     more = k.more ++ second_told t.0 ∷ [];

@@ -1,5 +1,6 @@
 -- The messages of an opening (sections 5.1, 5.3.1 and 5.5.1 to 5.5.3 of the OpenFlow Switch Specification 1.0.0).
-use Rattle.std.specs.Prelude.{ℕ, Bool, ◌==◌, ◌&&◌, List, [], ◌∷◌, ◌++◌, Option, Some, None, drop, length, nat_le, nat_lt, slice_index, slice_set, if◌then◌else◌}
+use Rattle.std.specs.Prelude.{ℕ, Bool, ◌==◌, ◌&&◌, List, [], ◌∷◌, ◌++◌, Option, Some, None, drop, length, nat_le}
+use Rattle.std.specs.Prelude.{nat_lt, slice_index, slice_set, if◌then◌else◌}
 use Rattle.std.specs.List.{flat_map, position_or_len}
 use Rattle.byteorder.specs.Endian.{big_number}
 
@@ -38,7 +39,8 @@ matches_arp reply = nat_le 128 (slice_index reply 27)
 -- the place of the first datapath id that is this one
 abbrev pub place_of : ℕ → List ℕ → Option ℕ
 place_of dpid dpids =
-    if nat_lt (position_or_len (λ d. d == dpid) dpids) (length dpids) then Some (position_or_len (λ d. d == dpid) dpids) else None
+    if nat_lt (position_or_len (λ d. d == dpid) dpids) (length dpids) then Some (position_or_len (λ d. d == dpid) dpids)
+    else None
 
 -- what a switch is written that sent these frames after its HELLO
 abbrev pub to_switch : List (List ℕ) → List ℕ

@@ -24,6 +24,7 @@ module _ (before after : Option (List ℕ)) (old new : List ℕ) where
   IsNoFirst faults risen is_reliable ends.Ended = HasKept before after old new × SourceEnded after new
   IsNoFirst faults risen is_reliable (ends.Short length) = HasKept before after old new × IsCutShort new length
   IsNoFirst faults risen is_reliable ends.NoHello = IsNoGreeting before after old new
-  IsNoFirst faults risen is_reliable ends.ReadFault = HasKept before after old new × SourceFailed new faults risen is_reliable
+  IsNoFirst faults risen is_reliable ends.ReadFault = HasKept before after old new
+      × SourceFailed new faults risen is_reliable
   IsNoFirst faults risen is_reliable ends.Memory = ⊤
   IsNoFirst faults risen is_reliable _ = ⊥

@@ -25,10 +25,13 @@ IsKeptStop kept stops.Memory = ⊤
 abbrev pub IsReadStop : (before after : Option (List ℕ)) (faults risen : ℕ) → Bool → Stop → Type 0
 IsReadStop before after faults risen is_reliable stops.Ended = (after ≡ before) × IsAtEnd after
 IsReadStop before after faults risen is_reliable (stops.Short length) = ⊥
-IsReadStop before after faults risen is_reliable stops.ReadFault = (after ≡ before) × Rose faults risen × (is_reliable ≡ false)
+IsReadStop before after faults risen is_reliable stops.ReadFault = (after ≡ before) × Rose faults risen
+    × (is_reliable ≡ false)
 IsReadStop before after faults risen is_reliable stops.Memory = ⊥
 
 -- why bytes are not sent
-abbrev pub IsSendEnd : (held now : Option (List ℕ)) (bytes : List ℕ) (faults risen wants wanted : ℕ) → Bool → OpenEnd → Type 0
-IsSendEnd held now bytes faults risen wants wanted is_reliable ends.WriteFault = AppendsSome held now bytes × SinkFailed faults risen wants wanted is_reliable
+abbrev pub IsSendEnd : (held now : Option (List ℕ)) (bytes : List ℕ) (faults risen wants wanted : ℕ) → Bool → OpenEnd
+    → Type 0
+IsSendEnd held now bytes faults risen wants wanted is_reliable ends.WriteFault = AppendsSome held now bytes
+    × SinkFailed faults risen wants wanted is_reliable
 IsSendEnd held now bytes faults risen wants wanted is_reliable _ = ⊥

@@ -6,7 +6,8 @@ use Rattle.sessions.specs.declared.ends.OpenEnd.{OpenEnd}
 use Rattle.sessions.specs.declared.ends.OpenEnd.TheVariants as ends
 use Rattle.sessions.specs.Greetings.{dpid_of, hello_message, is_features, is_hello, matches_arp, place_of, to_switch}
 use Rattle.sessions.specs.Reading.{HasKept, HasNext}
-use Rattle.sessions.specs.Streams.{Appends, AppendsSome, IsCutShort, Reads, SinkFailed, SourceEnded, SourceFailed, joined}
+use Rattle.sessions.specs.Streams.{Appends, AppendsSome, IsCutShort, Reads, SinkFailed, SourceEnded, SourceFailed}
+use Rattle.sessions.specs.Streams.{joined}
 
 module _ (before after : Option (List ℕ)) (old new : List ℕ) where
   -- the first frame is a HELLO, and the bytes behind it are kept
@@ -33,13 +34,15 @@ module _ (before after : Option (List ℕ)) (old new : List ℕ) where
   IsNotOpened faults risen is_reliable ends.NoHello = IsNoGreeting
   IsNotOpened faults risen is_reliable ends.NoFeatures = ⊥
   IsNotOpened faults risen is_reliable (ends.Unknown dpid) = ⊥
-  IsNotOpened faults risen is_reliable ends.ReadFault = HasKept before after old new × SourceFailed new faults risen is_reliable
+  IsNotOpened faults risen is_reliable ends.ReadFault = HasKept before after old new
+      × SourceFailed new faults risen is_reliable
   IsNotOpened faults risen is_reliable ends.WriteFault = IsUnread
   IsNotOpened faults risen is_reliable ends.Memory = ⊤
 
 -- a controller is written a HELLO, whatever it sends
 abbrev pub IsNotGreeted : (held now : Option (List ℕ)) (faults risen wants wanted : ℕ) → Bool → OpenEnd → Type 0
-IsNotGreeted held now faults risen wants wanted is_reliable ends.WriteFault = AppendsSome held now hello_message × SinkFailed faults risen wants wanted is_reliable
+IsNotGreeted held now faults risen wants wanted is_reliable ends.WriteFault = AppendsSome held now hello_message
+    × SinkFailed faults risen wants wanted is_reliable
 IsNotGreeted held now faults risen wants wanted is_reliable ends.Memory = AppendsSome held now hello_message
 IsNotGreeted held now faults risen wants wanted is_reliable _ = Appends held now hello_message
 
@@ -56,7 +59,8 @@ module _ (before after : Option (List ℕ)) (old : List ℕ) where
     pub parts : old ++ read ≡ hello ++ (joined passed ++ left)
 
 module _ (before after : Option (List ℕ)) (old new : List ℕ) (held now : Option (List ℕ)) where
-  -- the frame tells the switch's features, behind a HELLO and fewer than 64 others, of which the ECHO_REQUESTs are answered; the bytes behind it are kept
+  -- the frame tells the switch's features, behind a HELLO and fewer than 64 others, of which the ECHO_REQUESTs are
+  -- answered; the bytes behind it are kept
   pub record HasFeatures (reply : List ℕ) : Type 0 where
     pub passed : List (List ℕ)
     pub came : HasPassed before after old passed (reply ++ new)
@@ -104,7 +108,8 @@ module _ (before after : Option (List ℕ)) (old new : List ℕ) (held now : Opt
       ⊎ ((passed : List (List ℕ)) × HasPassed before after old passed new × AppendsSome held now (to_switch passed))
 
   -- why a switch is not opened: of a source and a sink whose faults were so many
-  module _ (dpids : List ℕ) (faults risen : ℕ) (is_reliable : Bool) (sink_faults sink_risen wants wanted : ℕ) (is_sound : Bool) where
+  module _ (dpids : List ℕ) (faults risen : ℕ) (is_reliable : Bool) (sink_faults sink_risen wants wanted : ℕ)
+      (is_sound : Bool) where
     abbrev pub IsNoSwitch : OpenEnd → Type 0
     IsNoSwitch ends.Ended = (IsBeginning ⊎ IsWaiting) × SourceEnded after new
     IsNoSwitch (ends.Short length) = (IsBeginning ⊎ IsWaiting) × IsCutShort new length

@@ -59,7 +59,8 @@ module _ (before after : Option (List ℕ)) (old : List ℕ) (session : Session)
   abbrev pub HasHeard : (now : List Post) (left : List ℕ) (faults risen : ℕ) → Bool → Stop → Type 0
   HasHeard now left faults risen is_reliable stops.Ended = HasPosted now left × SourceEnded after left
   HasHeard now left faults risen is_reliable (stops.Short length) = HasPosted now left × IsCutShort left length
-  HasHeard now left faults risen is_reliable stops.ReadFault = HasPosted now left × SourceFailed left faults risen is_reliable
+  HasHeard now left faults risen is_reliable stops.ReadFault = HasPosted now left
+      × SourceFailed left faults risen is_reliable
   HasHeard now left faults risen is_reliable stops.Memory = (rest : List ℕ) × HasPosted now rest
 
   -- every frame is posted, and then that the session went
@@ -83,7 +84,8 @@ module _ (before after : Option (List ℕ)) (old : List ℕ) (session : Session)
     pub posted : (now ≡ heard) ⊎ (now ≡ heard ++ going session ∷ [])
 
 -- why a reader ended, of a source whose faults were so many
-abbrev pub IsReadEnd : (after : Option (List ℕ)) (left : List ℕ) (faults risen : ℕ) (is_reliable : Bool) → ReadEnd → Type 0
+abbrev pub IsReadEnd : (after : Option (List ℕ)) (left : List ℕ) (faults risen : ℕ) (is_reliable : Bool) → ReadEnd
+    → Type 0
 IsReadEnd after left faults risen is_reliable ends.Ended = SourceEnded after left
 IsReadEnd after left faults risen is_reliable (ends.Short length) = IsCutShort left length
 IsReadEnd after left faults risen is_reliable ends.ReadFault = SourceFailed left faults risen is_reliable

@@ -14,7 +14,8 @@ echo_request = 1 ∷ 2 ∷ 0 ∷ 10 ∷ 0 ∷ 0 ∷ 0 ∷ 9 ∷ 0xaa ∷ 0xbb �
 abbrev pub AGreetingIsWritten : Type 0
 AGreetingIsWritten =
     to_switch (hello_message ∷ echo_request ∷ [])
-    ≡ (1 ∷ 0 ∷ 0 ∷ 8 ∷ 0 ∷ 0 ∷ 0 ∷ 0 ∷ 1 ∷ 5 ∷ 0 ∷ 8 ∷ 0 ∷ 0 ∷ 0 ∷ 0 ∷ []) ++ 1 ∷ 3 ∷ 0 ∷ 10 ∷ 0 ∷ 0 ∷ 0 ∷ 9 ∷ 0xaa ∷ 0xbb ∷ []
+    ≡ (1 ∷ 0 ∷ 0 ∷ 8 ∷ 0 ∷ 0 ∷ 0 ∷ 0 ∷ 1 ∷ 5 ∷ 0 ∷ 8 ∷ 0 ∷ 0 ∷ 0 ∷ 0 ∷ [])
+    ++ 1 ∷ 3 ∷ 0 ∷ 10 ∷ 0 ∷ 0 ∷ 0 ∷ 9 ∷ 0xaa ∷ 0xbb ∷ []
 
 -- the FEATURES_REPLY of datapath id 0x0102, with capabilities 0x87, of no ports
 abbrev pub features_reply : List ℕ
@@ -35,4 +36,5 @@ first_round = record { who = Member 0; round = 1 }
 -- of two takings with a second between them, both messages were taken
 abbrev pub AnswersAreCounted : Type 0
 AnswersAreCounted =
-    taken_in (taking first_round (7 ∷ []) ∷ second_told 5 ∷ taking first_round (8 ∷ 9 ∷ []) ∷ []) ≡ (7 ∷ []) ∷ (8 ∷ 9 ∷ []) ∷ []
+    taken_in (taking first_round (7 ∷ []) ∷ second_told 5 ∷ taking first_round (8 ∷ 9 ∷ []) ∷ [])
+    ≡ (7 ∷ []) ∷ (8 ∷ 9 ∷ []) ∷ []

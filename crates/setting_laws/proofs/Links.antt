@@ -150,7 +150,8 @@ module _ (plan : TopologyPlan) (numbers : HaveNumbers plan.switches) (fault : Fa
         (λ q l e. led v l (led_by plan v q l (peer_of plan v q.port) refl e)) x.ports
 
     pub leads : (v : ℕ)
-        → AllByRecursion (LeadsToParted (record { tables = tables; switches = switches plan exprs seen })) (links plan v)
+        → AllByRecursion (LeadsToParted (record { tables = tables; switches = switches plan exprs seen }))
+        (links plan v)
     leads v =
         subst (AllByRecursion (LeadsToParted (record { tables = tables; switches = switches plan exprs seen })))
         (sym (links_are plan exprs seen v ∙ ap (λ (o : Option SwitchOf). switch_links o) (switch_at plan exprs seen v)))
@@ -165,7 +166,8 @@ pub contained : {A : Type 0} (x y : A) (xs : List A) → Contains xs y → Conta
 contained x y xs (k, lt, is) = (suc k, omega (arith, lt), is)
 
 module _ (v : ℕ) where
-  own_next : (all : List Place) (j : Joint) (js : List Joint) (b : Bool) → (j.0.0 == v) ≡ b → Contains all (place_of j.0)
+  own_next : (all : List Place) (j : Joint) (js : List Joint) (b : Bool) → (j.0.0 == v) ≡ b
+      → Contains all (place_of j.0)
       → AllByRecursion (λ (p : ℕ). Contains all (record { v = v; port = p })) (map (λ (j : Joint). j.0.1) js)
       → AllByRecursion (λ (p : ℕ). Contains all (record { v = v; port = p }))
       (map (λ (j : Joint). j.0.1) (if b then j ∷ js else js))

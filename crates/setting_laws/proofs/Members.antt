@@ -1,5 +1,6 @@
 -- The setting changes with what one member keeps.
-use Rattle.std.proofs.Common.{◌≡◌, ◌≢◌, ◌∙◌, ℕ, zero, suc, ◌+◌, ◌==◌, Bool, true, false, List, [], ◌∷◌, map, Option, Some}
+use Rattle.std.proofs.Common.{◌≡◌, ◌≢◌, ◌∙◌, ℕ, zero, suc, ◌+◌, ◌==◌, Bool, true, false, List, [], ◌∷◌, map, Option}
+use Rattle.std.proofs.Common.{Some}
 use Rattle.std.proofs.Common.{None, refl, sym, ap, ap₂, subst, eqb-true, eq-eqb}
 use Rattle.std.specs.Prelude.{IsPermutation, slice_get, zip}
 use Rattle.std.specs.List.{enumerate_from}
@@ -129,7 +130,8 @@ module _ (p : PolicyOf) (s t : State) (sound : AreSoundTables p s) (after : AreS
       others = λ u x ne at.
           let w = switch_is (plan p) s.exprs (seen p) u x at in
           subst
-          (λ (y : VirtualOf). EachMember (λ j. table_rules (ports_of x) (new j) ≡ table_rules (ports_of x) (own j)) y.expr)
+          (λ (y : VirtualOf). EachMember (λ j. table_rules (ports_of x) (new j) ≡ table_rules (ports_of x) (own j))
+          y.expr)
           w.is
           (each_weaker (IsMemberAt p.members u)
           (λ j. table_rules (ports_of x) (new j) ≡ table_rules (ports_of x) (own j)) (elsewhere (ports_of x) u ne)

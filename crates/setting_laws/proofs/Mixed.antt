@@ -143,7 +143,8 @@ mixtures_turn ready change taken p h s t sound after i m x y there was is delta 
     let long : length t.members ≡ length s.members = after.all_members ∙ sym sound.all_members in
     let first = mixtures_sound p s t sound after i in
     let second = mixtures_sound p s t sound after (i + 1) in
-    let r : RulesChange p i (mixed i s t) (mixed (i + 1) s t) (next_change p s t long i m x y there was is) s.switches delta =
+    let r : RulesChange p i (mixed i s t) (mixed (i + 1) s t) (next_change p s t long i m x y there was is) s.switches
+    delta =
     record { member = turn.member; rules = turn.rules } in
     record {
       good = (ready p h (mixed i s t) first).good;

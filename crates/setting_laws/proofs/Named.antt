@@ -118,7 +118,8 @@ module _ (v : ℕ) where
           → AllByRecursion Q
           (cons_option (if b then Some (name_of (k, a)) else None) (filter_map (name_at v) (enumerate_from (k + 1) bs)))
           → Q (name_of (k + 0, m))
-      by true t h = subst (λ (j : ℕ). Q (name_of (j, m))) (here k) (subst (λ (y : MemberItem). Q (name_of (k, y))) same h.0)
+      by true t h = subst (λ (j : ℕ). Q (name_of (j, m))) (here k)
+          (subst (λ (y : MemberItem). Q (name_of (k, y))) same h.0)
       by false t h = absurd (true≢false (sym t))
   name_among Q k (suc i) (a ∷ bs) m h at of =
       by (a.grant.ports.v == v) h (λ r. name_among Q (k + 1) i bs m r at of)
@@ -180,7 +181,8 @@ module _ (v : ℕ) where
         (sym (ap₂ (λ (f g : Bool). f && g) ((bytes_eq-Decides a.controller b.controller).1 same)
         ((bytes_eq-Decides a.vsw b.vsw).1 vsw)) ∙ u)
 
-    later_unlike : (b : MemberItem) → StandsAt virtuals b → (bs : List MemberItem) → AllByRecursion (StandsAt virtuals) bs
+    later_unlike : (b : MemberItem) → StandsAt virtuals b → (bs : List MemberItem)
+        → AllByRecursion (StandsAt virtuals) bs
         → AllByRecursion (λ (a : MemberItem). AreUnlikeMembers a b) bs
         → AllByRecursion (λ (a : MemberItem). Unlike a b) bs
     later_unlike b k [] h u = tt
@@ -210,7 +212,8 @@ is_named p h exprs expressions i m at =
     let stand =
     all_weaker (IsSoundItem p.virtuals) (StandsAt p.virtuals) (λ y k. k.stands) p.members h.limits.members in
     let own =
-    own_index v 0 i p.members m (each_unlike v p.virtuals x.item x.there p.members stand h.limits.unlike_members) at refl
+    own_index v 0 i p.members m (each_unlike v p.virtuals x.item x.there p.members stand h.limits.unlike_members) at
+    refl
     ∙ from_zero i in
     subst (λ (js : List ℕ). is_in i js ≡ true)
     (sym (tree_members members _ _ (bare (signs_of r.text)) (expr_at exprs v) a.expression.derives))

@@ -1,5 +1,6 @@
 -- What changes no expression and no member's table leaves what is kept of a setting as it is.
-use Rattle.std.proofs.Common.{◌≡◌, ◌∙◌, ℕ, ◌+◌, Bool, true, false, List, [], ◌∷◌, map, Option, Some, None, refl, sym, ap}
+use Rattle.std.proofs.Common.{◌≡◌, ◌∙◌, ℕ, ◌+◌, Bool, true, false, List, [], ◌∷◌, map, Option, Some, None, refl, sym}
+use Rattle.std.proofs.Common.{ap}
 use Rattle.std.proofs.Common.{ap₂, fold, if◌then◌else◌, length, nat_lt, slice_get, subst}
 use Rattle.std.specs.Prelude.{zip}
 use Rattle.std.specs.List.{enumerate_from}
@@ -53,7 +54,8 @@ same_tables k (m ∷ ms) (x ∷ xs) [] e = absurd (cc)
 same_tables k (m ∷ ms) (x ∷ xs) (y ∷ ys) e =
     let first : kept_of x ≡ kept_of y = cc in
     let rest : map kept_of xs ≡ map kept_of ys = cc in
-    ap₂ (λ (z : MemberStateOf) (ts : List LeafTable). leaf_of k m.grant z ∷ ts) first (same_tables (k + 1) ms xs ys rest)
+    ap₂ (λ (z : MemberStateOf) (ts : List LeafTable). leaf_of k m.grant z ∷ ts) first
+    (same_tables (k + 1) ms xs ys rest)
 
 pub leaves_stay : LeavesAreOfTables
 leaves_stay p s t h = record { exprs = h.exprs; leaves = same_tables 0 p.members t.members s.members h.kept }
@@ -163,8 +165,7 @@ steps_stay p s e c =
 left_stays : (who : Who) (round : ℕ) (s : State) → TablesStay s (left_by who round s)
 left_stays (Member n) round s = record {
   exprs = refl;
-  kept =
-      changed_unseen kept_of (λ (x : MemberOf). record x { outbox = taken x.outbox round }) (λ x. refl) n s.members;
+  kept = changed_unseen kept_of (λ (x : MemberOf). record x { outbox = taken x.outbox round }) (λ x. refl) n s.members;
 }
 left_stays (Switch n) round s = record { exprs = refl; kept = refl }
 left_stays Audit round s = record { exprs = refl; kept = refl }

@@ -124,7 +124,8 @@ comes_from ports t u delta of h = record {
   come =
       all_first (Contains (leaf_rules ports u)) delta.come (filter (is_apart_from delta.gone) (leaf_rules ports t))
       (all-permuted (leaf_rules ports u) (rules_after delta (leaf_rules ports t))
-      (IsPermutation-sym (rules_after delta (leaf_rules ports t)) (leaf_rules ports u) h) (Contains (leaf_rules ports u))
+      (IsPermutation-sym (rules_after delta (leaf_rules ports t)) (leaf_rules ports u) h)
+      (Contains (leaf_rules ports u))
       (all_contained (leaf_rules ports u)));
 }
 
@@ -155,7 +156,8 @@ module _ (p : PolicyOf) (h : IsSound p) (s t : State) (sound : AreSoundTables p 
     x_there : slice_get before.network.switches v ≡ Some x
     x_there =
         switch_at (plan p) s.exprs (seen p) v
-        ∙ ap (option_map (λ (y : VirtualItem). virtual_switch (plan p) (expr_at s.exprs v) (holds_at (seen p) v) (v, y)))
+        ∙ ap (option_map (λ (y : VirtualItem). virtual_switch (plan p) (expr_at s.exprs v) (holds_at (seen p) v)
+        (v, y)))
         (item_of p h i c.item c.there).there
 
     many_virtuals : length before.network.switches ≡ length p.virtuals
@@ -172,7 +174,8 @@ module _ (p : PolicyOf) (h : IsSound p) (s t : State) (sound : AreSoundTables p 
     size_is : table_size (slice_get before.network.tables i) ≡ table.size
     size_is =
         ap table_size (table_there p s.members i c.item c.before c.there c.was)
-        ∙ ((sound.members i c.item c.before c.there c.was).size ∙ sym (after.members i c.item c.after c.there c.is).size)
+        ∙ ((sound.members i c.item c.before c.there c.was).size
+        ∙ sym (after.members i c.item c.after c.there c.is).size)
 
     module _ (delta : LeafDelta) (comes : Comes delta) (composed : ComposedOf) (of : IsComposedOf before composed)
         (r : RulesOf) (is : composed.rules ≡ Some r)
@@ -233,5 +236,6 @@ deltas_taken p h s t sound after i c switches composed of delta comes r is =
 
 pub changes_taken : ChangesCanBeTaken
 changes_taken p h s t sound after i c switches composed of delta change r is =
-    can_take p h s t sound after i c switches delta (change_comes p h s t sound after i c switches delta change) composed of
+    can_take p h s t sound after i c switches delta (change_comes p h s t sound after i c switches delta change)
+    composed of
     r is

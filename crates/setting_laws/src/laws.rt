@@ -77,7 +77,8 @@ pub fn leaves_are_of_tables()
     ensures { LeavesAreOfTables }
 {}
 
-/// What changes no expression, and no member's table as composition reads it, leaves what is kept of a setting as it is.
+/// What changes no expression, and no member's table as composition reads it, leaves what is kept of a setting as it
+/// is.
 pub fn settings_stay()
     ensures { SettingsStay }
 {}

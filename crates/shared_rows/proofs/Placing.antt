@@ -275,7 +275,8 @@ module _ {Z : Type 0} where
 
 -- runs with the rows of others
 module _ {Y Z : Type 0} where
-  pub joined_same : (xs : List (Run Y)) (ys : List (Run Z)) → map (λ (r : Run Y). arc_value r) xs ≡ map (λ (r : Run Z). arc_value r) ys
+  pub joined_same : (xs : List (Run Y)) (ys : List (Run Z))
+      → map (λ (r : Run Y). arc_value r) xs ≡ map (λ (r : Run Z). arc_value r) ys
       → joined xs ≡ joined ys
   joined_same [] [] same = refl
   joined_same [] (y ∷ ys) same = cc
@@ -285,7 +286,8 @@ module _ {Y Z : Type 0} where
       let rest : map (λ (r : Run Y). arc_value r) xs ≡ map (λ (r : Run Z). arc_value r) ys = cc in
       λ i. first i ++ joined_same xs ys rest i
 
-  pub have_same : (xs : List (Run Y)) (ys : List (Run Z)) → map (λ (r : Run Y). arc_value r) xs ≡ map (λ (r : Run Z). arc_value r) ys
+  pub have_same : (xs : List (Run Y)) (ys : List (Run Z))
+      → map (λ (r : Run Y). arc_value r) xs ≡ map (λ (r : Run Z). arc_value r) ys
       → HaveRows ys → HaveRows xs
   have_same [] ys same h = tt
   have_same (x ∷ xs) [] same h = cc

@@ -1,5 +1,6 @@
 -- A stable sort by key puts rows by key.
-use Rattle.std.proofs.Common.{◌≡◌, ◌∙◌, ◌+◌, ◌&&◌, ◌++◌, suc, Bool, true, false, List, [], ◌∷◌, refl, sym, ap, subst, arith}
+use Rattle.std.proofs.Common.{◌≡◌, ◌∙◌, ◌+◌, ◌&&◌, ◌++◌, suc, Bool, true, false, List, [], ◌∷◌, refl, sym, ap, subst}
+use Rattle.std.proofs.Common.{arith}
 use Rattle.std.specs.Prelude.{if◌then◌else◌, filter, not}
 use Rattle.std.specs.Cmp.{IsStrictWeakOrder, IsTotalOrder, on_total}
 use Rattle.std.specs.List.{AllByRecursion, slice_index_or}

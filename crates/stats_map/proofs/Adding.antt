@@ -1,5 +1,6 @@
 -- Sums of more leaves.
-use Rattle.std.proofs.Common.{◌≡◌, ℕ, ◌+◌, ◌<◌, Bool, true, false, cond, ◌||◌, List, length, get_or, take, refl, sym, ap, subst, ◌∙◌, true≢false}
+use Rattle.std.proofs.Common.{◌≡◌, ℕ, ◌+◌, ◌<◌, Bool, true, false, cond, ◌||◌, List, length, get_or, take, refl, sym}
+use Rattle.std.proofs.Common.{ap, subst, ◌∙◌, true≢false}
 use Rattle.std.specs.Prelude.{Option, Some, None, IsSome, is_some, OnErr, Result, Ok, Err}
 use Rattle.std.specs.BTreeMap.{is_at}
 use Rattle.std.specs.List.{list_any}
@@ -47,24 +48,28 @@ more-more a b c p q = record {
     same : (s t : Sum) → Some s ≡ Some t → s ≡ t
     same s t e = cc
 
-    by : (leaf : Leaf) (s : Sum) → sum_at leaf c ≡ Some s → sum_at leaf a ≡ None → (o : Option Sum) → sum_at leaf b ≡ o → s ≡ no_sum
+    by : (leaf : Leaf) (s : Sum) → sum_at leaf c ≡ Some s → sum_at leaf a ≡ None → (o : Option Sum) → sum_at leaf b ≡ o
+        → s ≡ no_sum
     by leaf s e n None f = q.fresh leaf s e f
     by leaf s e n (Some t) f = same s t (sym e ∙ q.kept leaf t f) ∙ p.fresh leaf t f n
 
-pub more-inserted : (leaf : Leaf) (v : Sum) (old new : Sums) → v ≡ no_sum → sum_at leaf old ≡ None → ((q : Leaf) → sum_at q new ≡ cond (is_at (leaf_cmp leaf) q) (Some v) (sum_at q old)) → HaveMore old new
+pub more-inserted : (leaf : Leaf) (v : Sum) (old new : Sums) → v ≡ no_sum → sum_at leaf old ≡ None
+    → ((q : Leaf) → sum_at q new ≡ cond (is_at (leaf_cmp leaf) q) (Some v) (sum_at q old)) → HaveMore old new
 more-inserted leaf v old new z n at = record {
   kept = λ q s e. kept q s e (is_at (leaf_cmp leaf) q) refl;
   fresh = λ q s e m. fresh q s e m (is_at (leaf_cmp leaf) q) refl;
 }
   where
-    kept : (q : Leaf) (s : Sum) → sum_at q old ≡ Some s → (b : Bool) → is_at (leaf_cmp leaf) q ≡ b → sum_at q new ≡ Some s
+    kept : (q : Leaf) (s : Sum) → sum_at q old ≡ Some s → (b : Bool) → is_at (leaf_cmp leaf) q ≡ b
+        → sum_at q new ≡ Some s
     kept q s e true t = none-some (sum_at q old) s (ap (λ (x : Leaf). sum_at x old) (sym (leaf-exact leaf q t)) ∙ n) e
     kept q s e false t = at q ∙ (ap (λ b. cond b (Some v) (sum_at q old)) t ∙ e)
 
     same : (s t : Sum) → Some s ≡ Some t → s ≡ t
     same s t e = cc
 
-    fresh : (q : Leaf) (s : Sum) → sum_at q new ≡ Some s → sum_at q old ≡ None → (b : Bool) → is_at (leaf_cmp leaf) q ≡ b → s ≡ no_sum
+    fresh : (q : Leaf) (s : Sum) → sum_at q new ≡ Some s → sum_at q old ≡ None → (b : Bool)
+        → is_at (leaf_cmp leaf) q ≡ b → s ≡ no_sum
     fresh q s e m true t = same s v (sym e ∙ (at q ∙ ap (λ b. cond b (Some v) (sum_at q old)) t)) ∙ z
     fresh q s e m false t = none-some (sum_at q old) s m (sym (at q ∙ ap (λ b. cond b (Some v) (sum_at q old)) t) ∙ e)
 
@@ -82,12 +87,15 @@ still-some old new leaf m t = by (sum_at leaf old) refl t
     by (Some s) e u = ap is_some (m.kept leaf s e)
 
 -- one leaf more has a sum
-pub one-more-there : (xs : List Leaf) (i : ℕ) (x : Leaf) (old new : Sums) → i < length xs → x ≡ get_or xs i x → HaveMore old new → IsSome (sum_at x new)
+pub one-more-there : (xs : List Leaf) (i : ℕ) (x : Leaf) (old new : Sums) → i < length xs → x ≡ get_or xs i x
+    → HaveMore old new → IsSome (sum_at x new)
     → ((leaf : Leaf) → list_any (same_leaf leaf) (take i xs) ≡ true → IsSome (sum_at leaf old))
     → (leaf : Leaf) → list_any (same_leaf leaf) (take (i + 1) xs) ≡ true → IsSome (sum_at leaf new)
-one-more-there xs i x old new lt is m now before leaf t = by (list_any (same_leaf leaf) (take i xs)) refl (same_leaf leaf x) refl (sym (any-more leaf xs i x lt is) ∙ t)
+one-more-there xs i x old new lt is m now before leaf t =
+    by (list_any (same_leaf leaf) (take i xs)) refl (same_leaf leaf x) refl (sym (any-more leaf xs i x lt is) ∙ t)
   where
-    by : (b : Bool) → list_any (same_leaf leaf) (take i xs) ≡ b → (d : Bool) → same_leaf leaf x ≡ d → (list_any (same_leaf leaf) (take i xs) || same_leaf leaf x) ≡ true → IsSome (sum_at leaf new)
+    by : (b : Bool) → list_any (same_leaf leaf) (take i xs) ≡ b → (d : Bool) → same_leaf leaf x ≡ d
+        → (list_any (same_leaf leaf) (take i xs) || same_leaf leaf x) ≡ true → IsSome (sum_at leaf new)
     by true e d f u = still-some old new leaf m (before leaf e)
     by false e true f u = subst (λ (z : Leaf). IsSome (sum_at z new)) (sym ((leaf_decides leaf x).0 f)) now
     by false e false f u = absurd (true≢false (sym u ∙ (ap (λ b. b || same_leaf leaf x) e ∙ f)))

@@ -25,12 +25,14 @@ module _ {V : Type 0} (switch : ℕ) where
     pub rise : IsStrictlySortedBy place_cmp (keys_of left)
     pub from : AllByRecursion (λ (e : Place × V). starts switch e ≡ true) left
 
-  above-from : (x : Place) (es : List (Place × V)) → AllByRecursion (λ z. place_cmp x z ≡ Less) (keys_of es) → AllByRecursion (λ z. place_cmp x z ≡ Less) (keys_of (filter (starts switch) es))
+  above-from : (x : Place) (es : List (Place × V)) → AllByRecursion (λ z. place_cmp x z ≡ Less) (keys_of es)
+      → AllByRecursion (λ z. place_cmp x z ≡ Less) (keys_of (filter (starts switch) es))
   above-from x [] a = tt
   above-from x (e ∷ es) a = by (starts switch e) (above-from x es a.1)
     where
       by : (b : Bool) → AllByRecursion (λ z. place_cmp x z ≡ Less) (keys_of (filter (starts switch) es))
-          → AllByRecursion (λ z. place_cmp x z ≡ Less) (keys_of (cond b (e ∷ filter (starts switch) es) (filter (starts switch) es)))
+          → AllByRecursion (λ z. place_cmp x z ≡ Less)
+          (keys_of (cond b (e ∷ filter (starts switch) es) (filter (starts switch) es)))
       by true rest = (a.0, rest)
       by false rest = rest
 
@@ -39,27 +41,34 @@ module _ {V : Type 0} (switch : ℕ) where
   rise-from [] r = tt
   rise-from (e ∷ es) r = by (starts switch e) (rise-from es r.1)
     where
-      by : (b : Bool) → IsStrictlySortedBy place_cmp (keys_of (filter (starts switch) es)) → IsStrictlySortedBy place_cmp (keys_of (cond b (e ∷ filter (starts switch) es) (filter (starts switch) es)))
+      by : (b : Bool) → IsStrictlySortedBy place_cmp (keys_of (filter (starts switch) es))
+          → IsStrictlySortedBy place_cmp (keys_of (cond b (e ∷ filter (starts switch) es) (filter (starts switch) es)))
       by true rest = (above-from e.0 es r.0, rest)
       by false rest = rest
 
-  all-from : (es : List (Place × V)) → AllByRecursion (λ (e : Place × V). starts switch e ≡ true) (filter (starts switch) es)
+  all-from : (es : List (Place × V))
+      → AllByRecursion (λ (e : Place × V). starts switch e ≡ true) (filter (starts switch) es)
   all-from [] = tt
   all-from (e ∷ es) = by (starts switch e) refl (all-from es)
     where
-      by : (b : Bool) → starts switch e ≡ b → AllByRecursion (λ (x : Place × V). starts switch x ≡ true) (filter (starts switch) es)
-          → AllByRecursion (λ (x : Place × V). starts switch x ≡ true) (cond b (e ∷ filter (starts switch) es) (filter (starts switch) es))
+      by : (b : Bool) → starts switch e ≡ b
+          → AllByRecursion (λ (x : Place × V). starts switch x ≡ true) (filter (starts switch) es)
+          → AllByRecursion (λ (x : Place × V). starts switch x ≡ true)
+          (cond b (e ∷ filter (starts switch) es) (filter (starts switch) es))
       by true t rest = (t, rest)
       by false t rest = rest
 
-  pub left-first : (es part : List (Place × V)) (listed : List Place) → listed ≡ [] → part ≡ filter (starts switch) es → Rise place_total es → IsLeft (keys_of (part_of switch es)) listed part
+  pub left-first : (es part : List (Place × V)) (listed : List Place) → listed ≡ [] → part ≡ filter (starts switch) es
+      → Rise place_total es → IsLeft (keys_of (part_of switch es)) listed part
   left-first es part listed none is r = record {
-    told = ap (λ xs. xs ++ keys_of (part_of switch part)) none ∙ (ap (λ xs. keys_of (part_of switch xs)) is ∙ sym (ap keys_of (same-switch switch es)));
+    told = ap (λ xs. xs ++ keys_of (part_of switch part)) none
+        ∙ (ap (λ xs. keys_of (part_of switch xs)) is ∙ sym (ap keys_of (same-switch switch es)));
     rise = subst (Rise place_total) (sym is) (rise-from es r);
     from = subst (AllByRecursion (λ (e : Place × V). starts switch e ≡ true)) (sym is) (all-from es);
   }
 
-  module _ (all listed : List Place) (left rest : List (Place × V)) (p : Place) (v : V) (is : left ≡ (p, v) ∷ rest) (was : IsLeft all listed left) where
+  module _ (all listed : List Place) (left rest : List (Place × V)) (p : Place) (v : V) (is : left ≡ (p, v) ∷ rest)
+      (was : IsLeft all listed left) where
     both : IsLeft all listed ((p, v) ∷ rest)
     both = subst (IsLeft all listed) is was
 
@@ -69,7 +78,8 @@ module _ {V : Type 0} (switch : ℕ) where
       told =
           ap (λ xs. xs ++ keys_of (part_of switch rest)) e
           ∙ (appended listed (keys_of (part_of switch rest)) p
-          ∙ (sym (ap (λ b. listed ++ keys_of (cond b ((p, v) ∷ part_of switch rest) (part_of switch rest))) (same-is p.0 switch own)) ∙ both.told));
+          ∙ (sym (ap (λ b. listed ++ keys_of (cond b ((p, v) ∷ part_of switch rest) (part_of switch rest)))
+          (same-is p.0 switch own)) ∙ both.told));
       rise = both.rise.1;
       from = both.from.1;
     }
@@ -81,7 +91,10 @@ module _ {V : Type 0} (switch : ℕ) where
         let none = all-above switch p rest (above switch (p, v) both.from.0 apart) both.rise.0 in
         sym (alone listed)
         ∙ (sym (ap (λ xs. listed ++ keys_of xs) none)
-        ∙ (sym (ap (λ b. listed ++ keys_of (cond b ((p, v) ∷ part_of switch rest) (part_of switch rest))) apart) ∙ both.told))
+        ∙ (sym (ap (λ b. listed ++ keys_of (cond b ((p, v) ∷ part_of switch rest) (part_of switch rest))) apart)
+        ∙ both.told))
 
-  pub left-none : (all listed : List Place) (left : List (Place × V)) → left ≡ [] → IsLeft all listed left → listed ≡ all
-  left-none all listed left is was = sym (alone listed) ∙ (sym (ap (λ xs. listed ++ keys_of (part_of switch xs)) is) ∙ was.told)
+  pub left-none : (all listed : List Place) (left : List (Place × V)) → left ≡ [] → IsLeft all listed left
+      → listed ≡ all
+  left-none all listed left is was = sym (alone listed)
+      ∙ (sym (ap (λ xs. listed ++ keys_of (part_of switch xs)) is) ∙ was.told)

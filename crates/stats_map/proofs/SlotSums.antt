@@ -23,7 +23,8 @@ use Rattle.stats_map.proofs.Adding.{leaf-exact, more-inserted}
 use Rattle.stats_map.proofs.Overlays.{Rise, at-laid, same-key}
 
 pub leaf_total : IsTotalOrder leaf_cmp
-leaf_total = then_total (on_total (λ (a : Leaf). a.member) nat_cmp_total) (on_total (λ (a : Leaf). a.kind) nat_cmp_total)
+leaf_total = then_total (on_total (λ (a : Leaf). a.member) nat_cmp_total)
+    (on_total (λ (a : Leaf). a.kind) nat_cmp_total)
 
 pub leaf_exact : CmpEqualImpliesEq leaf_cmp
 leaf_exact a b e = leaf-exact a b (ap is_eq e)
@@ -38,15 +39,18 @@ unfolding IsStrictlySortedBy
 rise-none = tt
 
 -- a key is there where it is among the keys
-pub some-keys : {K V : Type 0} (test : K → Bool) (es : List (K × V)) → is_some (lookup test es) ≡ list_any test (keys_of es)
+pub some-keys : {K V : Type 0} (test : K → Bool) (es : List (K × V))
+    → is_some (lookup test es) ≡ list_any test (keys_of es)
 some-keys test [] = refl
 some-keys test (e ∷ es) = by (test e.0) (some-keys test es)
   where
-    by : (b : Bool) → is_some (lookup test es) ≡ list_any test (keys_of es) → is_some (cond b (Some e.1) (lookup test es)) ≡ (b || list_any test (keys_of es))
+    by : (b : Bool) → is_some (lookup test es) ≡ list_any test (keys_of es)
+        → is_some (cond b (Some e.1) (lookup test es)) ≡ (b || list_any test (keys_of es))
     by true rest = refl
     by false rest = rest
 
-pub same-there : {K V : Type 0} (test : K → Bool) (es fs : List (K × V)) → keys_of fs ≡ keys_of es → is_some (lookup test fs) ≡ is_some (lookup test es)
+pub same-there : {K V : Type 0} (test : K → Bool) (es fs : List (K × V)) → keys_of fs ≡ keys_of es
+    → is_some (lookup test fs) ≡ is_some (lookup test es)
 same-there test es fs keys = some-keys test fs ∙ (ap (list_any test) keys ∙ sym (some-keys test es))
 
 abbrev Goes : Event → List Leaf → Leaf → Option Sum → Option Sum
@@ -56,18 +60,21 @@ pub at-slots : (slots : LeafSlots) (q : Leaf) → sum_at q (slot_sums slots) ≡
 at-slots slots q = at-laid leaf_total slots [] rise-none q
 
 -- the sum of a leaf whose slot is this
-pub slot-is : (slots : LeafSlots) (q : Leaf) (slot : Option Sum) → value_at leaf_cmp q slots ≡ Some slot → sum_at q (slot_sums slots) ≡ slot
+pub slot-is : (slots : LeafSlots) (q : Leaf) (slot : Option Sum) → value_at leaf_cmp q slots ≡ Some slot
+    → sum_at q (slot_sums slots) ≡ slot
 slot-is slots q slot e = at-slots slots q ∙ ap (λ (z : Option (Option Sum)). slot_or z None) e
 
 pub no-slot : (slots : LeafSlots) (q : Leaf) → value_at leaf_cmp q slots ≡ None → sum_at q (slot_sums slots) ≡ None
 no-slot slots q e = at-slots slots q ∙ ap (λ (z : Option (Option Sum)). slot_or z None) e
 
-pub slots-kept : (leaves : List Leaf) (old new : LeafSlots) → keys_of new ≡ keys_of old → HaveSlots leaves old → HaveSlots leaves new
+pub slots-kept : (leaves : List Leaf) (old new : LeafSlots) → keys_of new ≡ keys_of old → HaveSlots leaves old
+    → HaveSlots leaves new
 slots-kept leaves old new keys have q t = same-there (is_at (leaf_cmp q)) old new keys ∙ have q t
 
 module _ (base : Sums) (r : Rise leaf_total base) where
   -- the sum of a leaf that has a slot is in it
-  pub in-slot : (slots : LeafSlots) (q : Leaf) → HasKey leaf_cmp q slots → sum_at q (overlaid leaf_cmp slots base) ≡ sum_at q (slot_sums slots)
+  pub in-slot : (slots : LeafSlots) (q : Leaf) → HasKey leaf_cmp q slots
+      → sum_at q (overlaid leaf_cmp slots base) ≡ sum_at q (slot_sums slots)
   in-slot slots q t = at-laid leaf_total slots base r q ∙ (by (value_at leaf_cmp q slots) t ∙ sym (at-slots slots q))
     where
       by : (o : Option (Option Sum)) → IsSome o → slot_or o (sum_at q base) ≡ slot_or o None
@@ -75,11 +82,15 @@ module _ (base : Sums) (r : Rise leaf_total base) where
       by (Some slot) u = refl
 
   -- else it is as it was
-  pub not-in-slot : (slots : LeafSlots) (q : Leaf) → value_at leaf_cmp q slots ≡ None → sum_at q (overlaid leaf_cmp slots base) ≡ sum_at q base
-  not-in-slot slots q e = at-laid leaf_total slots base r q ∙ ap (λ (z : Option (Option Sum)). slot_or z (sum_at q base)) e
+  pub not-in-slot : (slots : LeafSlots) (q : Leaf) → value_at leaf_cmp q slots ≡ None
+      → sum_at q (overlaid leaf_cmp slots base) ≡ sum_at q base
+  not-in-slot slots q e = at-laid leaf_total slots base r q
+      ∙ ap (λ (z : Option (Option Sum)). slot_or z (sum_at q base)) e
 
-  pub allowed-slots : (event : Event) (leaves : List Leaf) (slots : LeafSlots) → HaveSlots leaves slots → AllowsEach event leaves (overlaid leaf_cmp slots base) → AllowsEach event leaves (slot_sums slots)
-  allowed-slots event leaves slots have a q t = subst (λ (o : Option Sum). IfSome o (Allows event)) (in-slot slots q (have q t)) (a q t)
+  pub allowed-slots : (event : Event) (leaves : List Leaf) (slots : LeafSlots) → HaveSlots leaves slots
+      → AllowsEach event leaves (overlaid leaf_cmp slots base) → AllowsEach event leaves (slot_sums slots)
+  allowed-slots event leaves slots have a q t =
+      subst (λ (o : Option Sum). IfSome o (Allows event)) (in-slot slots q (have q t)) (a q t)
 
   module _ (old new : LeafSlots) (keys : keys_of new ≡ keys_of old) where
     there : (q : Leaf) → is_some (value_at leaf_cmp q new) ≡ is_some (value_at leaf_cmp q old)
@@ -93,17 +104,21 @@ module _ (base : Sums) (r : Rise leaf_total base) where
         by (Some slot) u = absurd (true≢false u)
 
     -- a leaf that has no slot has the sum that it had
-    same-out : (q : Leaf) → value_at leaf_cmp q old ≡ None → sum_at q (overlaid leaf_cmp new base) ≡ sum_at q (overlaid leaf_cmp old base)
+    same-out : (q : Leaf) → value_at leaf_cmp q old ≡ None
+        → sum_at q (overlaid leaf_cmp new base) ≡ sum_at q (overlaid leaf_cmp old base)
     same-out q e = not-in-slot new q (no-more q e) ∙ sym (not-in-slot old q e)
 
-    in-new : (q : Leaf) (slot : Option Sum) → value_at leaf_cmp q old ≡ Some slot → sum_at q (overlaid leaf_cmp new base) ≡ sum_at q (slot_sums new)
+    in-new : (q : Leaf) (slot : Option Sum) → value_at leaf_cmp q old ≡ Some slot
+        → sum_at q (overlaid leaf_cmp new base) ≡ sum_at q (slot_sums new)
     in-new q slot e = in-slot new q (there q ∙ ap is_some e)
 
-    in-old : (q : Leaf) (slot : Option Sum) → value_at leaf_cmp q old ≡ Some slot → sum_at q (overlaid leaf_cmp old base) ≡ sum_at q (slot_sums old)
+    in-old : (q : Leaf) (slot : Option Sum) → value_at leaf_cmp q old ≡ Some slot
+        → sum_at q (overlaid leaf_cmp old base) ≡ sum_at q (slot_sums old)
     in-old q slot e = in-slot old q (ap is_some e)
 
     -- what happened in slots happened
-    pub happened-laid : (event : Event) (leaves : List Leaf) → HaveSlots leaves old → HappenedTo event leaves (slot_sums old) (slot_sums new)
+    pub happened-laid : (event : Event) (leaves : List Leaf) → HaveSlots leaves old
+        → HappenedTo event leaves (slot_sums old) (slot_sums new)
         → HappenedTo event leaves (overlaid leaf_cmp old base) (overlaid leaf_cmp new base)
     happened-laid event leaves have h q = by (value_at leaf_cmp q old) refl
       where
@@ -111,37 +126,50 @@ module _ (base : Sums) (r : Rise leaf_total base) where
         unnamed true t e = absurd (true≢false (sym (have q t) ∙ ap is_some e))
         unnamed false t e = refl
 
-        by : (o : Option (Option Sum)) → value_at leaf_cmp q old ≡ o → sum_at q (overlaid leaf_cmp new base) ≡ Goes event leaves q (sum_at q (overlaid leaf_cmp old base))
+        by : (o : Option (Option Sum)) → value_at leaf_cmp q old ≡ o
+            → sum_at q (overlaid leaf_cmp new base) ≡ Goes event leaves q (sum_at q (overlaid leaf_cmp old base))
         by (Some slot) e = in-new q slot e ∙ (h q ∙ ap (Goes event leaves q) (sym (in-old q slot e)))
         by None e =
             same-out q e
-            ∙ sym (ap (λ (b : Bool). if b then option_and_then (changed_by event) (sum_at q (overlaid leaf_cmp old base)) else sum_at q (overlaid leaf_cmp old base)) (unnamed (list_any (same_leaf q) leaves) refl e))
+            ∙ sym
+            (ap (λ (b : Bool). if b then option_and_then (changed_by event) (sum_at q (overlaid leaf_cmp old base))
+            else sum_at q (overlaid leaf_cmp old base)) (unnamed (list_any (same_leaf q) leaves) refl e))
 
-    pub more-laid : HaveMore (slot_sums old) (slot_sums new) → HaveMore (overlaid leaf_cmp old base) (overlaid leaf_cmp new base)
-    more-laid m = record { kept = λ q s e. kept q s e (value_at leaf_cmp q old) refl; fresh = λ q s e n. fresh q s e n (value_at leaf_cmp q old) refl }
+    pub more-laid : HaveMore (slot_sums old) (slot_sums new)
+        → HaveMore (overlaid leaf_cmp old base) (overlaid leaf_cmp new base)
+    more-laid m = record {
+      kept = λ q s e. kept q s e (value_at leaf_cmp q old) refl;
+      fresh = λ q s e n. fresh q s e n (value_at leaf_cmp q old) refl;
+    }
       where
-        kept : (q : Leaf) (s : Sum) → sum_at q (overlaid leaf_cmp old base) ≡ Some s → (o : Option (Option Sum)) → value_at leaf_cmp q old ≡ o → sum_at q (overlaid leaf_cmp new base) ≡ Some s
+        kept : (q : Leaf) (s : Sum) → sum_at q (overlaid leaf_cmp old base) ≡ Some s → (o : Option (Option Sum))
+            → value_at leaf_cmp q old ≡ o → sum_at q (overlaid leaf_cmp new base) ≡ Some s
         kept q s e (Some slot) f = in-new q slot f ∙ m.kept q s (sym (in-old q slot f) ∙ e)
         kept q s e None f = same-out q f ∙ e
 
-        fresh : (q : Leaf) (s : Sum) → sum_at q (overlaid leaf_cmp new base) ≡ Some s → sum_at q (overlaid leaf_cmp old base) ≡ None → (o : Option (Option Sum)) → value_at leaf_cmp q old ≡ o → s ≡ no_sum
+        fresh : (q : Leaf) (s : Sum) → sum_at q (overlaid leaf_cmp new base) ≡ Some s
+            → sum_at q (overlaid leaf_cmp old base) ≡ None → (o : Option (Option Sum)) → value_at leaf_cmp q old ≡ o
+            → s ≡ no_sum
         fresh q s e n (Some slot) f = m.fresh q s (sym (in-new q slot f) ∙ e) (sym (in-old q slot f) ∙ n)
         fresh q s e n None f = absurd (true≢false (ap is_some (sym e ∙ (same-out q f ∙ n))))
 
     -- leaves whose sums are in slots have sums
-    pub there-laid : (leaves : List Leaf) → HaveSlots leaves old → ((q : Leaf) → list_any (same_leaf q) leaves ≡ true → IsSome (sum_at q (slot_sums new)))
+    pub there-laid : (leaves : List Leaf) → HaveSlots leaves old
+        → ((q : Leaf) → list_any (same_leaf q) leaves ≡ true → IsSome (sum_at q (slot_sums new)))
         → (q : Leaf) → list_any (same_leaf q) leaves ≡ true → IsSome (sum_at q (overlaid leaf_cmp new base))
     there-laid leaves have some q t = ap is_some (in-slot new q (there q ∙ have q t)) ∙ some q t
 
 -- a slot is written
 
-module _ (leaf : Leaf) (slot w : Option Sum) (old new : LeafSlots) (found : value_at leaf_cmp leaf old ≡ Some slot) (is : new ≡ set_value (is_at (leaf_cmp leaf)) old w) where
+module _ (leaf : Leaf) (slot w : Option Sum) (old new : LeafSlots) (found : value_at leaf_cmp leaf old ≡ Some slot)
+    (is : new ≡ set_value (is_at (leaf_cmp leaf)) old w) where
   pub written-keys : keys_of new ≡ keys_of old
   written-keys = ap keys_of is ∙ keys-set_value (is_at (leaf_cmp leaf)) old w
 
   written-at : (q : Leaf) → value_at leaf_cmp q new ≡ cond (is_at (leaf_cmp leaf) q) (Some w) (value_at leaf_cmp q old)
   written-at q =
-      ap (value_at leaf_cmp q) is ∙ lookup-set_value (eq_by_cmp_equiv leaf_total) (is_at (leaf_cmp leaf)) (λ x y e. same-key leaf_total leaf x y e) q w old (ap is_some found)
+      ap (value_at leaf_cmp q) is ∙ lookup-set_value (eq_by_cmp_equiv leaf_total) (is_at (leaf_cmp leaf))
+      (λ x y e. same-key leaf_total leaf x y e) q w old (ap is_some found)
 
   pub written-sum : (q : Leaf) → sum_at q (slot_sums new) ≡ cond (is_at (leaf_cmp leaf) q) w (sum_at q (slot_sums old))
   written-sum q =
@@ -149,15 +177,19 @@ module _ (leaf : Leaf) (slot w : Option Sum) (old new : LeafSlots) (found : valu
       ∙ (ap (λ (z : Option (Option Sum)). slot_or z None) (written-at q)
       ∙ (by (is_at (leaf_cmp leaf) q) ∙ ap (cond (is_at (leaf_cmp leaf) q) w) (sym (at-slots old q))))
     where
-      by : (b : Bool) → slot_or (cond b (Some w) (value_at leaf_cmp q old)) None ≡ cond b w (slot_or (value_at leaf_cmp q old) None)
+      by : (b : Bool) → slot_or (cond b (Some w) (value_at leaf_cmp q old)) None
+          ≡ cond b w (slot_or (value_at leaf_cmp q old) None)
       by true = refl
       by false = refl
 
-  pub changed-at : (event : Event) → w ≡ option_and_then (changed_by event) slot → HappenedAt event leaf (slot_sums old) (slot_sums new)
+  pub changed-at : (event : Event) → w ≡ option_and_then (changed_by event) slot
+      → HappenedAt event leaf (slot_sums old) (slot_sums new)
   changed-at event e q =
       written-sum q
-      ∙ (ap (λ (o : Option Sum). cond (is_at (leaf_cmp leaf) q) o (sum_at q (slot_sums old))) (e ∙ ap (option_and_then (changed_by event)) (sym (slot-is old leaf slot found)))
-      ∙ ap (λ (b : Bool). cond b (option_and_then (changed_by event) (sum_at leaf (slot_sums old))) (sum_at q (slot_sums old))) (at-same leaf q))
+      ∙ (ap (λ (o : Option Sum). cond (is_at (leaf_cmp leaf) q) o (sum_at q (slot_sums old)))
+      (e ∙ ap (option_and_then (changed_by event)) (sym (slot-is old leaf slot found)))
+      ∙ ap (λ (b : Bool). cond b (option_and_then (changed_by event) (sum_at leaf (slot_sums old)))
+      (sum_at q (slot_sums old))) (at-same leaf q))
 
   pub opened-at : (v : Sum) → slot ≡ None → w ≡ Some v → v ≡ no_sum → HaveMore (slot_sums old) (slot_sums new)
   opened-at v empty e z =
@@ -166,7 +198,8 @@ module _ (leaf : Leaf) (slot w : Option Sum) (old new : LeafSlots) (found : valu
 
   pub written-there : (v : Sum) → w ≡ Some v → IsSome (sum_at leaf (slot_sums new))
   written-there v e =
-      ap is_some (written-sum leaf ∙ (ap (λ (b : Bool). cond b w (sum_at leaf (slot_sums old))) (ap is_eq (tied_itself leaf_total leaf)) ∙ e))
+      ap is_some (written-sum leaf
+      ∙ (ap (λ (b : Bool). cond b w (sum_at leaf (slot_sums old))) (ap is_eq (tied_itself leaf_total leaf)) ∙ e))
 
   -- what is written as it was changes nothing
   pub written-same : w ≡ slot → new ≡ old
@@ -176,8 +209,13 @@ module _ (leaf : Leaf) (slot w : Option Sum) (old new : LeafSlots) (found : valu
 pub nothing-at : (event : Event) (leaf : Leaf) (sums : Sums) → sum_at leaf sums ≡ None → HappenedAt event leaf sums sums
 nothing-at event leaf sums n q = by (same_leaf leaf q) refl
   where
-    by : (b : Bool) → same_leaf leaf q ≡ b → sum_at q sums ≡ (if same_leaf leaf q then option_and_then (changed_by event) (sum_at leaf sums) else sum_at q sums)
+    by : (b : Bool) → same_leaf leaf q ≡ b
+        → sum_at q sums ≡ (if same_leaf leaf q then option_and_then (changed_by event) (sum_at leaf sums)
+        else sum_at q sums)
     by true t =
         ap (λ (z : Leaf). sum_at z sums) (sym ((leaf_decides leaf q).0 t))
-        ∙ (n ∙ sym (ap (λ (b : Bool). if b then option_and_then (changed_by event) (sum_at leaf sums) else sum_at q sums) t ∙ ap (option_and_then (changed_by event)) n))
-    by false t = sym (ap (λ (b : Bool). if b then option_and_then (changed_by event) (sum_at leaf sums) else sum_at q sums) t)
+        ∙ (n ∙ sym
+        (ap (λ (b : Bool). if b then option_and_then (changed_by event) (sum_at leaf sums) else sum_at q sums) t
+        ∙ ap (option_and_then (changed_by event)) n))
+    by false t =
+        sym (ap (λ (b : Bool). if b then option_and_then (changed_by event) (sum_at leaf sums) else sum_at q sums) t)

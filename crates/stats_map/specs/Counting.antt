@@ -1,5 +1,6 @@
 -- Counts of leaves: the cookies that matter, and what those that don't matter any more left to their leaves.
-use Rattle.std.specs.Prelude.{ℕ, Bool, false, ◌==◌, ◌&&◌, ◌||◌, not, Option, Some, None, List, [], filter, fold, if◌then◌else◌}
+use Rattle.std.specs.Prelude.{ℕ, Bool, false, ◌==◌, ◌&&◌, ◌||◌, not, Option, Some, None, List, [], filter, fold}
+use Rattle.std.specs.Prelude.{if◌then◌else◌}
 use Rattle.std.specs.BTreeMap.{insert_entry, is_at}
 use Rattle.std.specs.List.{list_any}
 use Rattle.std.specs.Map.{lookup, remove_entry, set_value, values_of}
@@ -50,7 +51,8 @@ count s leaf = counted s.totals (values_of s.live) leaf
 abbrev pub installed_at : Option Cookie → Place → List Leaf → CountsOf → CountsOf
 installed_at (Some c) place ancestry s = s
 installed_at None place ancestry s = record {
-  live = insert_entry place_cmp s.live place (record { ancestry = ancestry; numbers = record { packets = 0; bytes = 0 } });
+  live = insert_entry place_cmp s.live place
+      (record { ancestry = ancestry; numbers = record { packets = 0; bytes = 0 } });
   totals = s.totals;
   forgotten = s.forgotten;
 }
@@ -63,7 +65,8 @@ installed place ancestry s = installed_at (cookie_at place s) place ancestry s
 abbrev pub swept : CountsOf → CountsOf
 swept s = record {
   live = s.live;
-  totals = λ leaf. if s.forgotten leaf && not (is_named s leaf) then record { packets = 0; bytes = 0 } else s.totals leaf;
+  totals = λ leaf. if s.forgotten leaf && not (is_named s leaf) then record { packets = 0; bytes = 0 }
+      else s.totals leaf;
   forgotten = λ leaf. s.forgotten leaf && is_named s leaf;
 }
 
@@ -73,16 +76,26 @@ with_numbers numbers c = record { ancestry = c.ancestry; numbers = numbers }
 
 -- after the cookie of a place has other numbers
 abbrev pub renumbered : Place → Cookie → CountsOf → CountsOf
-renumbered place c s = record { live = set_value (is_at (place_cmp place)) s.live c; totals = s.totals; forgotten = s.forgotten }
+renumbered place c s = record {
+  live = set_value (is_at (place_cmp place)) s.live c;
+  totals = s.totals;
+  forgotten = s.forgotten;
+}
 
 -- after the cookie of a place doesn't matter any more
 abbrev pub ended : Place → Cookie → CountsOf → CountsOf
-ended place c s = swept (record { live = remove_entry (is_at (place_cmp place)) s.live; totals = folded_in s.totals c; forgotten = s.forgotten })
+ended place c s =
+    swept (record {
+      live = remove_entry (is_at (place_cmp place)) s.live;
+      totals = folded_in s.totals c;
+      forgotten = s.forgotten;
+    })
 
 -- after a report on a cookie, if it matters
 abbrev pub reported_on : Option Cookie → Place → Numbers → Bool → CountsOf → CountsOf
 reported_on None place numbers last s = s
-reported_on (Some c) place numbers last s = if last then ended place (with_numbers numbers c) s else renumbered place (with_numbers numbers c) s
+reported_on (Some c) place numbers last s = if last then ended place (with_numbers numbers c) s
+    else renumbered place (with_numbers numbers c) s
 
 -- after a report, of which the last one tells that the entry was removed
 abbrev pub reported : Place → Numbers → Bool → CountsOf → CountsOf

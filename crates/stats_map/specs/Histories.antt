@@ -5,7 +5,8 @@ use Rattle.std.specs.Map.{values_of}
 use Rattle.cv_io.specs.Leaves.{same_leaf}
 use Rattle.cv_io.specs.declared.leaf.Leaf.{Leaf}
 use Rattle.switch_meaning.specs.Counts.{Cookie, Numbers, a_leaf, count_of}
-use Rattle.stats_map.specs.Counting.{CountsOf, Place, cookie_at, count, downed, forgot, installed, nothing, of_switch, reported, with_numbers}
+use Rattle.stats_map.specs.Counting.{CountsOf, Place, cookie_at, count, downed, forgot, installed, nothing, of_switch}
+use Rattle.stats_map.specs.Counting.{reported, with_numbers}
 
 -- a cookie is written, a switch reports on one, a switch goes down, or a leaf is to be forgotten
 pub data Step : Type 0 where
@@ -54,12 +55,14 @@ drops leaf (Dropped q) = same_leaf q leaf
 
 -- the count of a leaf that no step drops is that over all cookies that were ever written, each once
 abbrev pub CountsAreOfAll : Type 0
-CountsAreOfAll = (steps : List Step) (leaf : Leaf) → list_any (drops leaf) steps ≡ false → count (run steps nothing) leaf ≡ count_of leaf (ever steps)
+CountsAreOfAll = (steps : List Step) (leaf : Leaf) → list_any (drops leaf) steps ≡ false
+    → count (run steps nothing) leaf ≡ count_of leaf (ever steps)
 
 -- an entry of one leaf twice, whose cookie was replaced: the old one reports its removal, and the new one is polled
 abbrev pub replaced : List Step
 replaced =
-    Wrote (0, 5) (a_leaf 3 ∷ a_leaf 3 ∷ []) ∷ Wrote (0, 6) (a_leaf 4 ∷ a_leaf 3 ∷ []) ∷ Told (0, 5) (record { packets = 7; bytes = 700 }) true
+    Wrote (0, 5) (a_leaf 3 ∷ a_leaf 3 ∷ []) ∷ Wrote (0, 6) (a_leaf 4 ∷ a_leaf 3 ∷ [])
+    ∷ Told (0, 5) (record { packets = 7; bytes = 700 }) true
     ∷ Told (0, 6) (record { packets = 3; bytes = 300 }) false ∷ []
 
 -- both cookies are counted, each once; and the leaf is counted until its last cookie goes, if it is to be forgotten
@@ -67,5 +70,7 @@ abbrev pub TwoCookiesAreCounted : Type 0
 TwoCookiesAreCounted =
     (count (run replaced nothing) (a_leaf 3) ≡ record { packets = 10; bytes = 1000 })
     × (count (run (replaced ++ Dropped (a_leaf 3) ∷ []) nothing) (a_leaf 3) ≡ record { packets = 10; bytes = 1000 })
-    × (count (run (replaced ++ Dropped (a_leaf 3) ∷ WentDown 0 ∷ []) nothing) (a_leaf 3) ≡ record { packets = 0; bytes = 0 })
-    × (count (run (replaced ++ Dropped (a_leaf 3) ∷ WentDown 0 ∷ []) nothing) (a_leaf 4) ≡ record { packets = 3; bytes = 300 })
+    × (count (run (replaced ++ Dropped (a_leaf 3) ∷ WentDown 0 ∷ []) nothing) (a_leaf 3)
+    ≡ record { packets = 0; bytes = 0 })
+    × (count (run (replaced ++ Dropped (a_leaf 3) ∷ WentDown 0 ∷ []) nothing) (a_leaf 4)
+    ≡ record { packets = 3; bytes = 300 })

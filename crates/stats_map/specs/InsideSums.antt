@@ -1,5 +1,6 @@
 -- How counts are kept: a sum for each leaf.
-use Rattle.std.specs.Prelude.{◌≡◌, ℕ, ◌+◌, ◌-◌, ◌==◌, ◌<◌, ◌≤◌, ◌^◌, ◌&&◌, ⊤, Bool, true, false, Option, Some, None, IfSome, IsSome, option_and_then, List, ◌∷◌, count_by, sum_by, if◌then◌else◌}
+use Rattle.std.specs.Prelude.{◌≡◌, ℕ, ◌+◌, ◌-◌, ◌==◌, ◌<◌, ◌≤◌, ◌^◌, ◌&&◌, ⊤, Bool, true, false, Option, Some, None}
+use Rattle.std.specs.Prelude.{IfSome, IsSome, option_and_then, List, ◌∷◌, count_by, sum_by, if◌then◌else◌}
 use Rattle.std.specs.BTreeMap.{is_at}
 use Rattle.std.specs.Map.{lookup}
 use Rattle.std.specs.List.{AllByRecursion, list_any}
@@ -45,7 +46,11 @@ left_of s = if s.forgotten && (s.live == 0) then None else Some s
 -- the sum after what happens to it, if it is still wanted
 abbrev pub changed_by : Event → Sum → Option Sum
 changed_by Begun s = Some (record s { live = s.live + 1 })
-changed_by (Moved old new) s = Some (record s { live_packets = s.live_packets - old.packets + new.packets; live_bytes = s.live_bytes - old.bytes + new.bytes })
+changed_by (Moved old new) s =
+    Some (record s {
+      live_packets = s.live_packets - old.packets + new.packets;
+      live_bytes = s.live_bytes - old.bytes + new.bytes;
+    })
 changed_by (Ended n) s = left_of (record {
   packets = capped (s.packets + n.packets);
   bytes = capped (s.bytes + n.bytes);
@@ -60,17 +65,21 @@ changed_by Forgotten s = left_of (record s { forgotten = true })
 abbrev pub Allows : Event → Sum → Type 0
 Allows Begun s = s.live + 1 < 2 ^ 64
 Allows (Moved old new) s =
-    (old.packets ≤ s.live_packets) × (old.bytes ≤ s.live_bytes) × (s.live_packets - old.packets + new.packets < 2 ^ 128) × (s.live_bytes - old.bytes + new.bytes < 2 ^ 128)
+    (old.packets ≤ s.live_packets) × (old.bytes ≤ s.live_bytes) × (s.live_packets - old.packets + new.packets < 2 ^ 128)
+    × (s.live_bytes - old.bytes + new.bytes < 2 ^ 128)
 Allows (Ended n) s = (0 < s.live) × (n.packets ≤ s.live_packets) × (n.bytes ≤ s.live_bytes)
 Allows Forgotten s = ⊤
 
 -- and so for the sum of each leaf
 abbrev pub AllowsEach : Event → List Leaf → Sums → Type 0
-AllowsEach event leaves sums = (leaf : Leaf) → list_any (same_leaf leaf) leaves ≡ true → IfSome (sum_at leaf sums) (Allows event)
+AllowsEach event leaves sums = (leaf : Leaf) → list_any (same_leaf leaf) leaves ≡ true
+    → IfSome (sum_at leaf sums) (Allows event)
 
 -- it happened to the sums of the leaves, and to no other
 abbrev pub HappenedTo : Event → List Leaf → Sums → Sums → Type 0
-HappenedTo event leaves old new = (leaf : Leaf) → sum_at leaf new ≡ (if list_any (same_leaf leaf) leaves then option_and_then (changed_by event) (sum_at leaf old) else sum_at leaf old)
+HappenedTo event leaves old new = (leaf : Leaf)
+    → sum_at leaf new ≡ (if list_any (same_leaf leaf) leaves then option_and_then (changed_by event) (sum_at leaf old)
+    else sum_at leaf old)
 
 -- a sum is that of the cookies that name the leaf; a leaf that is forgotten is named
 pub record IsSum (live : List Cookie) (leaf : Leaf) (s : Sum) : Type 0 where
@@ -91,7 +100,11 @@ pub record AreSums (live : List Cookie) (sums : Sums) : Type 0 where
 
 -- the counts that cookies and sums make
 abbrev pub seen : Cookies → Sums → CountsOf
-seen live sums = record { live = live; totals = λ leaf. total_in (sum_at leaf sums); forgotten = λ leaf. forgotten_in (sum_at leaf sums) }
+seen live sums = record {
+  live = live;
+  totals = λ leaf. total_in (sum_at leaf sums);
+  forgotten = λ leaf. forgotten_in (sum_at leaf sums);
+}
 
 -- the place of the first cookie of a switch
 abbrev pub IsFirstOf : ℕ → Cookies → Place → Type 0

@@ -24,7 +24,8 @@ ended_now place s = ended_if (cookie_at place s) place s
 -- a last report of the numbers that a cookie has ends it as it is
 abbrev pub LastReportEnds : Type 0
 LastReportEnds =
-    (place : Place) (c : Cookie) (s : CountsOf) → cookie_at place s ≡ Some c → reported place c.numbers true s ≡ ended_now place s
+    (place : Place) (c : Cookie) (s : CountsOf) → cookie_at place s ≡ Some c
+    → reported place c.numbers true s ≡ ended_now place s
 
 -- other numbers, and then the old ones again, leave what stood
 abbrev pub OldNumbersRestore : Type 0

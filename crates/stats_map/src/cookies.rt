@@ -21,7 +21,8 @@ pub fn begin_at(
 ) -> Result<(), Memory>
     requires { AreSums (values_of live.old.entries) sums.old.entries }
     ensures sums { AreSums (values_of live.new.entries) sums.new.entries }
-    ensures installed { OnOk result (seen live.new.entries sums.new.entries ≡ installed place ancestry.now (seen live.old.entries sums.old.entries)) }
+    ensures installed { OnOk result (seen live.new.entries sums.new.entries
+        ≡ installed place ancestry.now (seen live.old.entries sums.old.entries)) }
     ensures memory { OnErr result (seen live.new.entries sums.new.entries ≡ seen live.old.entries sums.old.entries) }
 {
     if live.contains_key(&place) {
@@ -46,8 +47,11 @@ pub fn renumber_at(
     requires { AreSums (values_of live.old.entries) sums.old.entries }
     ensures sums { AreSums (values_of live.new.entries) sums.new.entries }
     ensures found { result ≡ is_some (lookup (is_at (place_cmp place.now)) live.old.entries) }
-    ensures numbers { MatchOption (lookup (is_at (place_cmp place.now)) live.old.entries) (seen live.new.entries sums.new.entries ≡ seen live.old.entries sums.old.entries)
-        (λ c. seen live.new.entries sums.new.entries ≡ renumbered place.now (with_numbers (record { packets = packets; bytes = bytes }) c) (seen live.old.entries sums.old.entries)) }
+    ensures numbers { MatchOption (lookup (is_at (place_cmp place.now)) live.old.entries)
+        (seen live.new.entries sums.new.entries ≡ seen live.old.entries sums.old.entries)
+        (λ c. seen live.new.entries sums.new.entries
+        ≡ renumbered place.now (with_numbers (record { packets = packets; bytes = bytes }) c)
+        (seen live.old.entries sums.old.entries)) }
 {
     // The proof learns that there are fewer than 2^63.
     let _ = live.len();
@@ -70,9 +74,11 @@ pub fn end_at(
 )
     requires { AreSums (values_of live.old.entries) sums.old.entries }
     ensures sums { AreSums (values_of live.new.entries) sums.new.entries }
-    ensures ended { MatchOption (lookup (is_at (place_cmp place.now)) live.old.entries) (seen live.new.entries sums.new.entries ≡ seen live.old.entries sums.old.entries)
+    ensures ended { MatchOption (lookup (is_at (place_cmp place.now)) live.old.entries)
+        (seen live.new.entries sums.new.entries ≡ seen live.old.entries sums.old.entries)
         (λ c. seen live.new.entries sums.new.entries ≡ ended place.now c (seen live.old.entries sums.old.entries)) }
-    ensures fewer { MatchOption (lookup (is_at (place_cmp place.now)) live.old.entries) (live.new.entries ≡ live.old.entries) (λ c. length live.new.entries < length live.old.entries) }
+    ensures fewer { MatchOption (lookup (is_at (place_cmp place.now)) live.old.entries)
+        (live.new.entries ≡ live.old.entries) (λ c. length live.new.entries < length live.old.entries) }
 {
     let Some(row) = live.remove(place) else {
         return;

@@ -52,7 +52,8 @@ impl Counts {
     ghost use Rattle.stats_map.specs.Changes.{CanMake, made};
     ghost use Rattle.stats_map.specs.Pending.{IsSummed};
     ghost use Rattle.stats_map.specs.Told.{told};
-    ghost use Rattle.stats_map.specs.Counting.{cookie_at, count as count_of, downed, forgot, installed, is_named as is_named_of, nothing, place_cmp, reported};
+    ghost use Rattle.stats_map.specs.Counting.{cookie_at, count as count_of, downed, forgot, installed};
+    ghost use Rattle.stats_map.specs.Counting.{is_named as is_named_of, nothing, place_cmp, reported};
 
     /// Nothing was written. It takes no memory.
     pub fn new(alloc: Global) -> Counts
@@ -67,7 +68,8 @@ impl Counts {
 
     /// A cookie is written to a switch. One that was written already stays as it is.
     pub fn install(&mut self, switch: u32, written: &Written) -> Result<(), Memory>
-        ensures installed { OnOk result (told self.new ≡ installed (switch, written.now.cookie) written.now.entry.ancestry (told self.old)) }
+        ensures installed { OnOk result
+            (told self.new ≡ installed (switch, written.now.cookie) written.now.entry.ancestry (told self.old)) }
         ensures memory { OnErr result (told self.new ≡ told self.old) }
     {
         let place = (switch, written.cookie);
@@ -89,7 +91,8 @@ impl Counts {
         last: bool,
     ) -> Known
         ensures known { result ≡ known (cookie_at (switch, cookie) (told self.old)) }
-        ensures counts { told self.new ≡ reported (switch, cookie) (record { packets = packets; bytes = bytes }) last (told self.old) }
+        ensures counts { told self.new ≡ reported (switch, cookie) (record { packets = packets; bytes = bytes }) last
+            (told self.old) }
     {
         let place = (switch, cookie);
         if !renumber_at(&mut self.live, &mut self.sums, &place, packets, bytes) {

@@ -1,5 +1,6 @@
 //! The sums of leaves.
-ghost use Rattle.std.specs.Prelude.{◌≡◌, ◌<◌, not, true, IsSome, OnOk, IfSome, Some, None, length, option_and_then, take, if◌then◌else◌};
+ghost use Rattle.std.specs.Prelude.{◌≡◌, ◌<◌, not, true, IsSome, OnOk, IfSome, Some, None, length, option_and_then};
+ghost use Rattle.std.specs.Prelude.{take, if◌then◌else◌};
 ghost use Rattle.std.specs.List.{list_any, slice_index_or};
 ghost use Rattle.cv_io.specs.Leaves.{same_leaf};
 ghost use Rattle.cv_io.specs.declared.leaf.Leaf.{Leaf as LeafOf};
@@ -24,7 +25,8 @@ fn add_leaf(sums: &mut BTreeMap<Leaf, Sum>, leaf: &Leaf) -> Result<(), Memory>
 /// Makes sums for the leaves of a list that have none.
 pub fn add_leaves(sums: &mut BTreeMap<Leaf, Sum>, ancestry: &List<Leaf>) -> Result<(), Memory>
     ensures more { HaveMore sums.old.entries sums.new.entries }
-    ensures there { OnOk result ((leaf : LeafOf) → list_any (same_leaf leaf) ancestry.now ≡ true → IsSome (sum_at leaf sums.new.entries)) }
+    ensures there { OnOk result ((leaf : LeafOf) → list_any (same_leaf leaf) ancestry.now ≡ true
+        → IsSome (sum_at leaf sums.new.entries)) }
 {
     for leaf in ancestry.as_slice() {
         add_leaf(sums, leaf)?;
@@ -35,7 +37,8 @@ pub fn add_leaves(sums: &mut BTreeMap<Leaf, Sum>, ancestry: &List<Leaf>) -> Resu
 /// Whether the leaf at a place stands at no earlier one.
 pub fn is_first(ancestry: &[Leaf], place: usize) -> bool
     requires { place < length ancestry.now }
-    ensures { (d : LeafOf) → result ≡ not (list_any (same_leaf (slice_index_or ancestry.now place d)) (take place ancestry.now)) }
+    ensures { (d : LeafOf)
+        → result ≡ not (list_any (same_leaf (slice_index_or ancestry.now place d)) (take place ancestry.now)) }
 {
     !ancestry[..place].contains(&ancestry[place])
 }
@@ -43,7 +46,10 @@ pub fn is_first(ancestry: &[Leaf], place: usize) -> bool
 /// What happens to the sum of one leaf.
 fn change_one(sums: &mut BTreeMap<Leaf, Sum>, leaf: &Leaf, event: &Event)
     requires { IfSome (sum_at leaf.now sums.old.entries) (Allows event.now) }
-    ensures { (q : LeafOf) → sum_at q sums.new.entries ≡ (if same_leaf leaf.now q then option_and_then (changed_by event.now) (sum_at leaf.now sums.old.entries) else sum_at q sums.old.entries) }
+    ensures { (q : LeafOf)
+        → sum_at q sums.new.entries
+        ≡ (if same_leaf leaf.now q then option_and_then (changed_by event.now) (sum_at leaf.now sums.old.entries)
+        else sum_at q sums.old.entries) }
 {
     let Some(sum) = sums.get_mut(leaf) else {
         return;

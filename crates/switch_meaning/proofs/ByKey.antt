@@ -1,5 +1,6 @@
 -- Entries by rising key, and one entry for each.
-use Rattle.std.proofs.Common.{◌≡◌, ◌+◌, ℕ, zero, suc, Bool, true, false, ◌&&◌, List, [], ◌∷◌, refl, ap, subst, ◌∙◌, arith}
+use Rattle.std.proofs.Common.{◌≡◌, ◌+◌, ℕ, zero, suc, Bool, true, false, ◌&&◌, List, [], ◌∷◌, refl, ap, subst, ◌∙◌}
+use Rattle.std.proofs.Common.{arith}
 use Rattle.std.specs.Prelude.{◌==◌, not, filter, if◌then◌else◌, IsSorted, slice_index_or}
 use Rattle.std.specs.List.{list_any}
 use Rattle.std.specs.Cmp.{IsTotalOrder, nat_cmp_total, on_total, then_total}
@@ -21,7 +22,8 @@ use Rattle.switch_meaning.proofs.Items.{fails, join_and}
 use Rattle.switch_meaning.proofs.Members.{IsIn, distinct-filter, distinct-narrower, filter-in, passes-any}
 
 pub key_total : IsTotalOrder key_cmp
-key_total = then_total (on_total (λ (e : PhysEntry). e.priority) nat_cmp_total) (on_total (λ (e : PhysEntry). e.m) by_bytes_total)
+key_total = then_total (on_total (λ (e : PhysEntry). e.priority) nat_cmp_total)
+    (on_total (λ (e : PhysEntry). e.m) by_bytes_total)
 
 -- the entry does not come after the first of the list
 abbrev Above : PhysEntry → List PhysEntry → Type 0
@@ -42,7 +44,8 @@ is-above Less e = cc
 is-above Equal e = refl
 is-above Greater e = refl
 
-put-above : (x e : PhysEntry) (ds : List PhysEntry) → is_lt (key_cmp e x) ≡ false → Above x ds → Above x (put_by_key e ds)
+put-above : (x e : PhysEntry) (ds : List PhysEntry) → is_lt (key_cmp e x) ≡ false → Above x ds
+    → Above x (put_by_key e ds)
 put-above x e [] p a = p
 put-above x e (d ∷ ds) p a = by (is_le (key_cmp e d))
   where
@@ -54,7 +57,8 @@ put-rises : (e : PhysEntry) (ds : List PhysEntry) → Rising ds → Rising (put_
 put-rises e [] r = (tt, tt)
 put-rises e (d ∷ ds) r = by (is_le (key_cmp e d)) refl (put-rises e ds r.1)
   where
-    by : (b : Bool) → is_le (key_cmp e d) ≡ b → Rising (put_by_key e ds) → Rising (if b then e ∷ d ∷ ds else d ∷ put_by_key e ds)
+    by : (b : Bool) → is_le (key_cmp e d) ≡ b → Rising (put_by_key e ds)
+        → Rising (if b then e ∷ d ∷ ds else d ∷ put_by_key e ds)
     by true t rest = (ap is_lt (key_total.antisymm d e) ∙ not-below (key_cmp e d) t, r)
     by false f rest = (put-above d e ds (is-above (key_cmp e d) f) r.0, rest)
 
@@ -68,7 +72,8 @@ rising-sorted (x ∷ []) r k d low lt = absurd (omega arith)
 rising-sorted (x ∷ y ∷ ys) r zero d low lt = r.0
 rising-sorted (x ∷ y ∷ ys) r (suc k) d low lt =
     let next : suc (k + 1) ≡ suc k + 1 = omega arith in
-    subst (λ n. is_lt (key_cmp (slice_index_or (x ∷ y ∷ ys) n d) (slice_index_or (y ∷ ys) k d)) ≡ false) next (rising-sorted (y ∷ ys) r.1 k d (omega arith) (omega arith))
+    subst (λ n. is_lt (key_cmp (slice_index_or (x ∷ y ∷ ys) n d) (slice_index_or (y ∷ ys) k d)) ≡ false) next
+    (rising-sorted (y ∷ ys) r.1 k d (omega arith) (omega arith))
 
 pub sorted-by-key : SortedByKey
 sorted-by-key es = (by_key-permutes es, rising-sorted (by_key es) (by_key-rises es))
@@ -86,7 +91,8 @@ number-same a b e = grind (arith, nat_tests)
 leaf-same : (a b : Leaf) → leaf_cmp a b ≡ Equal → same_leaf a b ≡ true
 leaf-same a b e =
     let s = both-equal (nat_cmp a.member b.member) (nat_cmp a.kind b.kind) e in
-    join_and (a.member == b.member) (a.kind == b.kind) (number-same a.member b.member s.0) (number-same a.kind b.kind s.1)
+    join_and (a.member == b.member) (a.kind == b.kind) (number-same a.member b.member s.0)
+    (number-same a.kind b.kind s.1)
 
 ancestry-same : (a b : List Leaf) → ancestry_cmp a b ≡ Equal → pointwise same_leaf a b ≡ true
 ancestry-same [] [] e = refl
@@ -97,7 +103,9 @@ ancestry-same (x ∷ xs) (y ∷ ys) e =
     join_and (same_leaf x y) (pointwise same_leaf xs ys) (leaf-same x y s.0) (ancestry-same xs ys s.1)
 
 ancestry_total : IsTotalOrder ancestry_cmp
-ancestry_total = lists_total (then_total (on_total (λ (a : Leaf). a.member) nat_cmp_total) (on_total (λ (a : Leaf). a.kind) nat_cmp_total))
+ancestry_total =
+    lists_total (then_total (on_total (λ (a : Leaf). a.member) nat_cmp_total)
+    (on_total (λ (a : Leaf). a.kind) nat_cmp_total))
 
 abbrev are_twins : PhysEntry → PhysEntry → Bool
 are_twins d e = same_key d e && pointwise same_leaf d.ancestry e.ancestry
@@ -109,25 +117,33 @@ module _ (entries : List PhysEntry) where
   -- nothing displaces an entry that is kept
   undisplaced : (d e : PhysEntry) → IsIn d entries → is_kept e ≡ true → displaces d e ≡ true → ⊥
   undisplaced d e i k t =
-      let f : list_any (λ (d : PhysEntry). displaces d e) entries ≡ false = not_true (list_any (λ (d : PhysEntry). displaces d e) entries) k in
-      let g : list_any (λ (d : PhysEntry). displaces d e) entries ≡ true = passes-any (λ (d : PhysEntry). displaces d e) i t in cc
+      let f : list_any (λ (d : PhysEntry). displaces d e) entries ≡ false =
+      not_true (list_any (λ (d : PhysEntry). displaces d e) entries) k in
+      let g : list_any (λ (d : PhysEntry). displaces d e) entries ≡ true =
+      passes-any (λ (d : PhysEntry). displaces d e) i t in cc
 
   -- two entries that are kept have different keys
-  kept-apart : (d e : PhysEntry) → IsIn d entries × (is_kept d ≡ true) → IsIn e entries × (is_kept e ≡ true) → are_twins d e ≡ false → same_key d e ≡ true → ⊥
+  kept-apart : (d e : PhysEntry) → IsIn d entries × (is_kept d ≡ true) → IsIn e entries × (is_kept e ≡ true)
+      → are_twins d e ≡ false → same_key d e ≡ true → ⊥
   kept-apart d e p q apart t = by (ancestry_cmp d.ancestry e.ancestry) refl
     where
       by : (r : Ordering) → ancestry_cmp d.ancestry e.ancestry ≡ r → ⊥
-      by Less c = undisplaced d e p.0 q.1 (join_and (same_key d e) (is_lt (ancestry_cmp d.ancestry e.ancestry)) t (ap is_lt c))
+      by Less c =
+          undisplaced d e p.0 q.1 (join_and (same_key d e) (is_lt (ancestry_cmp d.ancestry e.ancestry)) t (ap is_lt c))
       by Equal c =
-          let twins : are_twins d e ≡ true = join_and (same_key d e) (pointwise same_leaf d.ancestry e.ancestry) t (ancestry-same d.ancestry e.ancestry c) in cc
+          let twins : are_twins d e ≡ true =
+          join_and (same_key d e) (pointwise same_leaf d.ancestry e.ancestry) t
+          (ancestry-same d.ancestry e.ancestry c) in cc
       by Greater c =
-          undisplaced e d q.0 p.1 (join_and (same_key e d) (is_lt (ancestry_cmp e.ancestry d.ancestry)) (key-flips e d ∙ t)
+          undisplaced e d q.0 p.1
+          (join_and (same_key e d) (is_lt (ancestry_cmp e.ancestry d.ancestry)) (key-flips e d ∙ t)
           (ap is_lt (ancestry_total.antisymm e.ancestry d.ancestry ∙ ap ordering_reverse c)))
 
   one-a-key : HasNoTwins entries → HasOneAKey (one_per_key entries)
   one-a-key none =
       distinct-narrower are_twins same_key (filter is_kept entries) (distinct-filter are_twins is_kept entries none)
-      (λ d e i j apart. fails (same_key d e) (kept-apart d e (filter-in is_kept d entries i) (filter-in is_kept e entries j) apart))
+      (λ d e i j apart. fails (same_key d e)
+      (kept-apart d e (filter-in is_kept d entries i) (filter-in is_kept e entries j) apart))
 
 pub installed-has-one-a-key : InstalledHasOneAKey
 installed-has-one-a-key entries none =

@@ -1,9 +1,11 @@
 -- What stands in a list.
-use Rattle.std.proofs.Common.{◌≡◌, ℕ, zero, ◌<◌, ◌⊎◌, inl, inr, Bool, true, false, ◌||◌, List, [], ◌∷◌, ◌++◌, length, refl, sym, subst, map, arith}
+use Rattle.std.proofs.Common.{◌≡◌, ℕ, zero, ◌<◌, ◌⊎◌, inl, inr, Bool, true, false, ◌||◌, List, [], ◌∷◌, ◌++◌, length}
+use Rattle.std.proofs.Common.{refl, sym, subst, map, arith}
 use Rattle.std.specs.Prelude.{filter, if◌then◌else◌, IsPermutation, suc}
 use Rattle.std.specs.List.{AllByRecursion, IsDistinct, list_any, Contains, remove, slice_index_or}
 use Rattle.std.proofs.lemmas.List.Elements.{recursion_from_All, All-from_recursion}
-use Rattle.std.proofs.lemmas.List.Sorted.{All-permutation, IsPermutation-cons, IsPermutation-refl, IsPermutation-remove, IsPermutation-sym, IsPermutation-trans}
+use Rattle.std.proofs.lemmas.List.Sorted.{All-permutation, IsPermutation-cons, IsPermutation-refl, IsPermutation-remove}
+use Rattle.std.proofs.lemmas.List.Sorted.{IsPermutation-sym, IsPermutation-trans}
 use Rattle.std.proofs.lemmas.Map.Keys.{IsDistinct-IsPermutation}
 use Rattle.switch_meaning.proofs.Items.{all-filter}
 
@@ -38,7 +40,9 @@ module _ {A : Type 0} where
 
   -- what stands in a list stands in any order of it
   pub in-permuted : (xs ys : List A) (x : A) → IsPermutation xs ys → IsIn x xs → IsIn x ys
-  in-permuted xs ys x p i = in-all (λ (y : A). IsIn y ys) i (all-permuted (λ (y : A). IsIn y ys) ys xs (IsPermutation-sym xs ys p) (all-in (λ (y : A). IsIn y ys) ys (λ y j. j)))
+  in-permuted xs ys x p i = in-all (λ (y : A). IsIn y ys) i
+      (all-permuted (λ (y : A). IsIn y ys) ys xs (IsPermutation-sym xs ys p)
+      (all-in (λ (y : A). IsIn y ys) ys (λ y j. j)))
 
   pub in-left : {x : A} {xs : List A} (ys : List A) → IsIn x xs → IsIn x (xs ++ ys)
   in-left ys here = here
@@ -90,11 +94,13 @@ module _ {A : Type 0} where
   filter-in p x [] i = no-items i
   filter-in p x (y ∷ xs) i = by (p y) refl (λ j. filter-in p x xs j) i
     where
-      one : p y ≡ true → (IsIn x (filter p xs) → IsIn x xs × (p x ≡ true)) → (x ≡ y) ⊎ IsIn x (filter p xs) → IsIn x (y ∷ xs) × (p x ≡ true)
+      one : p y ≡ true → (IsIn x (filter p xs) → IsIn x xs × (p x ≡ true)) → (x ≡ y) ⊎ IsIn x (filter p xs)
+          → IsIn x (y ∷ xs) × (p x ≡ true)
       one e rest (inl f) = (subst (λ z. IsIn z (y ∷ xs)) (sym f) here, subst (λ z. p z ≡ true) (sym f) e)
       one e rest (inr j) = let r = rest j in (there r.0, r.1)
 
-      by : (b : Bool) → p y ≡ b → (IsIn x (filter p xs) → IsIn x xs × (p x ≡ true)) → IsIn x (if b then y ∷ filter p xs else filter p xs) → IsIn x (y ∷ xs) × (p x ≡ true)
+      by : (b : Bool) → p y ≡ b → (IsIn x (filter p xs) → IsIn x xs × (p x ≡ true))
+          → IsIn x (if b then y ∷ filter p xs else filter p xs) → IsIn x (y ∷ xs) × (p x ≡ true)
       by true e rest j = one e rest (first-or-later j)
       by false e rest j = let r = rest j in (there r.0, r.1)
 
@@ -138,11 +144,13 @@ module _ {A : Type 0} where
     unfolding IsDistinct
     one-alike d here here e = refl
     one-alike {x} {y} d here (there j) e = let f : E x y ≡ false = in-all (λ (z : A). E x z ≡ false) j d.0 in cc
-    one-alike {x} {y} d (there i) here e = let f : E y x ≡ false = in-all (λ (z : A). E y z ≡ false) i d.0 in let g = flips x y in cc
+    one-alike {x} {y} d (there i) here e = let f : E y x ≡ false = in-all (λ (z : A). E y z ≡ false) i d.0 in let g =
+        flips x y in cc
     one-alike d (there i) (there j) e = one-alike d.1 i j e
 
     -- distinct items that stand in both of two lists are the same, in another order
-    pub same-items : (xs ys : List A) → IsDistinct E xs → IsDistinct E ys → ((x : A) → IsIn x xs → IsIn x ys) → ((x : A) → IsIn x ys → IsIn x xs) → IsPermutation xs ys
+    pub same-items : (xs ys : List A) → IsDistinct E xs → IsDistinct E ys → ((x : A) → IsIn x xs → IsIn x ys)
+        → ((x : A) → IsIn x ys → IsIn x xs) → IsPermutation xs ys
     unfolding IsDistinct
     same-items [] [] d e f g = IsPermutation-refl []
     same-items [] (y ∷ ys) d e f g = no-items (g y here)
@@ -151,16 +159,22 @@ module _ {A : Type 0} where
         let rest = remove ys c.0 in
         let moved : IsPermutation ys (x ∷ rest) = IsPermutation-remove ys c.0 x c.1 (sym c.2) in
         let apart : IsDistinct E (x ∷ rest) = IsDistinct-IsPermutation E flips ys (x ∷ rest) moved e in
-        let down = λ (z : A) (i : IsIn z xs). other z xs rest d.0 i (first-or-later (in-permuted ys (x ∷ rest) z moved (f z (there i)))) in
-        let up = λ (z : A) (i : IsIn z rest). other z rest xs apart.0 i (first-or-later (g z (in-permuted (x ∷ rest) ys z (IsPermutation-sym ys (x ∷ rest) moved) (there i)))) in
-        IsPermutation-trans (x ∷ xs) (x ∷ rest) ys (IsPermutation-cons x xs rest (same-items xs rest d.1 apart.1 down up)) (IsPermutation-sym ys (x ∷ rest) moved)
+        let down = λ (z : A) (i : IsIn z xs). other z xs rest d.0 i
+        (first-or-later (in-permuted ys (x ∷ rest) z moved (f z (there i)))) in
+        let up = λ (z : A) (i : IsIn z rest). other z rest xs apart.0 i
+        (first-or-later (g z (in-permuted (x ∷ rest) ys z (IsPermutation-sym ys (x ∷ rest) moved) (there i)))) in
+        IsPermutation-trans (x ∷ xs) (x ∷ rest) ys
+        (IsPermutation-cons x xs rest (same-items xs rest d.1 apart.1 down up))
+        (IsPermutation-sym ys (x ∷ rest) moved)
       where
-        other : (z : A) (us vs : List A) → AllByRecursion (λ (y : A). E x y ≡ false) us → IsIn z us → (z ≡ x) ⊎ IsIn z vs → IsIn z vs
+        other : (z : A) (us vs : List A) → AllByRecursion (λ (y : A). E x y ≡ false) us → IsIn z us
+            → (z ≡ x) ⊎ IsIn z vs → IsIn z vs
         other z us vs a i (inl same) = absurd (apart-here x us (subst (λ w. IsIn w us) same i) a)
         other z us vs a i (inr j) = j
 
 module _ {A : Type 0} (E : A → A → Bool) where
-  one-distinct : (b : Bool) (x : A) (xs : List A) → AllByRecursion (λ y. E x y ≡ false) xs → IsDistinct E xs → IsDistinct E (if b then x ∷ xs else xs)
+  one-distinct : (b : Bool) (x : A) (xs : List A) → AllByRecursion (λ y. E x y ≡ false) xs → IsDistinct E xs
+      → IsDistinct E (if b then x ∷ xs else xs)
   unfolding IsDistinct
   one-distinct true x xs a d = (a, d)
   one-distinct false x xs a d = d
@@ -169,14 +183,18 @@ module _ {A : Type 0} (E : A → A → Bool) where
   pub distinct-filter : (p : A → Bool) (xs : List A) → IsDistinct E xs → IsDistinct E (filter p xs)
   unfolding IsDistinct
   distinct-filter p [] d = tt
-  distinct-filter p (x ∷ xs) d = one-distinct (p x) x (filter p xs) (all-filter (λ y. E x y ≡ false) p xs d.0) (distinct-filter p xs d.1)
+  distinct-filter p (x ∷ xs) d = one-distinct (p x) x (filter p xs) (all-filter (λ y. E x y ≡ false) p xs d.0)
+      (distinct-filter p xs d.1)
 
   -- items that one test tells apart another one does too
-  pub distinct-narrower : (F : A → A → Bool) (xs : List A) → IsDistinct E xs → ((x y : A) → IsIn x xs → IsIn y xs → E x y ≡ false → F x y ≡ false) → IsDistinct F xs
+  pub distinct-narrower : (F : A → A → Bool) (xs : List A) → IsDistinct E xs
+      → ((x y : A) → IsIn x xs → IsIn y xs → E x y ≡ false → F x y ≡ false) → IsDistinct F xs
   unfolding IsDistinct
   distinct-narrower F [] d f = tt
-  distinct-narrower F (x ∷ xs) d f =
-      (all-in (λ y. F x y ≡ false) xs (λ y i. f x y here (there i) (in-all (λ y. E x y ≡ false) i d.0)), distinct-narrower F xs d.1 (λ u v i j. f u v (there i) (there j)))
+  distinct-narrower F (x ∷ xs) d f = (
+    all-in (λ y. F x y ≡ false) xs (λ y i. f x y here (there i) (in-all (λ y. E x y ≡ false) i d.0)),
+    distinct-narrower F xs d.1 (λ u v i j. f u v (there i) (there j)),
+  )
 
 module _ {A B : Type 0} (f : A → B) where
   pub in-map : {x : A} {xs : List A} → IsIn x xs → IsIn (f x) (map f xs)

@@ -25,7 +25,8 @@ IsTableOf entries table = IsPermutation (map flow_of entries) table
 -- in whichever order a switch takes the messages of each phase, its table is afterwards that of the new entries
 abbrev pub BatchGivesTable : Type 0
 BatchGivesTable =
-    (before after : List PhysEntry) → HasOneAKey before → HasOneAKey after → (table : List FlowEntry) → IsTableOf before table
+    (before after : List PhysEntry) → HasOneAKey before → HasOneAKey after → (table : List FlowEntry)
+    → IsTableOf before table
     → (deletes : List Change) → IsPermutation (deleting (difference before after)) deletes
     → (adds : List Change) → IsPermutation (adding (difference before after)) adds
     → IsTableOf after (table_after_all (table_after_all table deletes) adds)
@@ -39,7 +40,8 @@ FreshGivesTable =
 
 -- what a switch may use does not depend on the order of its table
 abbrev pub OrderIsFree : Type 0
-OrderIsFree = (table other : List FlowEntry) → IsPermutation table other → (h : HeaderOf) (used : Option FlowEntry) → MayUse table h used → MayUse other h used
+OrderIsFree = (table other : List FlowEntry) → IsPermutation table other → (h : HeaderOf) (used : Option FlowEntry)
+    → MayUse table h used → MayUse other h used
 
 -- sorting keeps the entries, and puts them by rising key
 abbrev pub SortedByKey : Type 0
@@ -47,7 +49,8 @@ SortedByKey = (entries : List PhysEntry) → IsPermutation entries (by_key entri
 
 -- no two entries have the same match, priority and ancestry
 abbrev pub HasNoTwins : List PhysEntry → Type 0
-HasNoTwins entries = IsDistinct (λ (d : PhysEntry) (e : PhysEntry). same_key d e && pointwise same_leaf d.ancestry e.ancestry) entries
+HasNoTwins entries =
+    IsDistinct (λ (d : PhysEntry) (e : PhysEntry). same_key d e && pointwise same_leaf d.ancestry e.ancestry) entries
 
 -- of such entries a switch has one for each key
 abbrev pub InstalledHasOneAKey : Type 0

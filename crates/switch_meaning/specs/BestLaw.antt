@@ -10,8 +10,10 @@ use Rattle.switch_meaning.specs.declared.entry.PhysEntry.{PhysEntry}
 
 -- the item stands once in the list, passes the test, and is above every other one that does
 pub data IsBest {A : Type 0} (passes : A → Bool) (by : A → ℕ) : List A → A → Type 0 where
-  first : {x : A} {xs : List A} → passes x ≡ true → AllByRecursion (λ (y : A). passes y ≡ true → by y < by x) xs → IsBest passes by (x ∷ xs) x
-  later : {x y : A} {xs : List A} → (passes y ≡ true → by y < by x) → IsBest passes by xs x → IsBest passes by (y ∷ xs) x
+  first : {x : A} {xs : List A} → passes x ≡ true → AllByRecursion (λ (y : A). passes y ≡ true → by y < by x) xs
+      → IsBest passes by (x ∷ xs) x
+  later : {x y : A} {xs : List A} → (passes y ≡ true → by y < by x) → IsBest passes by xs x
+      → IsBest passes by (y ∷ xs) x
 
 -- of the entries that hold the header this one has the greatest priority, and no other has it
 abbrev pub IsBestEntry : HeaderOf → List PhysEntry → PhysEntry → Type 0
@@ -30,11 +32,13 @@ pub record IsGated (h : HeaderOf) (entries : List PhysEntry) (e : PhysEntry) : T
 -- of a table that has one entry for each key, with the smallest ancestry, both readings of rank give the best entry
 abbrev pub BestIsUsed : Type 0
 BestIsUsed =
-    (entries : List PhysEntry) (h : HeaderOf) (best : PhysEntry) → IsBestEntry h entries best → AllByRecursion (IsGated h entries) entries
+    (entries : List PhysEntry) (h : HeaderOf) (best : PhysEntry) → IsBestEntry h entries best
+    → AllByRecursion (IsGated h entries) entries
     → (used : Option FlowEntry) → MayUse (map flow_of (one_per_key entries)) h used → used ≡ Some (flow_of best)
 
 -- and so they do of the table of all entries that are put on a switch, whichever fields these name
 abbrev pub BestIsInstalled : Type 0
 BestIsInstalled =
-    (entries : List PhysEntry) (h : HeaderOf) (best : PhysEntry) → IsBestEntry h entries best → AllByRecursion (λ (e : PhysEntry). e.priority < 2 ^ 16) entries
+    (entries : List PhysEntry) (h : HeaderOf) (best : PhysEntry) → IsBestEntry h entries best
+    → AllByRecursion (λ (e : PhysEntry). e.priority < 2 ^ 16) entries
     → (used : Option FlowEntry) → MayUse (map flow_of (installed entries)) h used → used ≡ Some (flow_of best)

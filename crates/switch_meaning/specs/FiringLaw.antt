@@ -1,5 +1,6 @@
 -- Firing the entry of a rule gives the rule's outs.
-use Rattle.std.specs.Prelude.{◌≡◌, ℕ, ◌<◌, ◌⊎◌, true, Option, Some, None, if◌then◌else◌, List, [], ◌∷◌, filter, filter_map, not, IfSome, option_map}
+use Rattle.std.specs.Prelude.{◌≡◌, ℕ, ◌<◌, ◌⊎◌, true, Option, Some, None, if◌then◌else◌, List, [], ◌∷◌, filter}
+use Rattle.std.specs.Prelude.{filter_map, not, IfSome, option_map}
 use Rattle.std.specs.List.{AllByRecursion}
 use Rattle.of10_match.specs.Fields.{HeaderOf}
 use Rattle.of10_actions.specs.Fields.{RewriteOf}
@@ -33,11 +34,16 @@ leaves_by w h r (Tell member reason) = None
 
 -- the outs that speak of a packet that came by a port: a rule for all ports has outs to that port, which are silent
 abbrev pub speaking : Site → ℕ → List Out → List Out
-speaking site port outs = if site.whole then filter (λ (o : Out). not (is_silent site.v (Some port) o.dest)) outs else outs
+speaking site port outs = if site.whole then filter (λ (o : Out). not (is_silent site.v (Some port) o.dest)) outs
+    else outs
 
 -- what outs say of a packet: what is sent, in order, and one copy where somebody is told
 abbrev pub said : Wiring → HeaderOf → List Out → Fired
-said w h outs = record { outs = filter_map (λ (o : Out). leaves_by w h o.rewrite o.dest) outs; copies = if tells outs then h ∷ [] else [] }
+said w h outs = record {
+  outs = filter_map (λ (o : Out). leaves_by w h o.rewrite o.dest) outs;
+  copies = if tells outs
+      then h ∷ [] else [];
+}
 
 -- the outside port, if it is one, lies on this switch
 abbrev pub LiesOn : Wiring → ℕ → ℕ → ℕ → Type 0
@@ -67,6 +73,7 @@ pub record IsPlaceable (w : Wiring) (site : Site) (port : ℕ) (r : FlatRule) : 
 -- for every header that comes by a port of the virtual switch, and that the rule's entry holds
 abbrev pub FiringGivesOuts : Type 0
 FiringGivesOuts =
-    (w : Wiring) → IsSoundWiring w → (site : Site) (port : ℕ) (at : Outside) → outside_at w site.v port ≡ Some at → at.at.switch ≡ site.switch
+    (w : Wiring) → IsSoundWiring w → (site : Site) (port : ℕ) (at : Outside) → outside_at w site.v port ≡ Some at
+    → at.at.switch ≡ site.switch
     → (r : FlatRule) → IsPlaceable w site port r → (e : PhysEntry) → entry_of w site r ≡ Some e
     → (h : HeaderOf) → h.in_port ≡ at.at.port → fire e.actions h ≡ said w h (speaking site port r.outs)

@@ -1,5 +1,6 @@
 -- The entries that are put on a switch whatever the tables of members have.
-use Rattle.std.specs.Prelude.{ℕ, zero, suc, ◌<◌, All, IfSome, Bool, ◌==◌, ◌&&◌, not, Option, Some, if◌then◌else◌, List, [], ◌∷◌, ◌++◌, map, filter, flat_map, option_to_list, is_some, length}
+use Rattle.std.specs.Prelude.{ℕ, zero, suc, ◌<◌, All, IfSome, Bool, ◌==◌, ◌&&◌, not, Option, Some, if◌then◌else◌, List}
+use Rattle.std.specs.Prelude.{[], ◌∷◌, ◌++◌, map, filter, flat_map, option_to_list, is_some, length}
 use Rattle.std.specs.List.{list_any}
 use Rattle.std.specs.Option.{option_and_then}
 use Rattle.of10_match.specs.Matching.{at_port}
@@ -41,7 +42,9 @@ arrivals w (suc n) from to =
 
 -- a packet from some port of a virtual switch comes to this spot on its way to another port of it
 abbrev pub passes : Wiring → SwitchPort → Outside → Bool
-passes w s goal = list_any (λ (o : Outside). (o.v == goal.v) && list_any (same_spot s) (arrivals w (length w.cables) o.at.switch goal.at.switch)) w.outside
+passes w s goal =
+    list_any (λ (o : Outside). (o.v == goal.v) && list_any (same_spot s)
+    (arrivals w (length w.cables) o.at.switch goal.at.switch)) w.outside
 
 -- what a switch does with a packet that is on its way to a port: at the goal it is sent out without its tag, else on
 abbrev pub transit_actions : Wiring → ℕ → Outside → List Action
@@ -51,16 +54,23 @@ transit_actions w switch goal =
 
 -- the entry for packets that come to a spot with the tag of a port
 abbrev pub transit : Wiring → SwitchPort → Outside → ℕ → PhysEntry
-transit w s goal tag = record { m = record (at_port s.port) { dl_vlan = Some tag }; priority = 65535; actions = transit_actions w s.switch goal; ancestry = [] }
+transit w s goal tag = record {
+  m = record (at_port s.port) { dl_vlan = Some tag };
+  priority = 65535;
+  actions = transit_actions w s.switch goal;
+  ancestry = [];
+}
 
 -- the ends of cables at a switch
 abbrev pub ends_at : ℕ → List Cable → List SwitchPort
-ends_at switch cables = flat_map (λ (c : Cable). filter (λ (s : SwitchPort). s.switch == switch) (c.one ∷ c.other ∷ [])) cables
+ends_at switch cables = flat_map (λ (c : Cable). filter (λ (s : SwitchPort). s.switch == switch) (c.one ∷ c.other ∷ []))
+    cables
 
 -- for each port of a spread virtual switch, and each cable by which packets to it come to this switch
 abbrev pub transits_to : Wiring → ℕ → Outside → List PhysEntry
 transits_to w switch goal =
-    flat_map (λ (tag : ℕ). map (λ (s : SwitchPort). transit w s goal tag) (filter (λ (s : SwitchPort). passes w s goal) (ends_at switch w.cables))) (option_to_list goal.tag)
+    flat_map (λ (tag : ℕ). map (λ (s : SwitchPort). transit w s goal tag)
+    (filter (λ (s : SwitchPort). passes w s goal) (ends_at switch w.cables))) (option_to_list goal.tag)
 
 -- the transit entries of a switch, for each port of a spread virtual switch
 abbrev pub transits : Wiring → ℕ → List PhysEntry

@@ -37,7 +37,8 @@ goes_out (Some end) at h on = on end.switch (record h { in_port = end.port })
 abbrev pub all_go : Wiring → (List ℕ → ℕ → HeaderOf → Seen) → List ℕ → ℕ → ℕ → List Sent → Seen
 all_go w on way switch place [] = unseen
 all_go w on way switch place (out ∷ outs) =
-    both_seen (goes_out (far_end w (record { switch = switch; port = out.port })) (record { switch = switch; port = out.port }) out.header (on (place ∷ way)))
+    both_seen (goes_out (far_end w (record { switch = switch; port = out.port }))
+    (record { switch = switch; port = out.port }) out.header (on (place ∷ way)))
     (all_go w on way switch (suc place) outs)
 
 -- a switch fires, and then its outs go

@@ -1,5 +1,6 @@
 -- The entry that is put on a switch for a rule.
-use Rattle.std.specs.Prelude.{ℕ, ◌+◌, Bool, true, false, ◌==◌, ◌&&◌, not, Option, Some, None, if◌then◌else◌, List, [], ◌∷◌, ◌++◌, filter, option_map}
+use Rattle.std.specs.Prelude.{ℕ, ◌+◌, Bool, true, false, ◌==◌, ◌&&◌, not, Option, Some, None, if◌then◌else◌, List, []}
+use Rattle.std.specs.Prelude.{◌∷◌, ◌++◌, filter, option_map}
 use Rattle.std.specs.List.{list_any}
 use Rattle.std.specs.Option.{option_and_then, option_eq}
 use Rattle.of10_match.specs.Fields.{MatchOf}
@@ -8,7 +9,8 @@ use Rattle.of10_match.specs.Numbers.{UNTAGGED}
 use Rattle.of10_actions.specs.Fields.{RewriteOf}
 use Rattle.of10_actions.specs.Rewriting.{no_rewrite, and_then}
 use Rattle.of10_actions.specs.declared.action.Action.{Action}
-use Rattle.of10_actions.specs.declared.action.Action.TheVariants.{Output, SetVlanVid, StripVlan, SetDlSrc, SetDlDst, SetNwSrc, SetNwDst, SetNwTos, SetTpSrc, SetTpDst}
+use Rattle.of10_actions.specs.declared.action.Action.TheVariants.{Output, SetVlanVid, StripVlan, SetDlSrc, SetDlDst}
+use Rattle.of10_actions.specs.declared.action.Action.TheVariants.{SetNwSrc, SetNwDst, SetNwTos, SetTpSrc, SetTpDst}
 use Rattle.of10_actions.specs.declared.effects.Dest.{Dest}
 use Rattle.of10_actions.specs.declared.effects.Dest.TheVariants.{Port, Flood, Ingress, Tell}
 use Rattle.of10_actions.specs.declared.effects.Out.{Out}
@@ -31,7 +33,8 @@ set_unless (Some done) (Some set) = if same_action done set then [] else set ∷
 -- the actions that set the fields of a rewrite, field by field in the order in which they are written
 abbrev pub field_sets : RewriteOf → List (Option Action)
 field_sets r =
-    option_map SetDlSrc r.dl_src ∷ option_map SetDlDst r.dl_dst ∷ option_map SetNwSrc r.nw_src ∷ option_map SetNwDst r.nw_dst
+    option_map SetDlSrc r.dl_src ∷ option_map SetDlDst r.dl_dst ∷ option_map SetNwSrc r.nw_src
+    ∷ option_map SetNwDst r.nw_dst
     ∷ option_map SetNwTos r.nw_tos ∷ option_map SetTpSrc r.tp_src ∷ option_map SetTpDst r.tp_dst ∷ []
 
 -- the sets of one list, without those that the other did already
@@ -76,7 +79,8 @@ way_of w switch ingress (Tell member reason) = None
 -- a packet goes by a way as r makes it, and then what comes later; r0 and a tag are in force before
 abbrev pub going : Option Way → RewriteOf → Option ℕ → RewriteOf → (RewriteOf → Option ℕ → List Action) → List Action
 going None now tag r later = later now tag
-going (Some way) now tag r later = sets now r ++ (retag tag way.tag ++ (Output way.port 0 ∷ later (and_then now r) way.tag))
+going (Some way) now tag r later =
+    sets now r ++ (retag tag way.tag ++ (Output way.port 0 ∷ later (and_then now r) way.tag))
 
 -- the actions of the outs to ports, where a rewrite and a tag are in force
 abbrev pub actions_from : Wiring → ℕ → Option ℕ → RewriteOf → Option ℕ → List Out → List Action
@@ -109,7 +113,8 @@ is_silent v in_port (Tell member reason) = false
 
 -- the outs that are written: of a rule for all ports none to the port that its match names
 abbrev pub outs_written : Site → FlatRule → List Out
-outs_written site r = if site.whole then filter (λ (o : Out). not (is_silent site.v r.m.in_port o.dest)) r.outs else r.outs
+outs_written site r = if site.whole then filter (λ (o : Out). not (is_silent site.v r.m.in_port o.dest)) r.outs
+    else r.outs
 
 -- the physical port that a rule names, if it names one
 abbrev pub ingress_of : Wiring → Site → FlatRule → Option ℕ
@@ -122,11 +127,17 @@ untagged = record everything { dl_vlan = Some UNTAGGED }
 -- the match of a rule on its switch, or none where no header is left: a spread virtual switch takes no tagged packets
 abbrev pub match_written : Wiring → Site → FlatRule → Option MatchOf
 match_written w site r =
-    option_map (λ (m : MatchOf). record m { in_port = ingress_of w site r }) (if site.spread then meet r.m untagged else Some r.m)
+    option_map (λ (m : MatchOf). record m { in_port = ingress_of w site r })
+    (if site.spread then meet r.m untagged else Some r.m)
 
 -- the entry of a rule on its switch, with this match
 abbrev pub entry_with : Wiring → Site → FlatRule → MatchOf → PhysEntry
-entry_with w site r m = record { m = m; priority = r.level + 1; actions = actions_of w site.switch (ingress_of w site r) (outs_written site r); ancestry = r.ancestry }
+entry_with w site r m = record {
+  m = m;
+  priority = r.level + 1;
+  actions = actions_of w site.switch (ingress_of w site r) (outs_written site r);
+  ancestry = r.ancestry;
+}
 
 -- the entry of a rule on its switch, or none where no header is left
 abbrev pub entry_of : Wiring → Site → FlatRule → Option PhysEntry

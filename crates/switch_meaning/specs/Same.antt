@@ -8,4 +8,7 @@ use Rattle.switch_meaning.specs.declared.entry.PhysEntry.{PhysEntry}
 
 -- two entries are the same in every part
 abbrev pub same_entry : PhysEntry → PhysEntry → Bool
-same_entry d e = same_match d.m e.m && ((d.priority == e.priority) && (pointwise same_action d.actions e.actions && pointwise same_leaf d.ancestry e.ancestry))
+same_entry d e =
+    same_match d.m e.m &&
+    ((d.priority == e.priority) &&
+    (pointwise same_action d.actions e.actions && pointwise same_leaf d.ancestry e.ancestry))

@@ -16,12 +16,14 @@ outside_at w v port = find (λ (o : Outside). (o.v == v) && (o.port == port)) w.
 
 -- the port by which packets from one switch to another leave the first
 abbrev pub next_hop : Wiring → ℕ → ℕ → Option ℕ
-next_hop w from to = option_map (λ (n : NextHop). n.port) (find (λ (n : NextHop). (n.from == from) && (n.to == to)) w.next_hops)
+next_hop w from to = option_map (λ (n : NextHop). n.port)
+    (find (λ (n : NextHop). (n.from == from) && (n.to == to)) w.next_hops)
 
 -- the other end of the first cable that ends here
 abbrev pub other_end : List Cable → SwitchPort → Option SwitchPort
 other_end [] s = None
-other_end (c ∷ cs) s = if same_spot c.one s then Some c.other else (if same_spot c.other s then Some c.one else other_end cs s)
+other_end (c ∷ cs) s = if same_spot c.one s then Some c.other
+    else (if same_spot c.other s then Some c.one else other_end cs s)
 
 -- where a packet gets to that leaves by a port with a cable
 abbrev pub far_end : Wiring → SwitchPort → Option SwitchPort

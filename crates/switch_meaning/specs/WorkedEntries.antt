@@ -58,16 +58,20 @@ to_service = record to_server { tp_dst = Some 80 }
 
 -- the balancer's set, and then its output
 abbrev pub BalancerIsPlaced : Type 0
-BalancerIsPlaced = placed port_site (rule (at_port 2) 36 (to to_server (Port 0 1) ∷ [])) ≡ Some (37, SetNwDst 0x02000001 ∷ Output 1 0 ∷ [])
+BalancerIsPlaced = placed port_site (rule (at_port 2) 36 (to to_server (Port 0 1) ∷ []))
+    ≡ Some (37, SetNwDst 0x02000001 ∷ Output 1 0 ∷ [])
 
 -- three hops that end at the port where the packet came in
 abbrev pub IngressIsWritten : Type 0
-IngressIsWritten = placed port_site (rule (at_port 1) 2336 (to no_rewrite (Port 0 1) ∷ [])) ≡ Some (2337, Output 0xfff8 0 ∷ [])
+IngressIsWritten = placed port_site (rule (at_port 1) 2336 (to no_rewrite (Port 0 1) ∷ []))
+    ≡ Some (2337, Output 0xfff8 0 ∷ [])
 
 -- two are told, which is one copy, the first; a field is set where its value changes, and only for a port
 abbrev pub OneCopyFirst : Type 0
 OneCopyFirst =
-    placed port_site (rule (at_port 1) 4 (to no_rewrite (Port 0 2) ∷ to to_server (Tell 3 1) ∷ to to_service (Port 0 3) ∷ to to_service (Port 0 4) ∷ to to_service (Tell 4 0) ∷ []))
+    placed port_site
+    (rule (at_port 1) 4 (to no_rewrite (Port 0 2) ∷ to to_server (Tell 3 1) ∷ to to_service (Port 0 3)
+    ∷ to to_service (Port 0 4) ∷ to to_service (Tell 4 0) ∷ []))
     ≡ Some (5, Output 0xfffd 65535 ∷ Output 2 0 ∷ SetNwDst 0x02000001 ∷ SetTpDst 80 ∷ Output 3 0 ∷ Output 4 0 ∷ [])
 
 -- one rule for all ports: with a port named nothing is sent back to it but to the ingress; else every out is written
@@ -84,5 +88,8 @@ entry m priority actions = record { m = m; priority = priority; actions = action
 -- an entry takes the place of one with its match and priority; only that one is deleted strictly
 abbrev pub TableIsChanged : Type 0
 TableIsChanged =
-    table_after_all (entry everything 0 [] ∷ []) (Delete everything ∷ Add (entry (at_port 1) 7 []) ∷ Add (entry (at_port 1) 7 (Output 2 0 ∷ [])) ∷ Add (entry (at_port 1) 8 []) ∷ Add (entry (at_port 2) 7 []) ∷ DeleteStrict (at_port 1) 8 ∷ Delete (at_port 2) ∷ [])
+    table_after_all (entry everything 0 [] ∷ [])
+    (Delete everything ∷ Add (entry (at_port 1) 7 []) ∷ Add (entry (at_port 1) 7 (Output 2 0 ∷ []))
+    ∷ Add (entry (at_port 1) 8 []) ∷ Add (entry (at_port 2) 7 []) ∷ DeleteStrict (at_port 1) 8 ∷ Delete (at_port 2)
+    ∷ [])
     ≡ entry (at_port 1) 7 (Output 2 0 ∷ []) ∷ []

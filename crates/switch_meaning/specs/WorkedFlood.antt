@@ -52,7 +52,12 @@ by_tag p tag = record everything { in_port = Some p; dl_vlan = Some tag }
 
 -- what comes by the virtual port 1 is sent to each other one
 abbrev pub flooding : FlatRule
-flooding = record { m = at_port 1; level = 128; outs = map (λ p. record { rewrite = no_rewrite; dest = Flood 0 p }) (2 ∷ 3 ∷ 4 ∷ []); ancestry = record { member = 0; kind = 3 } ∷ [] }
+flooding = record {
+  m = at_port 1;
+  level = 128;
+  outs = map (λ p. record { rewrite = no_rewrite; dest = Flood 0 p }) (2 ∷ 3 ∷ 4 ∷ []);
+  ancestry = record { member = 0; kind = 3 } ∷ [];
+}
 
 -- its actions at the first switch
 abbrev pub flooding_actions : List Action
@@ -62,7 +67,12 @@ flooding_actions = SetVlanVid 2 ∷ Output 3 0 ∷ StripVlan ∷ Output 2 0 ∷ 
 abbrev pub FloodIsPlaced : Type 0
 FloodIsPlaced =
     entry_of in_a_row first_site flooding
-    ≡ Some (record { m = by_tag 1 65535; priority = 129; actions = flooding_actions; ancestry = record { member = 0; kind = 3 } ∷ [] })
+    ≡ Some (record {
+      m = by_tag 1 65535;
+      priority = 129;
+      actions = flooding_actions;
+      ancestry = record { member = 0; kind = 3 } ∷ [];
+    })
 
 -- an entry without ancestry
 abbrev pub fixed : MatchOf → ℕ → List Action → PhysEntry
@@ -79,7 +89,8 @@ at_goal in_port tag port = fixed (by_tag in_port tag) 65535 (StripVlan ∷ Outpu
 -- the fixed entries of the three switches
 abbrev pub TagsAreCarried : Type 0
 TagsAreCarried =
-    (map (guards in_a_row) (0 ∷ 1 ∷ 2 ∷ []) ≡ (fixed (at_port 1) 0 [] ∷ fixed (at_port 2) 0 [] ∷ []) ∷ (fixed (at_port 1) 0 [] ∷ []) ∷ (fixed (at_port 1) 0 [] ∷ []) ∷ [])
+    (map (guards in_a_row) (0 ∷ 1 ∷ 2 ∷ []) ≡ (fixed (at_port 1) 0 [] ∷ fixed (at_port 2) 0 [] ∷ [])
+    ∷ (fixed (at_port 1) 0 [] ∷ []) ∷ (fixed (at_port 1) 0 [] ∷ []) ∷ [])
     × (transits in_a_row 0 ≡ at_goal 3 1 1 ∷ at_goal 3 3 2 ∷ [])
     × (transits in_a_row 1 ≡ onward 4 1 3 ∷ at_goal 3 2 1 ∷ at_goal 4 2 1 ∷ onward 4 3 3 ∷ onward 3 4 4 ∷ [])
     × (transits in_a_row 2 ≡ at_goal 3 4 1 ∷ [])
@@ -90,11 +101,25 @@ OthersAreDropped = drops in_a_row 0 (1 ∷ 2 ∷ 3 ∷ 4 ∷ []) ≡ fixed (at_p
 
 -- the tables of the three switches
 abbrev pub tables_in_a_row : ℕ → List FlowEntry
-tables_in_a_row switch = if switch == 0 then record { m = by_tag 1 65535; priority = 129; actions = flooding_actions } ∷ map flow_of (transits in_a_row 0) else map flow_of (transits in_a_row switch)
+tables_in_a_row switch = if switch == 0 then record { m = by_tag 1 65535; priority = 129; actions = flooding_actions }
+    ∷ map flow_of (transits in_a_row 0) else map flow_of (transits in_a_row switch)
 
 -- a packet without a tag
 abbrev pub ping : ℕ → HeaderOf
-ping in_port = record { in_port = in_port; dl_src = 1; dl_dst = 2; dl_vlan = 65535; dl_vlan_pcp = 0; dl_type = 0x0800; nw_tos = 0; nw_proto = 1; nw_src = 3; nw_dst = 4; tp_src = 8; tp_dst = 0 }
+ping in_port = record {
+  in_port = in_port;
+  dl_src = 1;
+  dl_dst = 2;
+  dl_vlan = 65535;
+  dl_vlan_pcp = 0;
+  dl_type = 0x0800;
+  nw_tos = 0;
+  nw_proto = 1;
+  nw_src = 3;
+  nw_dst = 4;
+  tp_src = 8;
+  tp_dst = 0;
+}
 
 -- it is sent out at a port of the first switch, with a tag or with none
 abbrev pub sent_with : ℕ → ℕ → Sent
@@ -102,7 +127,8 @@ sent_with port vlan = record { port = port; header = record (ping 1) { dl_vlan =
 
 -- the first switch sends it to its own port without a tag, and twice to the second switch
 abbrev pub FloodIsFired : Type 0
-FloodIsFired = fire flooding_actions (ping 1) ≡ record { outs = sent_with 3 2 ∷ sent_with 2 65535 ∷ sent_with 3 4 ∷ []; copies = [] }
+FloodIsFired = fire flooding_actions (ping 1)
+    ≡ record { outs = sent_with 3 2 ∷ sent_with 2 65535 ∷ sent_with 3 4 ∷ []; copies = [] }
 
 -- it leaves the network at a port, as it came to that switch
 abbrev pub out_by : ℕ → ℕ → ℕ → Left
@@ -111,5 +137,7 @@ out_by switch port in_port = record { at = spot switch port; header = ping in_po
 -- over two cables it comes to every other port, once; over one it does not come to the third switch
 abbrev pub FloodIsFollowed : Type 0
 FloodIsFollowed =
-    (follow in_a_row (λ way s h. find (λ e. holds e.m h) (tables_in_a_row s)) 4 [] 0 (ping 1) ≡ record { outs = out_by 1 1 3 ∷ out_by 0 2 1 ∷ out_by 2 1 3 ∷ []; copies = [] })
-    × (follow in_a_row (λ way s h. find (λ e. holds e.m h) (tables_in_a_row s)) 2 [] 0 (ping 1) ≡ record { outs = out_by 1 1 3 ∷ out_by 0 2 1 ∷ []; copies = [] })
+    (follow in_a_row (λ way s h. find (λ e. holds e.m h) (tables_in_a_row s)) 4 [] 0 (ping 1)
+    ≡ record { outs = out_by 1 1 3 ∷ out_by 0 2 1 ∷ out_by 2 1 3 ∷ []; copies = [] })
+    × (follow in_a_row (λ way s h. find (λ e. holds e.m h) (tables_in_a_row s)) 2 [] 0 (ping 1)
+    ≡ record { outs = out_by 1 1 3 ∷ out_by 0 2 1 ∷ []; copies = [] })

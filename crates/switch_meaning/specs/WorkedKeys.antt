@@ -31,13 +31,16 @@ placed m priority actions ancestry = record { m = m; priority = priority; action
 
 -- the pairs with the monitor's /24, whose kind is 3: with the router's /24 and /32, and with its miss
 abbrev pub of_net : ℕ → List PhysEntry
-of_net p = placed (net p) 9 (sent_to p 2) (pair 3 3) ∷ placed (host p) 11 (sent_to p 3) (pair 3 4) ∷ placed (net p) 6 (Output 0xfffd 65535 ∷ []) (pair 3 1) ∷ []
+of_net p = placed (net p) 9 (sent_to p 2) (pair 3 3) ∷ placed (host p) 11 (sent_to p 3) (pair 3 4)
+    ∷ placed (net p) 6 (Output 0xfffd 65535 ∷ []) (pair 3 1) ∷ []
 
 -- the other pairs
 abbrev pub of_others : ℕ → List PhysEntry
 of_others p =
-    placed (host p) 11 (sent_to p 2) (pair 4 3) ∷ placed (host p) 13 (sent_to p 3) (pair 4 4) ∷ placed (host p) 8 (Output 0xfffd 65535 ∷ []) (pair 4 1)
-    ∷ placed (net p) 6 (sent_to p 2) (pair 1 3) ∷ placed (host p) 8 (sent_to p 3) (pair 1 4) ∷ placed (at_port p) 3 (Output 0xfffd 65535 ∷ []) (pair 1 1) ∷ []
+    placed (host p) 11 (sent_to p 2) (pair 4 3) ∷ placed (host p) 13 (sent_to p 3) (pair 4 4)
+    ∷ placed (host p) 8 (Output 0xfffd 65535 ∷ []) (pair 4 1)
+    ∷ placed (net p) 6 (sent_to p 2) (pair 1 3) ∷ placed (host p) 8 (sent_to p 3) (pair 1 4)
+    ∷ placed (at_port p) 3 (Output 0xfffd 65535 ∷ []) (pair 1 1) ∷ []
 
 -- of the nine pairs of a port six are installed; of the two with the key of /32 at 11 the one with the smaller ancestry
 abbrev pub SixAreInstalled : Type 0
@@ -86,7 +89,8 @@ without_net = one_per_key (flat_map of_others ports)
 abbrev pub NetGoes : Type 0
 NetGoes =
     difference with_net without_net ≡ record {
-      deletes = map (λ p. placed (net p) 9 (sent_to p 2) (pair 3 3)) (1 ∷ 2 ∷ 3 ∷ 4 ∷ []) ++ map (λ p. placed (host p) 11 (sent_to p 3) (pair 3 4)) (1 ∷ 2 ∷ 3 ∷ 4 ∷ []);
+      deletes = map (λ p. placed (net p) 9 (sent_to p 2) (pair 3 3)) (1 ∷ 2 ∷ 3 ∷ 4 ∷ [])
+          ++ map (λ p. placed (host p) 11 (sent_to p 3) (pair 3 4)) (1 ∷ 2 ∷ 3 ∷ 4 ∷ []);
       adds = map (λ p. placed (host p) 11 (sent_to p 2) (pair 4 3)) (1 ∷ 2 ∷ 3 ∷ 4 ∷ []);
     }
 
@@ -97,5 +101,7 @@ at_level serial level = placed (at_port 1) (level + 1) (Output 2 0 ∷ []) (reco
 -- three entries get new levels, and a fourth comes
 abbrev pub LevelsMove : Type 0
 LevelsMove =
-    let d = difference (at_level 1 4 ∷ at_level 2 6 ∷ at_level 3 7 ∷ []) (at_level 1 2 ∷ at_level 2 3 ∷ at_level 3 5 ∷ at_level 4 6 ∷ []) in
-    (map (λ (e : PhysEntry). e.priority) d.deletes ≡ 5 ∷ 7 ∷ 8 ∷ []) × (map (λ (e : PhysEntry). e.priority) d.adds ≡ 3 ∷ 4 ∷ 6 ∷ 7 ∷ [])
+    let d = difference (at_level 1 4 ∷ at_level 2 6 ∷ at_level 3 7 ∷ [])
+    (at_level 1 2 ∷ at_level 2 3 ∷ at_level 3 5 ∷ at_level 4 6 ∷ []) in
+    (map (λ (e : PhysEntry). e.priority) d.deletes ≡ 5 ∷ 7 ∷ 8 ∷ [])
+    × (map (λ (e : PhysEntry). e.priority) d.adds ≡ 3 ∷ 4 ∷ 6 ∷ 7 ∷ [])

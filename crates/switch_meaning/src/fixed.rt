@@ -1,7 +1,12 @@
 //! The entries that are put on a switch whatever the tables of members have.
 ghost use Rattle.std.specs.Prelude.{◌≡◌, ◌<◌, ◌==◌, ◌++◌, [], ◌∷◌, IfOk, OnOk, IfSome, ℕ, filter, map, not};
 ghost use Rattle.std.specs.List.{list_any};
-ghost use Rattle.switch_meaning.specs.Fixed.{AreTagsInRange, arrivals, drop_entry as drop_entry_of, drops as drops_of, ends_at as ends_at_of, fixed_entries as fixed_entries_of, guard as guard_of, guards as guards_of, is_guarded as is_guarded_of, is_outside as is_outside_of, passes as passes_of, step as step_of, transit as transit_of, transit_actions as transit_actions_of, transits as transits_of, transits_to as transits_to_of};
+ghost use Rattle.switch_meaning.specs.Fixed.{AreTagsInRange, arrivals, drop_entry as drop_entry_of, drops as drops_of};
+ghost use Rattle.switch_meaning.specs.Fixed.{ends_at as ends_at_of, fixed_entries as fixed_entries_of};
+ghost use Rattle.switch_meaning.specs.Fixed.{guard as guard_of, guards as guards_of, is_guarded as is_guarded_of};
+ghost use Rattle.switch_meaning.specs.Fixed.{is_outside as is_outside_of, passes as passes_of, step as step_of};
+ghost use Rattle.switch_meaning.specs.Fixed.{transit as transit_of, transit_actions as transit_actions_of};
+ghost use Rattle.switch_meaning.specs.Fixed.{transits as transits_of, transits_to as transits_to_of};
 ghost use Rattle.switch_meaning.specs.Wirings.{same_spot as same_spot_of};
 ghost use Rattle.switch_meaning.specs.declared.wiring.SwitchPort.{SwitchPort};
 
@@ -126,7 +131,8 @@ fn add_transit(
     tag: u16,
 ) -> Result<(), Memory>
     requires { tag < 4096 }
-    ensures { OnOk result (entries.new ≡ entries.old ++ map (λ (s : SwitchPort). transit_of wiring.now s goal.now tag) (filter (λ (s : SwitchPort). passes_of wiring.now s goal.now) (spot ∷ []))) }
+    ensures { OnOk result (entries.new ≡ entries.old ++ map (λ (s : SwitchPort). transit_of wiring.now s goal.now tag)
+        (filter (λ (s : SwitchPort). passes_of wiring.now s goal.now) (spot ∷ []))) }
 {
     if !passes(wiring, spot, goal) {
         return Ok(());
@@ -248,7 +254,8 @@ fn add_drop(
     switch: u32,
     port: u16,
 ) -> Result<(), Memory>
-    ensures { OnOk result (entries.new ≡ entries.old ++ map drop_entry_of (filter (λ (p : ℕ). not (is_outside_of wiring.now switch p)) (port ∷ []))) }
+    ensures { OnOk result (entries.new ≡ entries.old ++ map drop_entry_of
+        (filter (λ (p : ℕ). not (is_outside_of wiring.now switch p)) (port ∷ []))) }
 {
     if is_outside(wiring, SwitchPort { switch, port }) {
         return Ok(());

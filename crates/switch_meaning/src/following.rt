@@ -35,7 +35,8 @@ impl Switches {
         header: &Header,
     ) -> Result<Seen, Memory>
         requires { AreTablesInRange self.now.tables }
-        ensures { IfOk result (λ seen. (way : List ℕ) → seen ≡ follow_of self.now.wiring (chosen self.now.tables self.now.reading) turns way switch header.now) }
+        ensures { IfOk result (λ seen. (way : List ℕ)
+            → seen ≡ follow_of self.now.wiring (chosen self.now.tables self.now.reading) turns way switch header.now) }
     {
         let mut seen = Seen {
             outs: List::new(alloc),
@@ -56,7 +57,9 @@ impl Switches {
         header: &Header,
     ) -> Result<(), Memory>
         requires { AreTablesInRange self.now.tables }
-        ensures { OnOk result ((way : List ℕ) → seen.new ≡ both_seen seen.old (follow_of self.now.wiring (chosen self.now.tables self.now.reading) turns way switch header.now)) }
+        ensures { OnOk result ((way : List ℕ)
+            → seen.new ≡ both_seen seen.old
+            (follow_of self.now.wiring (chosen self.now.tables self.now.reading) turns way switch header.now)) }
     {
         if turns == 0 {
             return Ok(());
@@ -84,7 +87,10 @@ impl Switches {
         header: &Header,
     ) -> Result<(), Memory>
         requires { AreTablesInRange self.now.tables }
-        ensures { OnOk result ((way : List ℕ) → seen.new ≡ both_seen seen.old (goes_out (far_end self.now.wiring at) at header.now (follow_of self.now.wiring (chosen self.now.tables self.now.reading) turns way))) }
+        ensures { OnOk result ((way : List ℕ)
+            → seen.new ≡ both_seen seen.old
+            (goes_out (far_end self.now.wiring at) at header.now
+            (follow_of self.now.wiring (chosen self.now.tables self.now.reading) turns way))) }
     {
         match self.wiring.far_end(at) {
             None => seen.outs.push(Left {
@@ -104,7 +110,8 @@ impl Switches {
     /// What a switch makes of a packet.
     fn fire_at(&self, alloc: Global, switch: u32, header: &Header) -> Result<Fired, Memory>
         requires { AreTablesInRange self.now.tables }
-        ensures { IfOk result (λ fired. fired ≡ fire_entry (chosen self.now.tables self.now.reading [] switch header.now) header.now) }
+        ensures { IfOk result
+            (λ fired. fired ≡ fire_entry (chosen self.now.tables self.now.reading [] switch header.now) header.now) }
     {
         match self.tables.get(switch as usize) {
             Some(table) => fire_by(alloc, table, header, self.reading),

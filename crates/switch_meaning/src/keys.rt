@@ -1,7 +1,9 @@
 //! The entries that a switch has, of all that are put there: one for each key.
 ghost use Rattle.std.specs.Prelude.{◌≡◌, IfOk};
 ghost use Rattle.std.specs.List.{list_any};
-ghost use Rattle.switch_meaning.specs.Keys.{displaces as displaces_of, installed as installed_of, one_per_key as one_per_key_of, passes_over as passes_over_of, passing as passing_of};
+ghost use Rattle.switch_meaning.specs.Keys.{displaces as displaces_of, installed as installed_of};
+ghost use Rattle.switch_meaning.specs.Keys.{one_per_key as one_per_key_of, passes_over as passes_over_of};
+ghost use Rattle.switch_meaning.specs.Keys.{passing as passing_of};
 ghost use Rattle.switch_meaning.specs.declared.entry.PhysEntry.{PhysEntry};
 
 use crate::entry::PhysEntry;

@@ -1,6 +1,7 @@
 //! Laws of switches and of what is put on them: each function's contract is the law.
 ghost use Rattle.std.specs.Prelude.{List};
-ghost use Rattle.switch_meaning.specs.BatchLaw.{BatchGivesTable, FreshGivesTable, InstalledHasOneAKey, OrderIsFree, SortedByKey};
+ghost use Rattle.switch_meaning.specs.BatchLaw.{BatchGivesTable, FreshGivesTable, InstalledHasOneAKey, OrderIsFree};
+ghost use Rattle.switch_meaning.specs.BatchLaw.{SortedByKey};
 ghost use Rattle.switch_meaning.specs.BestLaw.{BestIsInstalled, BestIsUsed};
 ghost use Rattle.switch_meaning.specs.Choosing.{chosen, table_at};
 ghost use Rattle.switch_meaning.specs.Counts.{CountsAdd, CountsWithoutTotals, FoldingKeepsCounts};
@@ -24,7 +25,8 @@ pub fn using()
 
 /// Whatever the tables have, each switch has something that it may use, by either reading.
 pub fn choosing()
-    ensures { (tables : List (List FlowEntry)) (reading : Reading) → IsAllowed (table_at tables) (chosen tables reading) }
+    ensures { (tables : List (List FlowEntry)) (reading : Reading)
+        → IsAllowed (table_at tables) (chosen tables reading) }
 {}
 
 /// A batch makes one table of another, in whichever order a switch takes the messages of each phase,

@@ -4,7 +4,14 @@ ghost use Rattle.of10_actions.specs.Fields.{RewriteOf};
 ghost use Rattle.of10_actions.specs.Rewriting.{no_rewrite};
 ghost use Rattle.of10_actions.specs.declared.action.Action.{Action};
 ghost use Rattle.of10_actions.specs.declared.effects.Out.{Out};
-ghost use Rattle.switch_meaning.specs.Placing.{actions_from, actions_of as actions_of_of, entry_of, field_sets as field_sets_of, ingress_of as ingress_of_of, is_silent as is_silent_of, is_telling as is_telling_of, going, match_written as match_written_of, outs_written as outs_written_of, retag as retag_of, set_unless, sets, tells as tells_of, untagged as untagged_of, way_across as way_across_of, way_of as way_of_of, way_to as way_to_of, written_port as written_port_of};
+ghost use Rattle.switch_meaning.specs.Placing.{actions_from, actions_of as actions_of_of, entry_of};
+ghost use Rattle.switch_meaning.specs.Placing.{field_sets as field_sets_of, ingress_of as ingress_of_of};
+ghost use Rattle.switch_meaning.specs.Placing.{is_silent as is_silent_of, is_telling as is_telling_of, going};
+ghost use Rattle.switch_meaning.specs.Placing.{match_written as match_written_of, outs_written as outs_written_of};
+ghost use Rattle.switch_meaning.specs.Placing.{retag as retag_of, set_unless, sets, tells as tells_of};
+ghost use Rattle.switch_meaning.specs.Placing.{untagged as untagged_of, way_across as way_across_of};
+ghost use Rattle.switch_meaning.specs.Placing.{way_of as way_of_of, way_to as way_to_of};
+ghost use Rattle.switch_meaning.specs.Placing.{written_port as written_port_of};
 
 use crate::entry::{FlatRule, PhysEntry, Site};
 use crate::wiring::{Outside, Wiring};
@@ -192,7 +199,9 @@ fn push_out(
     way: Option<Way>,
     rewrite: &Rewrite,
 ) -> Result<(), Memory>
-    ensures { OnOk result ((later : RewriteOf → Option ℕ → List Action) → actions.new ++ later force.new.rewrite force.new.tag ≡ actions.old ++ going way force.old.rewrite force.old.tag rewrite.now later) }
+    ensures { OnOk result ((later : RewriteOf → Option ℕ → List Action)
+        → actions.new ++ later force.new.rewrite force.new.tag
+        ≡ actions.old ++ going way force.old.rewrite force.old.tag rewrite.now later) }
 {
     let way = match way {
         Some(way) => way,
@@ -217,7 +226,8 @@ fn push_outs(
     ingress: Option<u16>,
     outs: &List<Out>,
 ) -> Result<(), Memory>
-    ensures { OnOk result (actions.new ≡ actions.old ++ actions_from wiring.now switch ingress no_rewrite None outs.now) }
+    ensures { OnOk result (actions.new ≡ actions.old ++ actions_from wiring.now switch ingress no_rewrite None
+        outs.now) }
 {
     let mut force = Force {
         rewrite: Rewrite::new(),

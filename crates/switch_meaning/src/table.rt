@@ -1,6 +1,7 @@
 //! A switch's table after a change.
 ghost use Rattle.std.specs.Prelude.{◌≡◌, ◌++◌, IfOk, OnOk};
-ghost use Rattle.switch_meaning.specs.Tables.{has_key as has_key_of, put_in as put_in_of, table_after as table_after_of, takes_out as takes_out_of};
+ghost use Rattle.switch_meaning.specs.Tables.{has_key as has_key_of, put_in as put_in_of};
+ghost use Rattle.switch_meaning.specs.Tables.{table_after as table_after_of, takes_out as takes_out_of};
 
 use crate::entry::{Change, FlowEntry};
 use cv_io::{List, Memory};

@@ -1,6 +1,7 @@
 //! Where the ports of virtual switches lie, and the ways from switch to switch.
 ghost use Rattle.std.specs.Prelude.{◌≡◌};
-ghost use Rattle.switch_meaning.specs.Wirings.{far_end as far_end_of, next_hop as next_hop_of, outside_at as outside_at_of};
+ghost use Rattle.switch_meaning.specs.Wirings.{far_end as far_end_of, next_hop as next_hop_of};
+ghost use Rattle.switch_meaning.specs.Wirings.{outside_at as outside_at_of};
 
 use cv_io::{Duplicate, List, Memory};
 

@@ -1,7 +1,9 @@
 //! Worked examples, each computed by the checker.
 ghost use Rattle.switch_meaning.specs.Counts.{ThreeAreCounted};
-ghost use Rattle.switch_meaning.specs.WorkedEntries.{BalancerIsPlaced, IngressIsWritten, OneCopyFirst, TableIsChanged, WholeIsPlaced};
-ghost use Rattle.switch_meaning.specs.WorkedFlood.{FloodIsFired, FloodIsFollowed, FloodIsPlaced, OthersAreDropped, TagsAreCarried};
+ghost use Rattle.switch_meaning.specs.WorkedEntries.{BalancerIsPlaced, IngressIsWritten, OneCopyFirst, TableIsChanged};
+ghost use Rattle.switch_meaning.specs.WorkedEntries.{WholeIsPlaced};
+ghost use Rattle.switch_meaning.specs.WorkedFlood.{FloodIsFired, FloodIsFollowed, FloodIsPlaced, OthersAreDropped};
+ghost use Rattle.switch_meaning.specs.WorkedFlood.{TagsAreCarried};
 ghost use Rattle.switch_meaning.specs.WorkedKeys.{ExactIsPassedOver, LevelsMove, NetGoes, SixAreInstalled};
 
 /// FLOOD over three switches: its entry, the fixed entries, what the first switch makes of a packet,

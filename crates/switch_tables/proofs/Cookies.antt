@@ -6,9 +6,11 @@ use Rattle.install_plan.specs.declared.written.Written.{Written}
 use Rattle.switch_tables.specs.Turning.{after_all, cookie_after}
 use Rattle.switch_tables.specs.declared.tables.SwitchBatch.{SwitchBatch}
 
-pub after_next : (c : ℕ) (adds : List Written) (i : ℕ) → i < length adds → after_all (after c) (drop (i + 1) adds) ≡ after_all c (drop i adds)
+pub after_next : (c : ℕ) (adds : List Written) (i : ℕ) → i < length adds
+    → after_all (after c) (drop (i + 1) adds) ≡ after_all c (drop i adds)
 after_next c [] i lt = absurd (omega arith)
-after_next c (w ∷ ws) zero lt = let one : 0 + 1 ≡ suc 0 = omega arith in ap (λ (n : ℕ). after_all (after c) (drop n (w ∷ ws))) one
+after_next c (w ∷ ws) zero lt = let one : 0 + 1 ≡ suc 0 = omega arith in
+    ap (λ (n : ℕ). after_all (after c) (drop n (w ∷ ws))) one
 after_next c (w ∷ ws) (suc i) lt =
     let next : suc i + 1 ≡ suc (i + 1) = omega arith in
     ap (λ (n : ℕ). after_all (after c) (drop n (w ∷ ws))) next ∙ after_next c ws i (omega arith)
@@ -19,6 +21,7 @@ after_end c [] (suc i) le = refl
 after_end c (w ∷ ws) zero le = absurd (omega arith)
 after_end c (w ∷ ws) (suc i) le = after_end c ws i (omega arith)
 
-pub cookie-more : (c : ℕ) (bs : List SwitchBatch) (b : SwitchBatch) → cookie_after c (bs ++ b ∷ []) ≡ cookie_after (cookie_after c bs) (b ∷ [])
+pub cookie-more : (c : ℕ) (bs : List SwitchBatch) (b : SwitchBatch)
+    → cookie_after c (bs ++ b ∷ []) ≡ cookie_after (cookie_after c bs) (b ∷ [])
 cookie-more c [] b = refl
 cookie-more c (d ∷ ds) b = cookie-more (if d.up then after_all c d.batch.adds else c) ds b

@@ -8,4 +8,5 @@ use Rattle.switch_tables.specs.Tables.{HasNow, Stands, SwitchTableOf}
 -- what stands on a switch that has these entries is what is installed of them
 abbrev pub StandsAsInstalled : Type 0
 StandsAsInstalled =
-    (entries : List PhysEntry) (x : SwitchTableOf) → HasNoTwins entries → HasNow entries x → IsTable x.installed.now → Stands entries x.installed.now
+    (entries : List PhysEntry) (x : SwitchTableOf) → HasNoTwins entries → HasNow entries x → IsTable x.installed.now
+    → Stands entries x.installed.now

@@ -35,7 +35,8 @@ Stands entries t = IsPermutation (installed entries) (map entry_of t.standing)
 
 -- these entries went and these came, with the batch that was written of it
 pub record IsTurned (gone come : List PhysEntry) (next : ℕ) (before now : SwitchTableOf) (batch : Batch) : Type 0 where
-  pub now_has : (old new : List PhysEntry) → HasNow old before → HasNoTwins old → HasNoTwins new → Changed old new gone come → HasNow new now
+  pub now_has : (old new : List PhysEntry) → HasNow old before → HasNoTwins old → HasNoTwins new
+      → Changed old new gone come → HasNow new now
   pub had : (old : List PhysEntry) → HasNow old before → HasHad old now
   pub is_batch : IsBatch before.installed.now now.installed.now next batch
   pub stood : now.installed.before ≡ before.installed.now

@@ -33,7 +33,8 @@ up_of b = b.up
 -- on the switch of this number these entries went and came
 abbrev pub IsTurnedAt : ℕ → GateDelta → ℕ → List SwitchTableOf → List SwitchTableOf → Batch → Type 0
 IsTurnedAt n d next before now batch =
-    (x y : SwitchTableOf) → slice_get before n ≡ Some x → slice_get now n ≡ Some y → IsTurned d.gone d.come next x y batch
+    (x y : SwitchTableOf) → slice_get before n ≡ Some x → slice_get now n ≡ Some y
+    → IsTurned d.gone d.come next x y batch
 
 -- it is as it was
 abbrev pub IsKeptAt : ℕ → List SwitchTableOf → List SwitchTableOf → Type 0
@@ -45,7 +46,8 @@ IsUndoneAt n before now = (x y : SwitchTableOf) → slice_get before n ≡ Some 
 
 -- it can be made what it was
 abbrev pub CanGoBackAt : ℕ → List SwitchTableOf → List SwitchTableOf → Type 0
-CanGoBackAt n before now = (x y : SwitchTableOf) → slice_get before n ≡ Some x → slice_get now n ≡ Some y → CanGoBack x y
+CanGoBackAt n before now = (x y : SwitchTableOf) → slice_get before n ≡ Some x → slice_get now n ≡ Some y
+    → CanGoBack x y
 
 -- all others are the same
 abbrev pub OthersStay : ℕ → List SwitchTableOf → List SwitchTableOf → Type 0
@@ -69,10 +71,12 @@ pub record AreStopped (count : ℕ) (before now : List SwitchTableOf) : Type 0 w
 -- the batch of each switch is the difference of what stood and what stands, with cookies from where those before it end
 abbrev pub AreBatches : ℕ → List SwitchTableOf → List SwitchTableOf → List SwitchBatch → Type 0
 AreBatches next before now batches =
-    (n : ℕ) (x y : SwitchTableOf) (b : SwitchBatch) → slice_get before n ≡ Some x → slice_get now n ≡ Some y → slice_get batches n ≡ Some b
+    (n : ℕ) (x y : SwitchTableOf) (b : SwitchBatch) → slice_get before n ≡ Some x → slice_get now n ≡ Some y
+    → slice_get batches n ≡ Some b
     → IsBatch x.installed.now y.installed.now (cookie_after next (take n batches)) b.batch
 
 -- what stands on each switch is what stood there
 abbrev pub StandAsBefore : List SwitchTableOf → List SwitchTableOf → Type 0
 StandAsBefore before now =
-    (n : ℕ) (x y : SwitchTableOf) → slice_get before n ≡ Some x → slice_get now n ≡ Some y → y.installed.now ≡ x.installed.now
+    (n : ℕ) (x y : SwitchTableOf) → slice_get before n ≡ Some x → slice_get now n ≡ Some y
+    → y.installed.now ≡ x.installed.now

@@ -79,104 +79,106 @@ none_before (w ∷ ws) (suc n) d lt rise =
 
 -- taking out --------------------------------------------------------------------------------------------------------
 
-module _ (stood gone : List Written) (rise : EachPair IsLower stood) (listed : AreListed (map entry_of gone) stood) where
-  abbrev keys : List PhysEntry
-  keys = map entry_of gone
+module _ (stood gone : List Written) (rise : EachPair IsLower stood) (listed : AreListed (map entry_of gone) stood)
+  where
+    abbrev keys : List PhysEntry
+    keys = map entry_of gone
 
-  abbrev went : List Written
-  went = filter (has_key_in keys) stood
+    abbrev went : List Written
+    went = filter (has_key_in keys) stood
 
-  -- the first of the rows that go are taken out
-  pub record IsTaken (n : ℕ) (going staying : List Written) : Type 0 where
-    pub goes : going ≡ take n went
-    pub stays : staying ≡ filter (λ w. not (has_key_in (map entry_of (take n gone)) w)) stood
+    -- the first of the rows that go are taken out
+    pub record IsTaken (n : ℕ) (going staying : List Written) : Type 0 where
+      pub goes : going ≡ take n went
+      pub stays : staying ≡ filter (λ w. not (has_key_in (map entry_of (take n gone)) w)) stood
 
-  all_stay : (ws : List Written) → ws ≡ filter (λ w. not (has_key_in [] w)) ws
-  all_stay [] = refl
-  all_stay (w ∷ ws) = ap (λ xs. w ∷ xs) (all_stay ws)
+    all_stay : (ws : List Written) → ws ≡ filter (λ w. not (has_key_in [] w)) ws
+    all_stay [] = refl
+    all_stay (w ∷ ws) = ap (λ xs. w ∷ xs) (all_stay ws)
 
-  pub taken_first : (going staying : List Written) → going ≡ [] → staying ≡ stood → IsTaken 0 going staying
-  taken_first going staying none all = record { goes = none; stays = all ∙ all_stay stood }
+    pub taken_first : (going staying : List Written) → going ≡ [] → staying ≡ stood → IsTaken 0 going staying
+    taken_first going staying none all = record { goes = none; stays = all ∙ all_stay stood }
 
-  module _ (n : ℕ) (one : Written) (lt : n < length gone) (is : one ≡ get_or gone n one) where
-    long : length went ≡ length gone
-    long = sym (length-map went entry_of) ∙ (sym (ap length listed) ∙ length-map gone entry_of)
+    module _ (n : ℕ) (one : Written) (lt : n < length gone) (is : one ≡ get_or gone n one) where
+      long : length went ≡ length gone
+      long = sym (length-map went entry_of) ∙ (sym (ap length listed) ∙ length-map gone entry_of)
 
-    at_went : n < length went
-    at_went = let same = long in omega (arith, same)
+      at_went : n < length went
+      at_went = let same = long in omega (arith, same)
 
-    abbrev row : Written
-    row = get_or went n one
+      abbrev row : Written
+      row = get_or went n one
 
-    -- the row that goes next has the key that is listed next
-    same_entry : one.entry ≡ row.entry
-    same_entry =
-        ap entry_of is
-        ∙ (sym (get_or-map entry_of gone n one one.entry lt)
-        ∙ (ap (λ es. get_or es n one.entry) listed ∙ get_or-map entry_of went n one one.entry at_went))
+      -- the row that goes next has the key that is listed next
+      same_entry : one.entry ≡ row.entry
+      same_entry =
+          ap entry_of is
+          ∙ (sym (get_or-map entry_of gone n one one.entry lt)
+          ∙ (ap (λ es. get_or es n one.entry) listed ∙ get_or-map entry_of went n one one.entry at_went))
 
-    next_keys : map entry_of (take (n + 1) gone) ≡ map entry_of (take n gone) ++ one.entry ∷ []
-    next_keys =
-        ap (map entry_of) (take_more gone n one lt ∙ ap (λ (w : Written). take n gone ++ w ∷ []) (sym is))
-        ∙ push (take n gone)
-      where
-        push : (ws : List Written) → map entry_of (ws ++ one ∷ []) ≡ map entry_of ws ++ one.entry ∷ []
-        push [] = refl
-        push (w ∷ ws) = ap (λ es. w.entry ∷ es) (push ws)
+      next_keys : map entry_of (take (n + 1) gone) ≡ map entry_of (take n gone) ++ one.entry ∷ []
+      next_keys =
+          ap (map entry_of) (take_more gone n one lt ∙ ap (λ (w : Written). take n gone ++ w ∷ []) (sym is))
+          ∙ push (take n gone)
+        where
+          push : (ws : List Written) → map entry_of (ws ++ one ∷ []) ≡ map entry_of ws ++ one.entry ∷ []
+          push [] = refl
+          push (w ∷ ws) = ap (λ es. w.entry ∷ es) (push ws)
 
-    abbrev stays_so_far : Written → Bool
-    stays_so_far w = not (has_key_in (map entry_of (take n gone)) w)
+      abbrev stays_so_far : Written → Bool
+      stays_so_far w = not (has_key_in (map entry_of (take n gone)) w)
 
-    stays_then : (w : Written)
-        → (stays_so_far w && not (has_key one.entry w)) ≡ not (has_key_in (map entry_of (take (n + 1) gone)) w)
-    stays_then w =
-        sym (not_either (has_key_in (map entry_of (take n gone)) w) (has_key one.entry w))
-        ∙ ap not (sym (any_last (same_key w.entry) (map entry_of (take n gone)) one.entry)
-        ∙ ap (λ es. has_key_in es w) (sym next_keys))
+      stays_then : (w : Written)
+          → (stays_so_far w && not (has_key one.entry w)) ≡ not (has_key_in (map entry_of (take (n + 1) gone)) w)
+      stays_then w =
+          sym (not_either (has_key_in (map entry_of (take n gone)) w) (has_key one.entry w))
+          ∙ ap not (sym (any_last (same_key w.entry) (map entry_of (take n gone)) one.entry)
+          ∙ ap (λ es. has_key_in es w) (sym next_keys))
 
-    first_keys : map entry_of (take n went) ≡ map entry_of (take n gone)
-    first_keys =
-        sym (take-map entry_of n went) ∙ (ap (take n) (sym listed) ∙ take-map entry_of n gone)
+      first_keys : map entry_of (take n went) ≡ map entry_of (take n gone)
+      first_keys =
+          sym (take-map entry_of n went) ∙ (ap (take n) (sym listed) ∙ take-map entry_of n gone)
 
-    stays_row : stays_so_far row ≡ true
-    stays_row =
-        ap not (ap (list_any (same_key row.entry)) (sym first_keys)
-        ∙ none_before went n one at_went (pairs_kept IsLower (has_key_in keys) stood rise))
+      stays_row : stays_so_far row ≡ true
+      stays_row =
+          ap not (ap (list_any (same_key row.entry)) (sym first_keys)
+          ∙ none_before went n one at_went (pairs_kept IsLower (has_key_in keys) stood rise))
 
-    row_found : find (has_key one.entry) (filter stays_so_far stood) ≡ Some row
-    row_found =
-        let there = filter-in (has_key_in keys) row stood (in_at went n one at_went) in
-        ap (λ (e : PhysEntry). find (has_key e) (filter stays_so_far stood)) same_entry
-        ∙ find_row (pairs_kept IsLower stays_so_far stood rise)
-        (in-filter stays_so_far there.0 stays_row)
+      row_found : find (has_key one.entry) (filter stays_so_far stood) ≡ Some row
+      row_found =
+          let there = filter-in (has_key_in keys) row stood (in_at went n one at_went) in
+          ap (λ (e : PhysEntry). find (has_key e) (filter stays_so_far stood)) same_entry
+          ∙ find_row (pairs_kept IsLower stays_so_far stood rise)
+          (in-filter stays_so_far there.0 stays_row)
 
-    pub taken_more : (going staying fewer more : List Written) (found : Option Written) → EachPair IsLower staying
-        → fewer ≡ filter (λ w. not (has_key one.entry w)) staying → found ≡ find (has_key one.entry) staying
-        → more ≡ going ++ option_to_list found → IsTaken n going staying → IsTaken (n + 1) more fewer
-    taken_more going staying fewer more found rises left at grows h = record {
-      goes =
-          grows
-          ∙ ((λ i. h.goes i ++ option_to_list (at i))
-          ∙ (ap (λ ws. take n went ++ option_to_list (find (has_key one.entry) ws)) h.stays
-          ∙ (ap (λ (x : Option Written). take n went ++ option_to_list x) row_found
-          ∙ sym (take_more went n one at_went))));
-      stays =
-          left
-          ∙ (ap (filter (λ w. not (has_key one.entry w))) h.stays
-          ∙ (filter_twice (λ w. not (has_key one.entry w)) stays_so_far stood
-          ∙ (λ i. filter (λ w. stays_then w i) stood)));
-    }
+      pub taken_more : (going staying fewer more : List Written) (found : Option Written) → EachPair IsLower staying
+          → fewer ≡ filter (λ w. not (has_key one.entry w)) staying → found ≡ find (has_key one.entry) staying
+          → more ≡ going ++ option_to_list found → IsTaken n going staying → IsTaken (n + 1) more fewer
+      taken_more going staying fewer more found rises left at grows h = record {
+        goes =
+            grows
+            ∙ ((λ i. h.goes i ++ option_to_list (at i))
+            ∙ (ap (λ ws. take n went ++ option_to_list (find (has_key one.entry) ws)) h.stays
+            ∙ (ap (λ (x : Option Written). take n went ++ option_to_list x) row_found
+            ∙ sym (take_more went n one at_went))));
+        stays =
+            left
+            ∙ (ap (filter (λ w. not (has_key one.entry w))) h.stays
+            ∙ (filter_twice (λ w. not (has_key one.entry w)) stays_so_far stood
+            ∙ (λ i. filter (λ w. stays_then w i) stood)));
+      }
 
-    pub left_rise : (going staying : List Written) → IsTaken n going staying → EachPair IsLower staying
-    left_rise going staying h =
-        subst (EachPair IsLower) (sym h.stays) (pairs_kept IsLower stays_so_far stood rise)
+      pub left_rise : (going staying : List Written) → IsTaken n going staying → EachPair IsLower staying
+      left_rise going staying h =
+          subst (EachPair IsLower) (sym h.stays) (pairs_kept IsLower stays_so_far stood rise)
 
-  pub taken_last : (n : ℕ) (going staying : List Written) → length gone ≤ n → IsTaken n going staying
-      → (going ≡ went) × (staying ≡ filter (λ w. not (has_key_in keys w)) stood)
-  taken_last n going staying end h =
-      let same : length went ≡ length gone =
-      sym (length-map went entry_of) ∙ (sym (ap length listed) ∙ length-map gone entry_of) in (
-        h.goes ∙ take_all n went (omega (arith, same)),
-        h.stays
-            ∙ ap (λ (ws : List Written). filter (λ w. not (has_key_in (map entry_of ws) w)) stood) (take_all n gone end),
-      )
+    pub taken_last : (n : ℕ) (going staying : List Written) → length gone ≤ n → IsTaken n going staying
+        → (going ≡ went) × (staying ≡ filter (λ w. not (has_key_in keys w)) stood)
+    taken_last n going staying end h =
+        let same : length went ≡ length gone =
+        sym (length-map went entry_of) ∙ (sym (ap length listed) ∙ length-map gone entry_of) in (
+          h.goes ∙ take_all n went (omega (arith, same)),
+          h.stays
+              ∙ ap (λ (ws : List Written). filter (λ w. not (has_key_in (map entry_of ws) w)) stood)
+              (take_all n gone end),
+        )

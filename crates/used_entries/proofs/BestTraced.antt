@@ -37,7 +37,8 @@ use Rattle.explain_path.proofs.UsedByHops.{used_of_expressions, used_of_nodes}
 use Rattle.used_entries.specs.Traced.{BestEntriesAreTraced, HasTracedEntry}
 
 -- an entry has the leaves of its rule
-same-leaves : (w : Wiring) (site : Site) (r : FlatRule) (d : PhysEntry) → entry_of w site r ≡ Some d → d.ancestry ≡ r.ancestry
+same-leaves : (w : Wiring) (site : Site) (r : FlatRule) (d : PhysEntry) → entry_of w site r ≡ Some d
+    → d.ancestry ≡ r.ancestry
 same-leaves w site r d e =
     let m = mapped (entry_with w site r) (match_written w site r) d e in
     ap (λ (z : PhysEntry). z.ancestry) (sym m.is)
@@ -58,11 +59,14 @@ record Has (s : Setting) (v p : ℕ) : Type 0 where
   at : slice_get s.network.switches v ≡ Some x
   port : has_port x.outside p ≡ true
 
-has-by : (s : Setting) (v p : ℕ) (o : Option VirtualSwitch) → slice_get s.network.switches v ≡ o → true ≡ has_port (outside_ports o) p → Has s v p
+has-by : (s : Setting) (v p : ℕ) (o : Option VirtualSwitch) → slice_get s.network.switches v ≡ o
+    → true ≡ has_port (outside_ports o) p → Has s v p
 has-by s v p None e t = cc
 has-by s v p (Some x) e t = record { x = x; at = e; port = sym t }
 
-module _ (s : Setting) (good : IsSoundSetting s) (v : ℕ) (x : VirtualSwitch) (e : slice_get s.network.switches v ≡ Some x) (h : HeaderOf) (o : Outside) (at : outside_at s.wiring v h.in_port ≡ Some o) (has : has_port x.outside h.in_port ≡ true) where
+module _ (s : Setting) (good : IsSoundSetting s) (v : ℕ) (x : VirtualSwitch)
+    (e : slice_get s.network.switches v ≡ Some x) (h : HeaderOf) (o : Outside)
+    (at : outside_at s.wiring v h.in_port ≡ Some o) (has : has_port x.outside h.in_port ≡ true) where
   abbrev traced : List Leaf
   traced = used_of (trace s.network s.hops v h)
 
@@ -74,7 +78,8 @@ module _ (s : Setting) (good : IsSoundSetting s) (v : ℕ) (x : VirtualSwitch) (
   at-part t taken =
       let enters = enters-outside s.network v x h e taken has in
       let says = every_node s.network good.network s.hops v h enters in
-      let names : Names h.in_port says.rule = best_each h (Names h.in_port) says.best (all-name s.network s.hops v h.in_port good.hops) in
+      let names : Names h.in_port says.rule =
+      best_each h (Names h.in_port) says.best (all-name s.network s.hops v h.in_port good.hops) in
       let c = part-best s good v x e h o at says.rule taken names (best_holds h says.best) in
       record {
         entry = c.entry;
@@ -97,7 +102,8 @@ module _ (s : Setting) (good : IsSoundSetting s) (v : ℕ) (x : VirtualSwitch) (
   ends-here : x.spread ≡ false → x.links ≡ [] → traced ≡ used_leaves (asked s.network.tables x.expr h)
   ends-here lone none =
       ap (λ n. used_of (trace s.network n v h)) one
-      ∙ (rw (e, lone, none, leads-nowhere (does s.network.tables x.expr h).tail h.in_port) refl ∙ append-nil (used_leaves (asked s.network.tables x.expr h)))
+      ∙ (rw (e, lone, none, leads-nowhere (does s.network.tables x.expr h).tail h.in_port) refl
+      ∙ append-nil (used_leaves (asked s.network.tables x.expr h)))
 
   at-whole : x.whole ≡ true → HasTracedEntry s v o h
   at-whole t =
@@ -110,7 +116,8 @@ module _ (s : Setting) (good : IsSoundSetting s) (v : ℕ) (x : VirtualSwitch) (
         entry = c.entry;
         best = best-of-whole s good v x e h o at says.rule c t has says.best;
         ancestry = same-leaves s.wiring (site_at o.at.switch v x) (flat says.rule) c.entry c.is
-            ∙ (used_of_expressions s.network.tables (ports_of x) x.expr sound.members h (has-outside x h.in_port has) says.rule says.best
+            ∙ (used_of_expressions s.network.tables (ports_of x) x.expr sound.members h (has-outside x h.in_port has)
+            says.rule says.best
             ∙ sym (ends-here whole.lone whole.links));
       }
 

@@ -16,7 +16,8 @@ module _ (P : PhysEntry → Type 0) where
   into-put e [] p a = (p, tt)
   into-put e (d ∷ ds) p a = by (is_le (key_cmp e d)) (into-put e ds p a.1)
     where
-      by : (b : Bool) → AllByRecursion P (put_by_key e ds) → AllByRecursion P (if b then e ∷ d ∷ ds else d ∷ put_by_key e ds)
+      by : (b : Bool) → AllByRecursion P (put_by_key e ds)
+          → AllByRecursion P (if b then e ∷ d ∷ ds else d ∷ put_by_key e ds)
       by true rest = (p, a)
       by false rest = (a.0, rest)
 
@@ -38,11 +39,13 @@ module _ (P : PhysEntry → Type 0) where
   of-sorted [] a = tt
   of-sorted (e ∷ es) a = let r = out-of-put e (by_key es) a in (r.0, of-sorted es r.1)
 
-pub all-into : {A B : Type 0} (f : A → B) (P : B → Type 0) (xs : List A) → AllByRecursion (λ x. P (f x)) xs → AllByRecursion P (map f xs)
+pub all-into : {A B : Type 0} (f : A → B) (P : B → Type 0) (xs : List A) → AllByRecursion (λ x. P (f x)) xs
+    → AllByRecursion P (map f xs)
 all-into f P [] a = tt
 all-into f P (x ∷ xs) a = (a.0, all-into f P xs a.1)
 
-pub all-out : {A B : Type 0} (f : A → B) (P : B → Type 0) (xs : List A) → AllByRecursion P (map f xs) → AllByRecursion (λ x. P (f x)) xs
+pub all-out : {A B : Type 0} (f : A → B) (P : B → Type 0) (xs : List A) → AllByRecursion P (map f xs)
+    → AllByRecursion (λ x. P (f x)) xs
 all-out f P [] a = tt
 all-out f P (x ∷ xs) a = (a.0, all-out f P xs a.1)
 
@@ -60,10 +63,13 @@ among es =
 abbrev pub BestOrBelow : HeaderOf → PhysEntry → PhysEntry → Type 0
 BestOrBelow h b d = holds d.m h ≡ true → (d ≡ b) ⊎ (d.priority < b.priority)
 
-all-below : (h : HeaderOf) (b : PhysEntry) (xs : List PhysEntry) → AllByRecursion (λ (d : PhysEntry). holds d.m h ≡ true → d.priority < b.priority) xs → AllByRecursion (BestOrBelow h b) xs
+all-below : (h : HeaderOf) (b : PhysEntry) (xs : List PhysEntry)
+    → AllByRecursion (λ (d : PhysEntry). holds d.m h ≡ true → d.priority < b.priority) xs
+    → AllByRecursion (BestOrBelow h b) xs
 all-below h b [] a = tt
 all-below h b (x ∷ xs) a = (λ p. inr (a.0 p), all-below h b xs a.1)
 
-pub best-or-below : (h : HeaderOf) {es : List PhysEntry} {b : PhysEntry} → IsBestEntry h es b → AllByRecursion (BestOrBelow h b) es
+pub best-or-below : (h : HeaderOf) {es : List PhysEntry} {b : PhysEntry} → IsBestEntry h es b
+    → AllByRecursion (BestOrBelow h b) es
 best-or-below h (first {x = b} {xs = es} p a) = (λ _. inl refl, all-below h b es a)
 best-or-below h (later {x = b} {y = d} {xs = es} lt best) = (λ p. inr (lt p), best-or-below h best)

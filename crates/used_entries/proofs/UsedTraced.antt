@@ -1,5 +1,6 @@
 -- The first of the entries that stand on a switch and hold a packet is its best entry.
-use Rattle.std.proofs.Common.{◌≡◌, ℕ, ◌<◌, ◌≤◌, ◌⊎◌, inl, inr, arith, Bool, true, false, ◌&&◌, ◌||◌, List, [], ◌∷◌, map, Option, Some, None, refl, ap, ◌∙◌, sym, subst, Contains}
+use Rattle.std.proofs.Common.{◌≡◌, ℕ, ◌<◌, ◌≤◌, ◌⊎◌, inl, inr, arith, Bool, true, false, ◌&&◌, ◌||◌, List, [], ◌∷◌, map}
+use Rattle.std.proofs.Common.{Option, Some, None, refl, ap, ◌∙◌, sym, subst, Contains}
 use Rattle.std.specs.Prelude.{◌==◌, not, nat_lt}
 use Rattle.std.specs.List.{AllByRecursion, list_any}
 use Rattle.std.proofs.lemmas.Bool.{ltb-false}
@@ -23,7 +24,8 @@ use Rattle.agreement.specs.declared.state.Setting.{Setting}
 use Rattle.agreement.proofs.SwitchEntries.{all-fit}
 use Rattle.used_entries.specs.Traced.{HasTracedEntry, IsTraced, Stands, UsedEntriesAreTraced}
 use Rattle.used_entries.proofs.BestTraced.{best_entries_traced}
-use Rattle.used_entries.proofs.Standing.{BestOrBelow, all-into, all-out, all-sorted, among, at-one, best-or-below, of-sorted}
+use Rattle.used_entries.proofs.Standing.{BestOrBelow, all-into, all-out, all-sorted, among, at-one, best-or-below}
+use Rattle.used_entries.proofs.Standing.{of-sorted}
 
 -- what holds of all entries holds of the installed ones
 all-installed : (P : PhysEntry → Type 0) (es : List PhysEntry) → AllByRecursion P es → AllByRecursion P (installed es)
@@ -66,12 +68,14 @@ none-above h w [] e = tt
 none-above h w (v ∷ vs) e = by (holds v.entry.m h) (is_above v w) refl refl e (none-above h w vs)
   where
     by : (b c : Bool) → holds v.entry.m h ≡ b → is_above v w ≡ c → ((b && c) || list_any (is_higher h w) vs) ≡ false
-        → (list_any (is_higher h w) vs ≡ false → AllByRecursion (NoHigher h w) vs) → AllByRecursion (NoHigher h w) (v ∷ vs)
+        → (list_any (is_higher h w) vs ≡ false → AllByRecursion (NoHigher h w) vs)
+        → AllByRecursion (NoHigher h w) (v ∷ vs)
     by true true f g e rest = cc
     by true false f g e rest = (λ _. not-ranked v w g, rest e)
     by false c f g e rest = (λ p. cc, rest e)
 
-module _ (s : Setting) (good : IsSoundSetting s) (v : ℕ) (o : Outside) (h : HeaderOf) (known : HasTracedEntry s v o h) (standing : List Written) (stands : Stands s o.at.switch standing) where
+module _ (s : Setting) (good : IsSoundSetting s) (v : ℕ) (o : Outside) (h : HeaderOf) (known : HasTracedEntry s v o h)
+    (standing : List Written) (stands : Stands s o.at.switch standing) where
   abbrev k : HeaderOf
   k = comes_by o.at.port h
 
@@ -79,10 +83,12 @@ module _ (s : Setting) (good : IsSoundSetting s) (v : ℕ) (o : Outside) (h : He
   es = entries_of s o.at.switch
 
   -- what holds of what stands holds of what is installed
-  of-standing : (P : PhysEntry → Type 0) → AllByRecursion (λ (w : Written). P w.entry) standing → AllByRecursion P (installed es)
+  of-standing : (P : PhysEntry → Type 0) → AllByRecursion (λ (w : Written). P w.entry) standing
+      → AllByRecursion P (installed es)
   of-standing P a = of-sorted P (installed es) (subst (AllByRecursion P) stands (all-into entry_of P standing a))
 
-  to-standing : (P : PhysEntry → Type 0) → AllByRecursion P (installed es) → AllByRecursion (λ (w : Written). P w.entry) standing
+  to-standing : (P : PhysEntry → Type 0) → AllByRecursion P (installed es)
+      → AllByRecursion (λ (w : Written). P w.entry) standing
   to-standing P a = all-out entry_of P standing (subst (AllByRecursion P) (sym stands) (all-sorted P (installed es) a))
 
   uses : (flow : Option FlowEntry) → MayUse (table_of s o.at.switch) k flow → flow ≡ Some (flow_of known.entry)
@@ -100,7 +106,8 @@ module _ (s : Setting) (good : IsSoundSetting s) (v : ℕ) (o : Outside) (h : He
       stands = at-one (λ (w : Written). Contains (map flow_of (installed es)) (flow_of w.entry)) standing w first.stands
           (to-standing (λ e. Contains (map flow_of (installed es)) (flow_of e)) (among (installed es)));
       holds_it = first.holds_it;
-      highest = inl (all-into flow_of (λ (d : FlowEntry). holds d.m k ≡ true → rank_of d ≤ rank_of (flow_of w.entry)) (installed es)
+      highest = inl (all-into flow_of (λ (d : FlowEntry). holds d.m k ≡ true
+          → rank_of d ≤ rank_of (flow_of w.entry)) (installed es)
           (of-standing (λ (d : PhysEntry). holds d.m k ≡ true → rank_written d ≤ rank_written w.entry)
           (none-above k w standing first.none_above)));
     }
@@ -110,9 +117,11 @@ module _ (s : Setting) (good : IsSoundSetting s) (v : ℕ) (o : Outside) (h : He
         let same : flow_of w.entry ≡ flow_of known.entry = some_injective (uses (Some (flow_of w.entry)) usable) in
         let level : w.entry.priority ≡ known.entry.priority = ap (λ (f : FlowEntry). f.priority) same in
         by level (at-one (λ (w : Written). BestOrBelow k known.entry w.entry) standing w first.stands
-        (to-standing (BestOrBelow k known.entry) (all-installed (BestOrBelow k known.entry) es (best-or-below k known.best))) first.holds_it)
+        (to-standing (BestOrBelow k known.entry)
+        (all-installed (BestOrBelow k known.entry) es (best-or-below k known.best))) first.holds_it)
       where
-        by : w.entry.priority ≡ known.entry.priority → (w.entry ≡ known.entry) ⊎ (w.entry.priority < known.entry.priority) → w.entry ≡ known.entry
+        by : w.entry.priority ≡ known.entry.priority
+            → (w.entry ≡ known.entry) ⊎ (w.entry.priority < known.entry.priority) → w.entry ≡ known.entry
         by level (inl is) = is
         by level (inr lt) = absurd (omega (arith, level, lt))
 

@@ -35,7 +35,8 @@ BestEntriesAreTraced =
 abbrev pub Stands : Setting → ℕ → List Written → Type 0
 Stands s switch standing = map entry_of standing ≡ by_key (installed (entries_of s switch))
 
--- the first of the entries that stand there is the only one that the switch may use, and its leaves are those of the trace
+-- the first of the entries that stand there is the only one that the switch may use, and its leaves are those of the
+-- trace
 pub record IsTraced (s : Setting) (v : ℕ) (o : Outside) (h : HeaderOf) (used : Option Written) : Type 0 where
   pub written : Written
   pub is : used ≡ Some written

@@ -1,10 +1,13 @@
 -- What is wrong with a plan: the first fault.
-use Rattle.std.specs.Prelude.{◌≡◌, ℕ, Bool, true, false, ◌==◌, ◌&&◌, ◌||◌, ◌++◌, ◌⊎◌, not, is_none, nat_lt, nat_le, Option, Some, None, List, [], ◌∷◌, if◌then◌else◌, filter, length, option_map, slice_get, Result, Ok, Err}
+use Rattle.std.specs.Prelude.{◌≡◌, ℕ, Bool, true, false, ◌==◌, ◌&&◌, ◌||◌, ◌++◌, ◌⊎◌, not, is_none, nat_lt, nat_le}
+use Rattle.std.specs.Prelude.{Option, Some, None, List, [], ◌∷◌, if◌then◌else◌, filter, length, option_map, slice_get}
+use Rattle.std.specs.Prelude.{Result, Ok, Err}
 use Rattle.std.specs.Fmt.{decimal}
 use Rattle.std.specs.List.{enumerate_from, list_any}
 use Rattle.std.specs.Option.{option_or}
 use Rattle.virtual_topology.specs.declared.fault.TopologyFault.{TopologyFault}
-use Rattle.virtual_topology.specs.declared.fault.TopologyFault.TheVariants.{PortTwice, Unknown, LinkShape, Mixed, TooMany}
+use Rattle.virtual_topology.specs.declared.fault.TopologyFault.TheVariants.{PortTwice, Unknown, LinkShape, Mixed}
+use Rattle.virtual_topology.specs.declared.fault.TopologyFault.TheVariants.{TooMany}
 use Rattle.virtual_topology.specs.declared.plan.PairItem.{PairItem}
 use Rattle.virtual_topology.specs.declared.plan.PortPlace.{PortPlace}
 use Rattle.virtual_topology.specs.declared.plan.SwitchItem.{SwitchItem}
@@ -67,7 +70,8 @@ is_link_row Link = true
 
 -- a link port without a link
 abbrev pub unlinked : List PlaceUse → Row → Option TopologyFault
-unlinked us r = if is_link_row r.0.role && not (list_any (same_use r.0) us) then Some (LinkShape (place_text r.0.place)) else None
+unlinked us r = if is_link_row r.0.role && not (list_any (same_use r.0) us) then Some (LinkShape (place_text r.0.place))
+    else None
 
 -- the end of a link is no link port
 abbrev pub unlike_link : List Row → PortPlace → Option TopologyFault
@@ -79,14 +83,16 @@ misshapen rs l = option_or (unlike_link rs l.a) (option_or (unlike_link rs l.b) 
 
 -- 3: the first cable, link port or link of such a shape
 abbrev pub shape_among : List Row → List PlaceUse → TopologyPlan → Option TopologyFault
-shape_among rs us plan = option_or (first_answer looped plan.cables) (option_or (first_answer (unlinked us) rs) (first_answer (misshapen rs) plan.links))
+shape_among rs us plan = option_or (first_answer looped plan.cables)
+    (option_or (first_answer (unlinked us) rs) (first_answer (misshapen rs) plan.links))
 
 -- these links join two virtual switches, directly or through others: without the first of them, or over it, one way or
 -- the other
 abbrev pub are_joined : List Joint → ℕ → ℕ → Bool
 are_joined [] v u = v == u
 are_joined (l ∷ ls) v u =
-    are_joined ls v u || ((are_joined ls v l.0.0 && are_joined ls l.1.0 u) || (are_joined ls v l.1.0 && are_joined ls l.0.0 u))
+    are_joined ls v u || ((are_joined ls v l.0.0 && are_joined ls l.1.0 u) ||
+    (are_joined ls v l.1.0 && are_joined ls l.0.0 u))
 
 -- a link ends at the virtual switch
 abbrev pub ends_at : ℕ → Joint → Bool
@@ -94,7 +100,8 @@ ends_at v l = (l.0.0 == v) || (l.1.0 == v)
 
 -- a virtual switch that has links, and that links join to outside ports on two physical switches
 abbrev pub is_mixed : List Joint → List Joint → ℕ → Bool
-is_mixed links outside v = list_any (ends_at v) links && lie_apart (filter (λ (o : Joint). are_joined links v o.0.0) outside)
+is_mixed links outside v = list_any (ends_at v) links && lie_apart
+    (filter (λ (o : Joint). are_joined links v o.0.0) outside)
 
 abbrev pub mixed_item : List Joint → List Joint → ℕ × VirtualItem → Option TopologyFault
 mixed_item links outside (v, x) = if is_mixed links outside v then Some (Mixed x.name) else None
@@ -105,7 +112,8 @@ mixed_among links outside virtuals = first_answer (mixed_item links outside) (en
 
 -- the 17th switch, or more than 64 ports
 abbrev pub too_many : ℕ → List ℕ → ℕ → Option TopologyFault
-too_many i name ports = if nat_le 16 i then Some (TooMany name 16) else (if nat_lt 64 ports then Some (TooMany name 64) else None)
+too_many i name ports = if nat_le 16 i then Some (TooMany name 16)
+    else (if nat_lt 64 ports then Some (TooMany name 64) else None)
 
 abbrev pub too_many_at : ℕ × SwitchItem → Option TopologyFault
 too_many_at (i, s) = too_many i s.name (length s.ports)
@@ -121,11 +129,13 @@ too_many_pairs pairs = option_map (λ (pair : PairItem). TooMany (place_text pai
 abbrev pub crowded : TopologyPlan → Option TopologyFault
 crowded plan =
     option_or (first_answer too_many_at (enumerate_from 0 plan.switches))
-    (option_or (too_many_pairs plan.cables) (option_or (first_answer too_many_of (enumerate_from 0 plan.virtuals)) (too_many_pairs plan.links)))
+    (option_or (too_many_pairs plan.cables)
+    (option_or (first_answer too_many_of (enumerate_from 0 plan.virtuals)) (too_many_pairs plan.links)))
 
 -- the first of the faults 1 to 3
 abbrev pub misplaced : TopologyPlan → Option TopologyFault
-misplaced plan = option_or (twice_among (uses plan)) (option_or (unknown_among (rows plan) (uses plan)) (shape_among (rows plan) (uses plan) plan))
+misplaced plan = option_or (twice_among (uses plan))
+    (option_or (unknown_among (rows plan) (uses plan)) (shape_among (rows plan) (uses plan) plan))
 
 -- the first fault of a plan: each is looked for in the whole file before the next
 abbrev pub fault_of : TopologyPlan → Option TopologyFault

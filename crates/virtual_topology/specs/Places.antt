@@ -1,5 +1,6 @@
 -- The places of ports that a plan uses, and those that are there.
-use Rattle.std.specs.Prelude.{ℕ, Bool, true, false, ◌==◌, ◌&&◌, nat_eq, Option, Some, None, List, [], ◌∷◌, ◌++◌, if◌then◌else◌, flat_map}
+use Rattle.std.specs.Prelude.{ℕ, Bool, true, false, ◌==◌, ◌&&◌, nat_eq, Option, Some, None, List, [], ◌∷◌, ◌++◌}
+use Rattle.std.specs.Prelude.{if◌then◌else◌, flat_map}
 use Rattle.std.specs.Cmp.Lexicographic.{pointwise}
 use Rattle.virtual_topology.specs.declared.plan.PairItem.{PairItem}
 use Rattle.virtual_topology.specs.declared.plan.PortPlace.{PortPlace}
@@ -62,7 +63,8 @@ item_uses x = flat_map (port_uses x.name) x.ports
 abbrev pub virtual_uses : List VirtualItem → List PlaceUse
 virtual_uses xs = flat_map item_uses xs
 
--- the places that a plan uses, in the order of the file, of which each may be used once: the ends of cables, each port of
+-- the places that a plan uses, in the order of the file, of which each may be used once: the ends of cables, each port
+-- of
 -- a virtual switch and the physical port that it is, and the ends of links
 abbrev pub uses : TopologyPlan → List PlaceUse
 uses plan = pair_uses Physical plan.cables ++ (virtual_uses plan.virtuals ++ pair_uses Link plan.links)

@@ -36,7 +36,8 @@ link_row None place spot = (in_role Link place, spot) ∷ []
 link_row (Some at) place spot = []
 
 abbrev pub port_rows : ℕ → List ℕ → VirtualPort → List Row
-port_rows v name q = (in_role Virtual (at_port name q.port), (v, q.port)) ∷ link_row q.at (at_port name q.port) (v, q.port)
+port_rows v name q = (in_role Virtual (at_port name q.port), (v, q.port))
+    ∷ link_row q.at (at_port name q.port) (v, q.port)
 
 -- the ports of a virtual switch
 abbrev pub virtual_rows : ℕ × VirtualItem → List Row

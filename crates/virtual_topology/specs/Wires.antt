@@ -1,5 +1,6 @@
 -- How the ports of a plan are joined, by numbers.
-use Rattle.std.specs.Prelude.{ℕ, Bool, false, ◌==◌, ◌&&◌, not, is_none, Option, Some, None, List, [], ◌∷◌, map, filter_map, flat_map, option_map, slice_get}
+use Rattle.std.specs.Prelude.{ℕ, Bool, false, ◌==◌, ◌&&◌, not, is_none, Option, Some, None, List, [], ◌∷◌, map}
+use Rattle.std.specs.Prelude.{filter_map, flat_map, option_map, slice_get}
 use Rattle.std.specs.List.{enumerate_from, list_any}
 use Rattle.std.specs.Map.{lookup}
 use Rattle.std.specs.Option.{option_and_then, option_map_or}
@@ -101,10 +102,14 @@ is_shared v switch j = (j.1.0 == switch) && not (j.0.0 == v)
 abbrev pub is_lone_with : List Joint → List Joint → ℕ → VirtualItem → List Joint → Bool
 is_lone_with cables outside v x [] = false
 is_lone_with cables outside v x (j ∷ js) =
-    not (lie_apart (j ∷ js)) && (not (list_any is_link x.ports) && (not (list_any (touches j.1.0) (both_ways cables)) && not (list_any (is_shared v j.1.0) outside)))
+    not (lie_apart (j ∷ js)) &&
+    (not (list_any is_link x.ports) &&
+    (not (list_any (touches j.1.0) (both_ways cables)) && not (list_any (is_shared v j.1.0) outside)))
 
--- a virtual switch is alone on its one physical switch: it has an outside port, isn't spread, has no link port, no cable
+-- a virtual switch is alone on its one physical switch: it has an outside port, isn't spread, has no link port, no
+-- cable
 -- ends there, and no other virtual switch has an outside port there
 abbrev pub is_lone_of : TopologyPlan → ℕ → Bool
 is_lone_of plan v =
-    option_map_or (λ x. is_lone_with (cable_joints plan) (outside_joints plan) v x (item_joints (rows plan) (v, x))) (slice_get plan.virtuals v) false
+    option_map_or (λ x. is_lone_with (cable_joints plan) (outside_joints plan) v x (item_joints (rows plan) (v, x)))
+    (slice_get plan.virtuals v) false

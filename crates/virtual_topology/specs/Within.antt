@@ -20,7 +20,8 @@ HaveSwitches count js = All (λ (j : Joint). j.0.0 < count) js
 
 -- two have one group exactly where links join them
 abbrev pub AreGroups : List Joint → List ℕ → Type 0
-AreGroups links groups = (a b : ℕ) → a < length groups → b < length groups → (slice_index groups a == slice_index groups b) ≡ are_joined links a b
+AreGroups links groups = (a b : ℕ) → a < length groups → b < length groups
+    → (slice_index groups a == slice_index groups b) ≡ are_joined links a b
 
 -- an outside port, if its virtual switch is of a group
 abbrev pub kept_of : List ℕ → ℕ → Joint → Option Joint

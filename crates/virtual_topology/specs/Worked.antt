@@ -1,6 +1,7 @@
 -- Small plans, and what is found of them.
 use Rattle.std.specs.Prelude.{◌≡◌, ℕ, true, false, Some, None, List, [], ◌∷◌, ◌++◌, codes}
-use Rattle.virtual_topology.specs.declared.fault.TopologyFault.TheVariants.{PortTwice, Unknown, LinkShape, Mixed, TooMany}
+use Rattle.virtual_topology.specs.declared.fault.TopologyFault.TheVariants.{PortTwice, Unknown, LinkShape, Mixed}
+use Rattle.virtual_topology.specs.declared.fault.TopologyFault.TheVariants.{TooMany}
 use Rattle.virtual_topology.specs.declared.plan.PairItem.{PairItem}
 use Rattle.virtual_topology.specs.declared.plan.SwitchItem.{SwitchItem}
 use Rattle.virtual_topology.specs.declared.plan.TopologyPlan.{TopologyPlan}
@@ -45,15 +46,18 @@ abbrev pub row_of_three : TopologyPlan
 row_of_three = record {
   switches = switch_of s1 1 (1 ∷ 2 ∷ 3 ∷ []) ∷ switch_of s2 2 (1 ∷ 3 ∷ 4 ∷ []) ∷ switch_of s3 3 (1 ∷ 3 ∷ []) ∷ [];
   cables = pair_of s1 3 s2 3 ∷ pair_of s2 4 s3 3 ∷ [];
-  virtuals = virtual_of v1 161 (outside_at 1 s1 1 ∷ outside_at 2 s2 1 ∷ outside_at 3 s1 2 ∷ outside_at 4 s3 1 ∷ []) ∷ [];
+  virtuals = virtual_of v1 161 (outside_at 1 s1 1 ∷ outside_at 2 s2 1 ∷ outside_at 3 s1 2 ∷ outside_at 4 s3 1 ∷ [])
+      ∷ [];
   links = [];
 }
 
 -- its ports are found by number, both ways
 abbrev pub PortsAreFound : Type 0
 PortsAreFound =
-    (fault_of row_of_three ≡ None) × (outside_of row_of_three 0 4 ≡ Some (2, 1)) × (entering_of row_of_three 2 1 ≡ Some (0, 4)) × (entering_of row_of_three 2 3 ≡ None)
-    × (far_end_of row_of_three 1 4 ≡ Some (2, 3)) × (far_end_of row_of_three 1 3 ≡ Some (0, 3)) × (is_spread_of row_of_three 0 ≡ true) × (is_lone_of row_of_three 0 ≡ false)
+    (fault_of row_of_three ≡ None) × (outside_of row_of_three 0 4 ≡ Some (2, 1))
+    × (entering_of row_of_three 2 1 ≡ Some (0, 4)) × (entering_of row_of_three 2 3 ≡ None)
+    × (far_end_of row_of_three 1 4 ≡ Some (2, 3)) × (far_end_of row_of_three 1 3 ≡ Some (0, 3))
+    × (is_spread_of row_of_three 0 ≡ true) × (is_lone_of row_of_three 0 ≡ false)
 
 -- two virtual switches on one switch of four ports, with two links
 abbrev pub first_of_two : VirtualItem
@@ -70,8 +74,15 @@ linked = record {
 -- a link leads both ways; neither virtual switch is alone on the switch
 abbrev pub LinksLead : Type 0
 LinksLead =
-    (fault_of linked ≡ None) × (peer_of linked 0 9 ≡ Some (1, 9)) × (peer_of linked 1 8 ≡ Some (0, 8)) × (peer_of linked 0 1 ≡ None) × (is_spread_of linked 1 ≡ false) × (is_lone_of linked 1 ≡ false)
-    × (is_lone_of (record { switches = switch_of s1 1 (1 ∷ 2 ∷ []) ∷ []; cables = []; virtuals = virtual_of v1 161 (outside_at 1 s1 1 ∷ []) ∷ []; links = [] }) 0 ≡ true)
+    (fault_of linked ≡ None) × (peer_of linked 0 9 ≡ Some (1, 9)) × (peer_of linked 1 8 ≡ Some (0, 8))
+    × (peer_of linked 0 1 ≡ None) × (is_spread_of linked 1 ≡ false) × (is_lone_of linked 1 ≡ false)
+    × (is_lone_of
+    (record {
+      switches = switch_of s1 1 (1 ∷ 2 ∷ []) ∷ [];
+      cables = [];
+      virtuals = virtual_of v1 161 (outside_at 1 s1 1 ∷ []) ∷ [];
+      links = [];
+    }) 0 ≡ true)
 
 abbrev pub four : List SwitchItem
 four = switch_of s1 1 [] ∷ switch_of s1 1 [] ∷ switch_of s1 1 [] ∷ switch_of s1 1 [] ∷ []
@@ -80,9 +91,20 @@ four = switch_of s1 1 [] ∷ switch_of s1 1 [] ∷ switch_of s1 1 [] ∷ switch_
 -- the 17th switch
 abbrev pub FaultsAreNamed : Type 0
 FaultsAreNamed =
-    (fault_of (record row_of_three { cables = pair_of s1 3 s2 3 ∷ pair_of s2 4 s1 1 ∷ [] }) ≡ Some (PortTwice (place_text (at_port s1 1))))
-    × (fault_of (record row_of_three { cables = pair_of s1 3 s2 3 ∷ pair_of s2 4 s3 2 ∷ [] }) ≡ Some (Unknown (place_text (at_port s3 2))))
+    (fault_of (record row_of_three { cables = pair_of s1 3 s2 3 ∷ pair_of s2 4 s1 1 ∷ [] })
+    ≡ Some (PortTwice (place_text (at_port s1 1))))
+    × (fault_of (record row_of_three { cables = pair_of s1 3 s2 3 ∷ pair_of s2 4 s3 2 ∷ [] })
+    ≡ Some (Unknown (place_text (at_port s3 2))))
     × (fault_of (record linked { links = pair_of v1 9 v2 9 ∷ [] }) ≡ Some (LinkShape (place_text (at_port v1 8))))
-    × (fault_of (record linked { switches = switch_of s1 1 (1 ∷ 2 ∷ 3 ∷ []) ∷ switch_of s2 2 (4 ∷ []) ∷ []; virtuals = first_of_two ∷ virtual_of v2 162 (outside_at 1 s1 3 ∷ outside_at 2 s2 4 ∷ link_at 8 ∷ link_at 9 ∷ []) ∷ [] })
+    × (fault_of (record linked {
+      switches = switch_of s1 1 (1 ∷ 2 ∷ 3 ∷ []) ∷ switch_of s2 2 (4 ∷ []) ∷ [];
+      virtuals =
+          first_of_two ∷ virtual_of v2 162 (outside_at 1 s1 3 ∷ outside_at 2 s2 4 ∷ link_at 8 ∷ link_at 9 ∷ []) ∷ [];
+    })
     ≡ Some (Mixed v1))
-    × (fault_of (record { switches = four ++ four ++ four ++ four ++ switch_of s2 2 [] ∷ []; cables = []; virtuals = []; links = [] }) ≡ Some (TooMany s2 16))
+    × (fault_of (record {
+      switches = four ++ four ++ four ++ four ++ switch_of s2 2 [] ∷ [];
+      cables = [];
+      virtuals = [];
+      links = [];
+    }) ≡ Some (TooMany s2 16))

@@ -1,7 +1,8 @@
 //! Places that aren't there, and links and cables that can't be so.
 ghost use Rattle.std.specs.Prelude.{◌≡◌, map};
 ghost use Rattle.std.specs.Option.{option_or};
-ghost use Rattle.virtual_topology.specs.Faults.{Answers, asked as asked_of, first_answer, looped, misshapen, shape_among, unknown_among, unknown_place, unlike_link, unlinked};
+ghost use Rattle.virtual_topology.specs.Faults.{Answers, asked as asked_of, first_answer, looped, misshapen};
+ghost use Rattle.virtual_topology.specs.Faults.{shape_among, unknown_among, unknown_place, unlike_link, unlinked};
 ghost use Rattle.virtual_topology.specs.Shown.{shown, shown_row};
 
 use crate::fault::TopologyFault;

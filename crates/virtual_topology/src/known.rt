@@ -1,6 +1,7 @@
 //! The places that are there.
 ghost use Rattle.std.specs.Prelude.{◌≡◌, ◌++◌, ◌<◌, ◌^◌, OnOk, IfOk, map, length};
-ghost use Rattle.virtual_topology.specs.Rows.{rows as rows_of, all_switch_rows, all_virtual_rows, port_rows, switch_rows, virtual_rows, where_is};
+ghost use Rattle.virtual_topology.specs.Rows.{rows as rows_of, all_switch_rows, all_virtual_rows, port_rows};
+ghost use Rattle.virtual_topology.specs.Rows.{switch_rows, virtual_rows, where_is};
 ghost use Rattle.virtual_topology.specs.Shown.{shown, shown_row};
 
 use crate::maps::Rows;
@@ -36,7 +37,8 @@ fn push_switch<'a>(
     number: u32,
     item: &'a SwitchItem,
 ) -> Result<(), Memory>
-    ensures { OnOk result (map shown_row rows.new.items ≡ map shown_row rows.old.items ++ switch_rows (number, item.now)) }
+    ensures { OnOk result (map shown_row rows.new.items
+        ≡ map shown_row rows.old.items ++ switch_rows (number, item.now)) }
 {
     for port in item.ports.as_slice() {
         let place = Use {
@@ -56,7 +58,8 @@ fn push_port<'a>(
     name: Name<'a>,
     port: &VirtualPort,
 ) -> Result<(), Memory>
-    ensures { OnOk result (map shown_row rows.new.items ≡ map shown_row rows.old.items ++ port_rows number name.entry.0.now port.now) }
+    ensures { OnOk result (map shown_row rows.new.items
+        ≡ map shown_row rows.old.items ++ port_rows number name.entry.0.now port.now) }
 {
     let spot = (number, port.port);
     let place = Use {
@@ -82,7 +85,8 @@ fn push_virtual<'a>(
     number: u32,
     item: &'a VirtualItem,
 ) -> Result<(), Memory>
-    ensures { OnOk result (map shown_row rows.new.items ≡ map shown_row rows.old.items ++ virtual_rows (number, item.now)) }
+    ensures { OnOk result (map shown_row rows.new.items
+        ≡ map shown_row rows.old.items ++ virtual_rows (number, item.now)) }
 {
     for port in item.ports.as_slice() {
         push_port(rows, number, Name(&item.name), port)?;

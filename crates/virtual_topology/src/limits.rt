@@ -1,7 +1,8 @@
 //! Limits on the size of a plan.
 ghost use Rattle.std.specs.Prelude.{◌≡◌, ◌<◌, ◌^◌, length};
 ghost use Rattle.std.specs.List.{enumerate_from};
-ghost use Rattle.virtual_topology.specs.Faults.{Answers, crowded, first_answer, too_many, too_many_at, too_many_of, too_many_pairs};
+ghost use Rattle.virtual_topology.specs.Faults.{Answers, crowded, first_answer, too_many, too_many_at, too_many_of};
+ghost use Rattle.virtual_topology.specs.Faults.{too_many_pairs};
 
 use crate::fault::TopologyFault;
 use crate::plan::{PairItem, SwitchItem, TopologyPlan, VirtualItem};

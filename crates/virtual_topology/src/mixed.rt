@@ -1,7 +1,8 @@
 //! Virtual switches that links join, and that lie on several physical switches.
 ghost use Rattle.std.specs.Prelude.{◌≡◌, ◌==◌, ◌<◌, ◌≤◌, ℕ, ◌^◌, All, IfOk, filter_map, length, slice_index};
 ghost use Rattle.std.specs.List.{enumerate_from, list_any};
-ghost use Rattle.virtual_topology.specs.Faults.{Answers, are_joined, ends_at as ends_at_of, is_mixed as is_mixed_of, mixed_among, mixed_item};
+ghost use Rattle.virtual_topology.specs.Faults.{Answers, are_joined, ends_at as ends_at_of, is_mixed as is_mixed_of};
+ghost use Rattle.virtual_topology.specs.Faults.{mixed_among, mixed_item};
 ghost use Rattle.virtual_topology.specs.Within.{AreGroups, AreWithin, HaveSwitches, kept_of, merged};
 
 use crate::fault::TopologyFault;

@@ -2,7 +2,9 @@
 ghost use Rattle.std.specs.Prelude.{◌≡◌, ◌<◌, ◌^◌, IfOk, length};
 ghost use Rattle.std.specs.List.{list_any};
 ghost use Rattle.virtual_topology.specs.Made.{standing_of, standings_of};
-ghost use Rattle.virtual_topology.specs.Wires.{both_ways as both_ways_of, is_link, is_lone_with, is_shared as is_shared_of, item_joints as item_joints_of, lie_apart as lie_apart_of, touches};
+ghost use Rattle.virtual_topology.specs.Wires.{both_ways as both_ways_of, is_link, is_lone_with};
+ghost use Rattle.virtual_topology.specs.Wires.{is_shared as is_shared_of, item_joints as item_joints_of};
+ghost use Rattle.virtual_topology.specs.Wires.{lie_apart as lie_apart_of, touches};
 
 use crate::known::Known;
 use crate::plan::{VirtualItem, VirtualPort};
@@ -55,7 +57,8 @@ fn is_lone(
     item: &VirtualItem,
     own: &[Joint],
 ) -> bool
-    ensures { (cables : _) → cable_ways.now ≡ both_ways_of cables → result ≡ is_lone_with cables outside.now number item.now own.now }
+    ensures { (cables : _) → cable_ways.now ≡ both_ways_of cables
+        → result ≡ is_lone_with cables outside.now number item.now own.now }
 {
     match own {
         [] => false,
@@ -77,7 +80,8 @@ fn standing_at<'a>(
     number: u32,
     item: &'a VirtualItem,
 ) -> Result<Standing, Memory>
-    ensures { IfOk result (λ s. (cables : _) → cable_ways.now ≡ both_ways_of cables → s ≡ standing_of known.now cables outside.now (number, item.now)) }
+    ensures { IfOk result (λ s. (cables : _) → cable_ways.now ≡ both_ways_of cables
+        → s ≡ standing_of known.now cables outside.now (number, item.now)) }
 {
     let own = item_joints(alloc, known, number, item)?;
     Ok(Standing {
@@ -95,7 +99,8 @@ pub(crate) fn standings<'a>(
     virtuals: &'a [VirtualItem],
 ) -> Result<Vec<Standing>, Memory>
     requires { length virtuals.now < 2 ^ 32 }
-    ensures { IfOk result (λ v. (cables : _) → cable_ways.now ≡ both_ways_of cables → v.items ≡ standings_of known.now cables outside.now virtuals.now) }
+    ensures { IfOk result (λ v. (cables : _) → cable_ways.now ≡ both_ways_of cables
+        → v.items ≡ standings_of known.now cables outside.now virtuals.now) }
 {
     let mut standings = Vec::with_capacity(alloc, virtuals.len())?;
     for (number, item) in virtuals.iter().enumerate() {

@@ -5,7 +5,10 @@ ghost use Rattle.virtual_topology.specs.Faults.{Answers, fault_of, misplaced, sh
 ghost use Rattle.std.specs.Option.{option_or};
 ghost use Rattle.virtual_topology.specs.Rows.{rows as rows_of};
 ghost use Rattle.virtual_topology.specs.Within.{AreWithin};
-ghost use Rattle.virtual_topology.specs.Wires.{both_ways as both_ways_of, cable_joints, entering_of, far_end_of, is_lone_of, is_spread_of, link_joints, outside_joints as outside_joints_of, outside_of, peer_of, turned as turned_of};
+ghost use Rattle.virtual_topology.specs.Wires.{both_ways as both_ways_of, cable_joints, entering_of, far_end_of};
+ghost use Rattle.virtual_topology.specs.Wires.{is_lone_of, is_spread_of, link_joints};
+ghost use Rattle.virtual_topology.specs.Wires.{outside_joints as outside_joints_of, outside_of, peer_of};
+ghost use Rattle.virtual_topology.specs.Wires.{turned as turned_of};
 
 use crate::check::{check_places, check_shapes};
 use crate::fault::TopologyFault;

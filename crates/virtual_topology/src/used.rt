@@ -34,13 +34,15 @@ impl<'a> Model for Used<'a> {
 
     ghost view = { λ a. map shown a.list.items };
 
-    ghost invariant = { λ a. (u : Use) → contains same_shown a.set u ≡ list_any (same_use (shown u)) (map shown a.list.items) };
+    ghost invariant = { λ a. (u : Use)
+        → contains same_shown a.set u ≡ list_any (same_use (shown u)) (map shown a.list.items) };
 }
 
 /// The set of places that are each used once, or the fault of the first that is used again.
 fn set_of<'a>(alloc: Global, list: &[Use<'a>]) -> Result<HashSet<Use<'a>>, TopologyFault>
     ensures fault { Answers TopologyFault.Memory result (twice_among (map shown list.now)) }
-    ensures contains { IfOk result (λ set. (u : _) → contains same_shown set u ≡ list_any (same_use (shown u)) (map shown list.now)) }
+    ensures contains { IfOk result (λ set. (u : _)
+        → contains same_shown set u ≡ list_any (same_use (shown u)) (map shown list.now)) }
 {
     let mut set = HashSet::with_capacity(alloc, list.len())?;
     for place in list {

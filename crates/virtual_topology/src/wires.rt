@@ -1,7 +1,10 @@
 //! How ports are joined, by numbers.
 ghost use Rattle.std.specs.Prelude.{◌≡◌, ◌∷◌, ◌++◌, ◌<◌, [], ◌^◌, IfOk, OnOk, option_to_list, length};
 ghost use Rattle.std.specs.List.{list_any};
-ghost use Rattle.virtual_topology.specs.Wires.{both_ways as both_ways_of, item_joints as item_joints_of, joints_among, lie_apart as lie_apart_of, lies_off, outside_among, outside_row as outside_row_of, pair_joint as pair_joint_of, turned as turned_of};
+ghost use Rattle.virtual_topology.specs.Wires.{both_ways as both_ways_of, item_joints as item_joints_of, joints_among};
+ghost use Rattle.virtual_topology.specs.Wires.{lie_apart as lie_apart_of, lies_off, outside_among};
+ghost use Rattle.virtual_topology.specs.Wires.{outside_row as outside_row_of, pair_joint as pair_joint_of};
+ghost use Rattle.virtual_topology.specs.Wires.{turned as turned_of};
 
 use crate::known::{Known, Spot};
 use crate::plan::{PairItem, VirtualItem, VirtualPort};

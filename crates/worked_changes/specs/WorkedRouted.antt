@@ -8,4 +8,9 @@ abbrev pub routed_item : VirtualItem
 routed_item = virtual_of v1 161 (outside_at 1 s1 1 ∷ outside_at 2 s1 2 ∷ outside_at 3 s1 3 ∷ outside_at 4 s1 4 ∷ [])
 
 abbrev pub routed_plan : TopologyPlan
-routed_plan = record { switches = switch_of s1 1 (1 ∷ 2 ∷ 3 ∷ 4 ∷ 5 ∷ []) ∷ []; cables = []; virtuals = routed_item ∷ []; links = [] }
+routed_plan = record {
+  switches = switch_of s1 1 (1 ∷ 2 ∷ 3 ∷ 4 ∷ 5 ∷ []) ∷ [];
+  cables = [];
+  virtuals = routed_item ∷ [];
+  links = [];
+}

@@ -91,7 +91,8 @@ setting_with whole monitor router = record (routed whole) {
 
 -- the steps where the monitor's entries change
 abbrev pub steps_of_setting : Bool → List LeafEntry → List LeafEntry → ℕ
-steps_of_setting whole before after = setting_steps routed_plan (setting_with whole before sends) (setting_with whole after sends)
+steps_of_setting whole before after = setting_steps routed_plan (setting_with whole before sends)
+    (setting_with whole after sends)
 
 -- Where one entry stands for all ports, no step is made but at `+`; else fewer than the 35 of a node for each port and
 -- each of four hops. None are made where the entry goes.

@@ -43,6 +43,21 @@ impl Log {
         }
     }
 
+    /// A pass in whose session these wait, until it ends at 7.
+    pub(crate) fn waiting(alloc: Global, messages: List<Bytes>) -> Log {
+        Log {
+            posts: List::new(alloc),
+            calls: List::new(alloc),
+            hears: 0,
+            waiting: messages,
+            empties: 0,
+        }
+    }
+
+    pub(crate) fn into_calls(self) -> List<Call> {
+        self.calls
+    }
+
     // Keeps a post.
     fn keep(&mut self, event: Event, reply: Reply) -> Result<(), Memory>
         ensures kept { OnOk result (self.new.posts ≡ self.old.posts ++ record { event = event; reply = reply } ∷ []) }

@@ -54,9 +54,11 @@ fn switch<R: Wait>(
     write_fails: &[u64],
 ) -> Result<(Result<Greeted, OpenEnd>, Bytes), Memory> {
     let dpids = List::from_slice(alloc, &[1, 2])?;
+    let read_fails = List::from_slice(alloc, read_fails)?;
+    let write_fails = List::from_slice(alloc, write_fails)?;
     let mut framer = Framer::new(alloc);
-    let mut source = MemSource::new(sent, List::from_slice(alloc, read_fails)?);
-    let mut sink = MemSink::new(Bytes::new(alloc), List::from_slice(alloc, write_fails)?);
+    let mut source = MemSource::new(sent, read_fails);
+    let mut sink = MemSink::new(Bytes::new(alloc), write_fails);
     let opened = open_switch(rt, alloc, &dpids, &mut framer, &mut source, &mut sink);
     Ok((opened, sink.held))
 }
@@ -69,9 +71,11 @@ fn member<R: Wait>(
     read_fails: &[u64],
     write_fails: &[u64],
 ) -> Result<(Result<(), OpenEnd>, Bytes), Memory> {
+    let read_fails = List::from_slice(alloc, read_fails)?;
+    let write_fails = List::from_slice(alloc, write_fails)?;
     let mut framer = Framer::new(alloc);
-    let mut source = MemSource::new(sent, List::from_slice(alloc, read_fails)?);
-    let mut sink = MemSink::new(Bytes::new(alloc), List::from_slice(alloc, write_fails)?);
+    let mut source = MemSource::new(sent, read_fails);
+    let mut sink = MemSink::new(Bytes::new(alloc), write_fails);
     let opened = open_member(rt, alloc, &mut framer, &mut source, &mut sink);
     Ok((opened, sink.held))
 }
@@ -105,45 +109,50 @@ fn known_switches(rt: HostRuntime) -> Result<(), Fail> {
 
 #[test]
 fn other_peers(rt: HostRuntime) -> Result<(), Fail> {
-    let a = rt.alloc();
-    let ended = Err(OpenEnd::Ended);
-    let short = Err(OpenEnd::Short { length: 7 });
-    let other = Err(OpenEnd::NoHello);
-    assert!(rt; opens(&rt, a, &[], ended, &[GREETING])?);
-    assert!(rt; opens(&rt, a, &[HELLO], ended, &[GREETING])?);
-    assert!(rt; opens(&rt, a, &[&HELLO[..5]], ended, &[GREETING])?);
-    assert!(rt;
-        opens(
-            &rt,
-            a,
-            &[HELLO, CUT_FEATURES, LATER_FEATURES],
-            ended,
-            &[GREETING]
-        )?
-    );
-    assert!(rt; opens(&rt, a, &[SHORT], short, &[GREETING])?);
-    assert!(rt; opens(&rt, a, &[HELLO, SHORT], short, &[GREETING])?);
-    assert!(rt; opens(&rt, a, &[ECHO, HELLO], other, &[GREETING])?);
-    assert!(rt; opens(&rt, a, &[EARLIER_HELLO], other, &[GREETING])?);
+    let short = OpenEnd::Short { length: 7 };
+    let rows: [(&[&[u8]], OpenEnd); 8] = [
+        (&[], OpenEnd::Ended),
+        (&[HELLO], OpenEnd::Ended),
+        (&[&HELLO[..5]], OpenEnd::Ended),
+        (&[HELLO, CUT_FEATURES, LATER_FEATURES], OpenEnd::Ended),
+        (&[SHORT], short),
+        (&[HELLO, SHORT], short),
+        (&[ECHO, HELLO], OpenEnd::NoHello),
+        (&[EARLIER_HELLO], OpenEnd::NoHello),
+    ];
+    for (sent, end) in &rows {
+        assert!(rt; opens(&rt, rt.alloc(), sent, Err(*end), &[GREETING])?);
+    }
     Ok(())
+}
+
+/// A frame, and then another so often.
+fn repeated(alloc: Global, first: &[u8], frame: &[u8], count: u32) -> Result<Bytes, Memory> {
+    let mut bytes = Bytes::from_slice(alloc, first)?;
+    for _ in 0..count {
+        bytes.extend_from_slice(frame)?;
+    }
+    Ok(bytes)
+}
+
+/// Whether a switch that sends so many requests before its features is opened so, and has them answered.
+fn answers<R: Wait>(
+    rt: &R,
+    alloc: Global,
+    count: u32,
+    want: Result<(), OpenEnd>,
+) -> Result<bool, Memory> {
+    let answered = repeated(alloc, GREETING, ECHOED, count)?;
+    let mut sent = repeated(alloc, HELLO, ECHO, count)?;
+    sent.extend_from_slice(FEATURES)?;
+    let (opened, held) = switch(rt, alloc, sent, &[], &[])?;
+    Ok(opened.map(|_| ()) == want && held == answered)
 }
 
 #[test]
 fn sixty_four_frames(rt: HostRuntime) -> Result<(), Fail> {
-    let alloc = rt.alloc();
-    for (count, want) in [(63u32, true), (64, false)] {
-        let mut sent = bytes_of(alloc, &[HELLO])?;
-        let mut answered = bytes_of(alloc, &[GREETING])?;
-        for _ in 0..count {
-            sent.extend_from_slice(ECHO)?;
-            answered.extend_from_slice(ECHOED)?;
-        }
-        sent.extend_from_slice(FEATURES)?;
-        let (opened, held) = switch(&rt, alloc, sent, &[], &[])?;
-        assert_eq!(rt; opened.is_ok(), want);
-        assert!(rt; opened.is_ok() || opened == Err(OpenEnd::NoFeatures));
-        assert!(rt; held == answered);
-    }
+    assert!(rt; answers(&rt, rt.alloc(), 63, Ok(()))?);
+    assert!(rt; answers(&rt, rt.alloc(), 64, Err(OpenEnd::NoFeatures))?);
     Ok(())
 }
 
@@ -173,29 +182,57 @@ fn greets<R: Wait>(
 
 #[test]
 fn controllers(rt: HostRuntime) -> Result<(), Fail> {
-    let a = rt.alloc();
-    assert!(rt; greets(&rt, a, &[], Err(OpenEnd::Ended))?);
-    assert!(rt; greets(&rt, a, &[&HELLO[..7]], Err(OpenEnd::Ended))?);
-    assert!(rt; greets(&rt, a, &[SHORT], Err(OpenEnd::Short { length: 7 }))?);
-    assert!(rt; greets(&rt, a, &[ECHO], Err(OpenEnd::NoHello))?);
-    assert!(rt; greets(&rt, a, &[HELLO], Ok(()))?);
-    assert!(rt; greets(&rt, a, &[LATER_HELLO], Ok(()))?);
-    assert!(rt; greets(&rt, a, &[HELLO, ECHO], Ok(()))?);
+    let rows: [(&[&[u8]], Result<(), OpenEnd>); 7] = [
+        (&[], Err(OpenEnd::Ended)),
+        (&[&HELLO[..7]], Err(OpenEnd::Ended)),
+        (&[SHORT], Err(OpenEnd::Short { length: 7 })),
+        (&[ECHO], Err(OpenEnd::NoHello)),
+        (&[HELLO], Ok(())),
+        (&[LATER_HELLO], Ok(())),
+        (&[HELLO, ECHO], Ok(())),
+    ];
+    for (sent, want) in &rows {
+        assert!(rt; greets(&rt, rt.alloc(), sent, *want)?);
+    }
     Ok(())
+}
+
+/// Whether a controller that sends a HELLO isn't opened where these calls fail, and is sent this.
+fn member_fails<R: Wait>(
+    rt: &R,
+    alloc: Global,
+    read_fails: &[u64],
+    write_fails: &[u64],
+    want: OpenEnd,
+    written: &[u8],
+) -> Result<bool, Memory> {
+    let sent = bytes_of(alloc, &[HELLO])?;
+    let (opened, held) = member(rt, alloc, sent, read_fails, write_fails)?;
+    Ok(opened == Err(want) && held.as_slice() == written)
+}
+
+/// Whether a switch that sends these bytes isn't opened where these calls fail, and is greeted.
+fn switch_fails<R: Wait>(
+    rt: &R,
+    alloc: Global,
+    sent: &[&[u8]],
+    read_fails: &[u64],
+    write_fails: &[u64],
+    want: OpenEnd,
+) -> Result<bool, Memory> {
+    let sent = bytes_of(alloc, sent)?;
+    let (opened, held) = switch(rt, alloc, sent, read_fails, write_fails)?;
+    Ok(opened == Err(want) && held.as_slice() == GREETING)
 }
 
 #[test]
 fn faults(rt: HostRuntime) -> Result<(), Fail> {
     let alloc = rt.alloc();
-    let (opened, held) = member(&rt, alloc, bytes_of(alloc, &[HELLO])?, &[1], &[])?;
-    assert!(rt; opened == Err(OpenEnd::ReadFault) && held.as_slice() == HELLO);
-    let (opened, held) = member(&rt, alloc, bytes_of(alloc, &[HELLO])?, &[], &[1])?;
-    assert!(rt; opened == Err(OpenEnd::WriteFault) && held.is_empty());
-    let (opened, _) = switch(&rt, alloc, bytes_of(alloc, &[HELLO, FEATURES])?, &[1], &[])?;
-    assert_eq!(rt; opened, Err(OpenEnd::ReadFault));
+    let (read, write) = (OpenEnd::ReadFault, OpenEnd::WriteFault);
+    assert!(rt; member_fails(&rt, alloc, &[1], &[], read, HELLO)?);
+    assert!(rt; member_fails(&rt, alloc, &[], &[1], write, &[])?);
+    assert!(rt; switch_fails(&rt, alloc, &[HELLO, FEATURES], &[1], &[], read)?);
     // the answer to the echo is not written
-    let sent = bytes_of(alloc, &[HELLO, ECHO, FEATURES])?;
-    let (opened, held) = switch(&rt, alloc, sent, &[], &[2])?;
-    assert!(rt; opened == Err(OpenEnd::WriteFault) && held.as_slice() == GREETING);
+    assert!(rt; switch_fails(&rt, alloc, &[HELLO, ECHO, FEATURES], &[], &[2], write)?);
     Ok(())
 }

@@ -1,6 +1,6 @@
 //! The work that writes the audit.
 use super::desks::{Book, Log, letters};
-use crate::lines::Lines;
+use counting_machine::Lines;
 use cv_io::{Bytes, Clock, List, MemClock, MemSink, Memory};
 use endpoint_works::{AuditEnd, Others, write_audit};
 use std::alloc::Global;
@@ -8,21 +8,41 @@ use std::sync::Wait;
 use std::sync::atomic::{AtomicU64, Ordering};
 use std::test::*;
 
-/// The audit of two lines, over a sink whose calls fail so: how its writing ends, what is written, and what is posted.
+fn two_lines(alloc: Global) -> Result<List<Bytes>, Memory> {
+    let mut lines = List::new(alloc);
+    lines.push(Bytes::from_slice(alloc, b"up app")?)?;
+    lines.push(Bytes::from_slice(alloc, b"down s1")?)?;
+    Ok(lines)
+}
+
+/// The audit over a sink whose calls fail so: how its writing ends, and what is written.
+fn written<R: Wait>(
+    rt: &R,
+    alloc: Global,
+    pass: &mut Log,
+    fails: &[u64],
+) -> Result<(AuditEnd, Bytes), Memory> {
+    let fails = List::from_slice(alloc, fails)?;
+    let others = Others::new(1);
+    others.end_one();
+    let mut clock = MemClock::new(List::new(alloc));
+    let mut out = MemSink::new(Bytes::new(alloc), fails);
+    let end = write_audit(rt, &Book {}, pass, &mut out, &others, &mut clock)?;
+    Ok((end, out.held))
+}
+
+/// The same where two lines wait, and what is posted.
 fn audit<R: Wait>(
     rt: &R,
     alloc: Global,
     fails: &[u64],
 ) -> Result<(AuditEnd, Bytes, Bytes), Memory> {
-    let mut pass = Log::new(alloc, 1);
-    pass.waiting.push(Bytes::from_slice(alloc, b"up app")?)?;
-    pass.waiting.push(Bytes::from_slice(alloc, b"down s1")?)?;
-    let mut out = MemSink::new(Bytes::new(alloc), List::from_slice(alloc, fails)?);
-    let others = Others::new(1);
-    others.end_one();
-    let mut clock = MemClock::new(List::new(alloc));
-    let end = write_audit(rt, &Book {}, &mut pass, &mut out, &others, &mut clock)?;
-    Ok((end, out.held, letters(alloc, &pass.posts)?))
+    let mut pass = Log::waiting(alloc, two_lines(alloc)?, 1);
+    let written = written(rt, alloc, &mut pass, fails);
+    let posts = letters(alloc, &pass.posts);
+    drop(pass);
+    let (end, held) = written?;
+    Ok((end, held, posts?))
 }
 
 #[test]
@@ -62,10 +82,7 @@ impl Clock for Ending<'_> {
 
 #[test]
 fn lines_are_written_as_they_come(rt: HostRuntime) -> Result<(), Fail> {
-    let alloc = rt.alloc();
-    let mut pass = Log::new(alloc, 2);
-    pass.waiting.push(Bytes::from_slice(alloc, b"up app")?)?;
-    pass.waiting.push(Bytes::from_slice(alloc, b"down s1")?)?;
+    let mut pass = Log::waiting(rt.alloc(), two_lines(rt.alloc())?, 2);
     let written = AtomicU64::new(0);
     let others = Others::new(1);
     let mut out = Lines { written: &written };
@@ -74,8 +91,9 @@ fn lines_are_written_as_they_come(rt: HostRuntime) -> Result<(), Fail> {
         written: &written,
         seen: None,
     };
-    let end = write_audit(&rt, &Book {}, &mut pass, &mut out, &others, &mut clock)?;
-    assert_eq!(rt; end, AuditEnd::Ended);
+    let end = write_audit(&rt, &Book {}, &mut pass, &mut out, &others, &mut clock);
+    drop(pass);
+    assert_eq!(rt; end?, AuditEnd::Ended);
     assert!(rt; clock.seen == Some(2));
     Ok(())
 }

@@ -25,6 +25,15 @@ impl Log {
         }
     }
 
+    /// A pass in whose session these wait.
+    pub(crate) fn waiting(alloc: Global, messages: List<Bytes>, empties: u32) -> Log {
+        Log {
+            posts: List::new(alloc),
+            waiting: messages,
+            empties,
+        }
+    }
+
     fn keep(&mut self, event: Event, reply: Reply) -> Result<(), Memory>
         ensures kept { OnOk result (self.new.posts ≡ self.old.posts ++ record { event = event; reply = reply } ∷ []) }
         ensures memory { OnErr result (self.new.posts ≡ self.old.posts) }

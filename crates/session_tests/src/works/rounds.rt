@@ -4,8 +4,8 @@ ghost use Rattle.endpoint_works.specs.Sides.{IsServedSide};
 
 use super::desks::{Book, Log, letters};
 use cv_io::{
-    Bytes, Duplicate, Endpoint, Links, List, MemClock, MemDial, MemEnd, MemLinks, MemSink,
-    MemSource, Memory, Text,
+    Bytes, Endpoint, Links, List, MemClock, MemDial, MemEnd, MemLinks, MemSink, MemSource, Memory,
+    Text,
 };
 use endpoint_works::{
     Dialled, Handover, Received, RoundEnd, Sent, Side, receive, send, serve_round,
@@ -33,7 +33,32 @@ fn joined(alloc: Global, parts: &[&[u8]]) -> Result<Bytes, Memory> {
     Ok(bytes)
 }
 
-/// The round of a connection whose peer sends these bytes and then nothing: how it ends, and what is posted.
+/// The round of a connection whose peer sends these bytes and then nothing: how it ends.
+fn end_of<R: Wait>(
+    rt: &R,
+    alloc: Global,
+    pass: &mut Log,
+    side: &Side,
+    sent: Bytes,
+) -> Result<RoundEnd, Memory>
+    requires { IsServedSide (λ _. ⊤) side.now }
+{
+    let mut source = MemSource::new(sent, List::new(alloc));
+    let sink = MemSink::new(Bytes::new(alloc), List::new(alloc));
+    let handover = Handover::new();
+    serve_round(
+        rt,
+        alloc,
+        &Book {},
+        pass,
+        side,
+        &mut source,
+        sink,
+        &handover,
+    )
+}
+
+/// The same, and what is posted.
 fn round<R: Wait>(
     rt: &R,
     alloc: Global,
@@ -42,21 +67,12 @@ fn round<R: Wait>(
 ) -> Result<(RoundEnd, Bytes), Memory>
     requires { IsServedSide (λ _. ⊤) side.now }
 {
+    let sent = joined(alloc, sent)?;
     let mut pass = Log::new(alloc, 0);
-    let mut source = MemSource::new(joined(alloc, sent)?, List::new(alloc));
-    let sink = MemSink::new(Bytes::new(alloc), List::new(alloc));
-    let handover = Handover::new();
-    let end = serve_round(
-        rt,
-        alloc,
-        &Book {},
-        &mut pass,
-        side,
-        &mut source,
-        sink,
-        &handover,
-    )?;
-    Ok((end, letters(alloc, &pass.posts)?))
+    let end = end_of(rt, alloc, &mut pass, side, sent);
+    let posts = letters(alloc, &pass.posts);
+    drop(pass);
+    Ok((end?, posts?))
 }
 
 const MEMBER: Side = Side::Member { index: 0 };
@@ -128,22 +144,38 @@ fn switches_end(rt: HostRuntime) -> Result<(), Fail> {
     Ok(())
 }
 
-/// The dial of an endpoint with one connection, whose peer sends a HELLO and a request.
-fn one_connection(alloc: Global) -> Result<Dialled<MemDial>, Memory> {
-    let end = Endpoint::Member {
+fn endpoint(alloc: Global) -> Endpoint {
+    Endpoint::Member {
         index: 0,
         address: Text::new(alloc),
         rounds: 1,
-    };
+    }
+}
+
+/// What the peer of one connection sends: a HELLO and a request.
+fn one_input(alloc: Global) -> Result<List<Bytes>, Memory> {
     let mut inputs = List::new(alloc);
     inputs.push(joined(alloc, &[HELLO, BARRIER])?)?;
-    let mut ends = List::new(alloc);
-    ends.push(MemEnd {
-        end: end.copy()?,
+    Ok(inputs)
+}
+
+/// The endpoint of these connections alone.
+fn one_end(alloc: Global, inputs: List<Bytes>) -> Result<List<MemEnd>, Memory> {
+    let end = MemEnd {
+        end: endpoint(alloc),
         inputs,
         fails: List::new(alloc),
-    })?;
-    match MemLinks::new(alloc, ends, List::new(alloc)).dial(&end) {
+    };
+    let mut ends = List::new(alloc);
+    ends.push(end)?;
+    Ok(ends)
+}
+
+/// The dial of an endpoint with one connection.
+fn one_connection(alloc: Global) -> Result<Dialled<MemDial>, Memory> {
+    let ends = one_end(alloc, one_input(alloc)?)?;
+    let mut links = MemLinks::new(alloc, ends, List::new(alloc));
+    match links.dial(&endpoint(alloc)) {
         Ok(dial) => Ok(Dialled { dial }),
         Err(_) => Err(Memory),
     }
@@ -167,7 +199,16 @@ fn first<R: Wait>(
         handover,
     );
     handover.close(rt);
-    Ok((end, letters(alloc, &pass.posts)?))
+    drop(arrivals);
+    let posts = letters(alloc, &pass.posts);
+    drop(pass);
+    Ok((end, posts?))
+}
+
+fn one_message(alloc: Global) -> Result<List<Bytes>, Memory> {
+    let mut messages = List::new(alloc);
+    messages.push(joined(alloc, &[HELLO])?)?;
+    Ok(messages)
 }
 
 /// The work that writes to it, for which one message waits.
@@ -176,11 +217,14 @@ fn second<R: Wait>(
     alloc: Global,
     handover: &Handover<MemSink>,
 ) -> Result<(Sent, Bytes), Memory> {
-    let mut pass = Log::new(alloc, 1);
-    pass.waiting.push(joined(alloc, &[HELLO])?)?;
-    let mut clock = MemClock::new(List::from_slice(alloc, &[4])?);
+    let seconds = List::from_slice(alloc, &[4])?;
+    let messages = one_message(alloc)?;
+    let mut clock = MemClock::new(seconds);
+    let mut pass = Log::waiting(alloc, messages, 1);
     let end = send(rt, &Book {}, &mut pass, handover, &mut clock);
-    Ok((end, letters(alloc, &pass.posts)?))
+    let posts = letters(alloc, &pass.posts);
+    drop(pass);
+    Ok((end, posts?))
 }
 
 #[test]

@@ -6,4 +6,5 @@ use Rattle.agreement.specs.Entries.{flat}
 use Rattle.agreement.proofs.entries.placed.Given as goal
 
 abbrev pub invariant-loop-rule : goal.invariant-loop-rule
-invariant-loop-rule l = l.entries ≡ filter_map (λ (r : Rule). entry_of l.wiring l.site (flat r)) (take l.rule-index l.rule-items)
+invariant-loop-rule l = l.entries ≡ filter_map (λ (r : Rule). entry_of l.wiring l.site (flat r))
+    (take l.rule-index l.rule-items)

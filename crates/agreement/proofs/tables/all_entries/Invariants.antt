@@ -7,4 +7,5 @@ use Rattle.agreement.proofs.tables.all_entries.Given as goal
 -- what is there, and then the entries of the virtual switches that are left
 abbrev pub invariant-loop-v : goal.invariant-loop-v
 invariant-loop-v l =
-    l.entries ++ flat_map (entries_for l.setting l.switch) (enumerate_from l.v (drop l.v l.x-items)) ≡ flat_map (entries_for l.setting l.switch) (enumerate_from 0 l.setting.network.switches)
+    l.entries ++ flat_map (entries_for l.setting l.switch) (enumerate_from l.v (drop l.v l.x-items))
+    ≡ flat_map (entries_for l.setting l.switch) (enumerate_from 0 l.setting.network.switches)

@@ -5,4 +5,5 @@ use Rattle.agreement.proofs.tables.is_whole.Given as goal
 
 -- the switch is all of one of the virtual switches that are left
 abbrev pub invariant-loop-v : goal.invariant-loop-v
-invariant-loop-v l = list_any (is_all_of l.setting l.switch) (enumerate_from l.v (drop l.v l.x-items)) ≡ is_whole l.setting l.switch
+invariant-loop-v l = list_any (is_all_of l.setting l.switch) (enumerate_from l.v (drop l.v l.x-items))
+    ≡ is_whole l.setting l.switch

@@ -11,15 +11,18 @@ use Rattle.command_line.proofs.Meant.{ascii_given, explain_meant, make_meant, nu
 use Rattle.command_line.proofs.meaning.meant.Goals as goal
 
 pub text-requires : goal.text-requires
-text-requires c = ascii_given c.get_str.result _ (c.get_str.ensures ∙ first_value-rows (found_of c.args.given.now) (codes "POLICY")) c.requires
+text-requires c = ascii_given c.get_str.result _ (c.get_str.ensures
+    ∙ first_value-rows (found_of c.args.given.now) (codes "POLICY")) c.requires
 
 pub text-requires-then-is_text-2 : goal.text-requires-then-is_text-2
 text-requires-then-is_text-2 c =
-    ascii_given c.get_str-then-is_text-2.result _ (c.get_str-then-is_text-2.ensures ∙ first_value-rows (found_of c.args.given.now) (codes "POLICY")) c.requires
+    ascii_given c.get_str-then-is_text-2.result _ (c.get_str-then-is_text-2.ensures
+    ∙ first_value-rows (found_of c.args.given.now) (codes "POLICY")) c.requires
 
 pub text-requires-then-is_text-3 : goal.text-requires-then-is_text-3
 text-requires-then-is_text-3 c =
-    ascii_given c.get_str-then-is_text-3.result _ (c.get_str-then-is_text-3.ensures ∙ first_value-rows (found_of c.args.given.now) (codes "POLICY")) c.requires
+    ascii_given c.get_str-then-is_text-3.result _ (c.get_str-then-is_text-3.ensures
+    ∙ first_value-rows (found_of c.args.given.now) (codes "POLICY")) c.requires
 
 pub returns-in_ok-name : goal.returns-in_ok-name
 returns-in_ok-name c =
@@ -52,6 +55,8 @@ returns-then-is_text-4 c =
     let neither : bytes_eq c.args.verb.now (codes "serve") ≡ false = search rules in
     let is : bytes_eq c.args.verb.now (codes "make") ≡ true = search rules in
     c.making.ensures ∙ ap₂ making
-    (number_given seed_in c.get_str-then-is_text-4.result _ (c.get_str-then-is_text-4.ensures ∙ first_value-rows (found_of c.args.given.now) (codes "SEED")))
-    (number_given count_in c.get_str-then-is_text-4-2.result _ (c.get_str-then-is_text-4-2.ensures ∙ first_value-rows (found_of c.args.given.now) (codes "N")))
+    (number_given seed_in c.get_str-then-is_text-4.result _ (c.get_str-then-is_text-4.ensures
+    ∙ first_value-rows (found_of c.args.given.now) (codes "SEED")))
+    (number_given count_in c.get_str-then-is_text-4-2.result _
+    (c.get_str-then-is_text-4-2.ensures ∙ first_value-rows (found_of c.args.given.now) (codes "N")))
     ∙ make_meant c.args.verb.now (rows_of (found_of c.args.given.now)) no nor neither is

@@ -21,7 +21,9 @@ loop-n-preserved c =
     let table = c.in_ok-table.table in
     let pushed = c.in_ok-push.ensures.pushed in
     record {
-      count = ap (λ (z : List SwitchTableOf). length z) pushed ∙ (length_push c.loop-n.tables table ∙ ap (λ (k : ℕ). k + 1) i.count);
-      now = each-pushed (λ (k : ℕ) (x : SwitchTableOf). HasNow (entries_of s k) x) c.loop-n.tables c.push.new.self table pushed i.now
+      count = ap (λ (z : List SwitchTableOf). length z) pushed
+          ∙ (length_push c.loop-n.tables table ∙ ap (λ (k : ℕ). k + 1) i.count);
+      now = each-pushed (λ (k : ℕ) (x : SwitchTableOf). HasNow (entries_of s k) x) c.loop-n.tables c.push.new.self table
+          pushed i.now
           (subst (λ (k : ℕ). HasNow (entries_of s k) table) (sym i.count) c.in_ok-table.ensures);
     }

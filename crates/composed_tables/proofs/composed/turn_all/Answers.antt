@@ -8,7 +8,8 @@ pub returns-in_err-deltas-clause-memory : goal.returns-in_err-deltas-clause-memo
 returns-in_err-deltas-clause-memory g c = on-err c.from_residual.result _ (same-kept c.args.tables.now)
 
 pub returns-in_err-batches-clause-memory : goal.returns-in_err-batches-clause-memory
-returns-in_err-batches-clause-memory g c = on-err c.from_residual-in_err-batches.result _ c.in_err-batches.ensures.memory
+returns-in_err-batches-clause-memory g c =
+    on-err c.from_residual-in_err-batches.result _ c.in_err-batches.ensures.memory
 
 pub returns-clause-moved : goal.returns-clause-moved
 returns-clause-moved g c =
@@ -18,7 +19,8 @@ returns-clause-moved g c =
       plan = e.plan;
       rules = e.rules;
       deltas = c.as_slice.result.now;
-      exact = λ before after of ch. subst (AreExact before.network.switches (rules_in before) (rules_in after)) (sym c.as_slice.ensures) (e.exact before after of ch);
+      exact = λ before after of ch. subst (AreExact before.network.switches (rules_in before) (rules_in after))
+          (sym c.as_slice.ensures) (e.exact before after of ch);
       count = c.in_ok-batches.ensures.count;
       turned = c.in_ok-batches.ensures.turned;
     }

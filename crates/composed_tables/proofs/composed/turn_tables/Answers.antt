@@ -55,7 +55,8 @@ returns-clause-long c =
     ap (λ (z : List SwitchTableOf). length z) (refilled tables new long) ∙ long
 
 pub returns-clause-count : goal.returns-clause-count
-returns-clause-count c = c.in_ok-batches.ensures.count ∙ ap (λ (z : List SwitchTableOf). length z) c.as_mut_slice.ensures.value
+returns-clause-count c = c.in_ok-batches.ensures.count
+    ∙ ap (λ (z : List SwitchTableOf). length z) c.as_mut_slice.ensures.value
 
 pub returns-clause-turned : goal.returns-clause-turned
 returns-clause-turned c =
@@ -64,6 +65,8 @@ returns-clause-turned c =
     let f = entry_delta c.args.wiring.now c.args.switches.now c.args.deltas.now in
     let lent : c.as_mut_slice.result.now ≡ tables = c.as_mut_slice.ensures.value in
     let long = c.in_ok-batches.ensures.long ∙ ap (λ (z : List SwitchTableOf). length z) lent in
-    let deltas = c.as_slice.ensures ∙ (c.in_ok-all.ensures ∙ ap (λ (k : ℕ). map f (range_with_len 0 k)) c.len-count.ensures) in
+    let deltas = c.as_slice.ensures
+    ∙ (c.in_ok-all.ensures ∙ ap (λ (k : ℕ). map f (range_with_len 0 k)) c.len-count.ensures) in
     turned-lent tables c.as_mut_slice.result.now new (refill (length tables) tables new) c.as_slice.result.now
-    (map f (range_with_len 0 (length tables))) c.args.next c.in_ok-batches.batches lent (refilled tables new long) deltas c.in_ok-batches.ensures.turned
+    (map f (range_with_len 0 (length tables))) c.args.next c.in_ok-batches.batches lent (refilled tables new long)
+    deltas c.in_ok-batches.ensures.turned

@@ -22,7 +22,8 @@ returns-in_err-batch-clause-memory c =
     let back : refill (length tables) tables new ≡ new = refilled tables new long in
     let lt : n < length slots = subst (λ (z : List SwitchTableOf). n < length z) (sym lent) c.requires in
     let at : slice_get slots n ≡ Some x = slice_get-get_or slots n c.index-slots-n.result lt in
-    on-err c.from_residual.result _ (back ∙ (ap (set slots n) c.in_err-batch.ensures.memory ∙ (same-set slots n x at ∙ lent)))
+    on-err c.from_residual.result _
+    (back ∙ (ap (set slots n) c.in_err-batch.ensures.memory ∙ (same-set slots n x at ∙ lent)))
 
 pub returns-clause-whole : goal.returns-clause-whole
 returns-clause-whole c =

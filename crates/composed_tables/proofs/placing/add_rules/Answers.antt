@@ -7,6 +7,8 @@ use Rattle.composed_tables.proofs.placing.add_rules.Goals as goal
 
 pub loop-rule-preserved : goal.loop-rule-preserved
 loop-rule-preserved c =
-    pushed_some (λ (r : Rule). entry_of c.args.wiring.now c.args.site (flat r)) c.as_slice-rule-items.result.now c.loop-rule.rule-index c.rule-item.result
+    pushed_some (λ (r : Rule). entry_of c.args.wiring.now c.args.site (flat r)) c.as_slice-rule-items.result.now
+    c.loop-rule.rule-index c.rule-item.result
     c.args.entries.now c.loop-rule.entries c.add_entry.new.entries
-    (entry_of c.args.wiring.now c.args.site (flat c.rule-item.result)) c.loop-rule-test.true c.rule-item.is c.loop-rule.invariant refl c.in_ok-add_entry.ensures
+    (entry_of c.args.wiring.now c.args.site (flat c.rule-item.result)) c.loop-rule-test.true c.rule-item.is
+    c.loop-rule.invariant refl c.in_ok-add_entry.ensures

@@ -6,4 +6,5 @@ use Rattle.agreement.specs.Entries.{flat}
 use Rattle.composed_tables.proofs.placing.add_rules.Given as goal
 
 abbrev pub invariant-loop-rule : goal.invariant-loop-rule
-invariant-loop-rule l = l.entries ≡ l.initial.entries ++ filter_map (λ (r : Rule). entry_of l.wiring l.site (flat r)) (take l.rule-index l.rule-items)
+invariant-loop-rule l = l.entries ≡ l.initial.entries ++ filter_map (λ (r : Rule). entry_of l.wiring l.site (flat r))
+    (take l.rule-index l.rule-items)

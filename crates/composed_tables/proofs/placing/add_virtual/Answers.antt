@@ -9,6 +9,8 @@ pub returns-else-x : goal.returns-else-x
 returns-else-x c =
     on_ok_weaker c.add_ports.result
     (λ h. h ∙ ap (λ (z : List PhysEntry). c.args.entries.now ++ z)
-    (ports-entered c.args.wiring.now c.args.part c.args.deltas.now c.args.n c.args.v c.args.x.now c.site_at-site.result c.x.inside.outside
-    c.site_at-site.ensures (ap (λ (z : SwitchOf). z.outside) c.x.view_is) (sym (ap (λ (z : SwitchOf). z.whole) c.x.view_is) ∙ c.if-x.false)))
+    (ports-entered c.args.wiring.now c.args.part c.args.deltas.now c.args.n c.args.v c.args.x.now c.site_at-site.result
+    c.x.inside.outside
+    c.site_at-site.ensures (ap (λ (z : SwitchOf). z.outside) c.x.view_is)
+    (sym (ap (λ (z : SwitchOf). z.whole) c.x.view_is) ∙ c.if-x.false)))
     c.add_ports.ensures

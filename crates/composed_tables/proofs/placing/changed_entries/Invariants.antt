@@ -7,5 +7,6 @@ use Rattle.composed_tables.proofs.placing.changed_entries.Given as goal
 -- what is there, and then the entries of the virtual switches that are left
 abbrev pub invariant-loop-v : goal.invariant-loop-v
 invariant-loop-v l =
-    l.entries ++ flat_map (entries_of_one l.wiring (changed_by l.part l.deltas) l.n) (enumerate_from l.v (drop l.v l.x-items))
+    l.entries ++ flat_map (entries_of_one l.wiring (changed_by l.part l.deltas) l.n)
+    (enumerate_from l.v (drop l.v l.x-items))
     ≡ entries_by l.wiring l.switches (changed_by l.part l.deltas) l.n

@@ -9,4 +9,5 @@ loop-n-preserved c =
     let f = entry_delta c.args.wiring.now c.args.switches.now c.args.deltas.now in
     c.in_ok-push.ensures.pushed
     ∙ (ap (λ (z : GateDelta). c.loop-n.all ++ z ∷ []) c.in_ok-entry_delta.ensures
-    ∙ (ap (λ (z : List GateDelta). z ++ f c.loop-n.n ∷ []) c.loop-n.invariant ∙ sym (map-range_with_len_more f 0 c.loop-n.n c.loop-n.n (omega arith))))
+    ∙ (ap (λ (z : List GateDelta). z ++ f c.loop-n.n ∷ []) c.loop-n.invariant
+    ∙ sym (map-range_with_len_more f 0 c.loop-n.n c.loop-n.n (omega arith))))

@@ -38,11 +38,15 @@ loop-v-preserved g c =
     let i = c.loop-v.invariant in
     let added = c.in_ok-add_tree.ensures.added in
     record {
-      count = ap (λ (z : List Tree). length z) added.added ∙ (length_push c.loop-v.trees added.tree ∙ ap (λ (k : ℕ). k + 1) i.count);
-      trees_are = trees-more c.args.network.now c.loop-v.trees c.add_tree.new.trees c.index-switches-v.result c.loop-v.v i.count at added i.trees_are;
-      sound = sound-more c.args.network.now c.loop-v.trees c.add_tree.new.trees c.index-switches-v.result c.loop-v.v i.count at added i.sound;
+      count = ap (λ (z : List Tree). length z) added.added
+          ∙ (length_push c.loop-v.trees added.tree ∙ ap (λ (k : ℕ). k + 1) i.count);
+      trees_are = trees-more c.args.network.now c.loop-v.trees c.add_tree.new.trees c.index-switches-v.result c.loop-v.v
+          i.count at added i.trees_are;
+      sound = sound-more c.args.network.now c.loop-v.trees c.add_tree.new.trees c.index-switches-v.result c.loop-v.v
+          i.count at added i.sound;
       steps =
-          spent-more (compile_steps c.args.network.now.tables) c.args.network.now.switches c.loop-v.v c.index-switches-v.result at c.args.steps.now c.loop-v.steps c.add_tree.new.steps
+          spent-more (compile_steps c.args.network.now.tables) c.args.network.now.switches c.loop-v.v
+          c.index-switches-v.result at c.args.steps.now c.loop-v.steps c.add_tree.new.steps
           i.steps c.add_tree.ensures.steps;
     }
 
@@ -54,9 +58,11 @@ returns-in_err-add_tree-clause-steps g c =
     let at : slice_get c.args.network.now.switches c.loop-v.v ≡ Some c.index-switches-v.result =
     ap (λ (z : List SwitchOf). slice_get z c.loop-v.v) (sym c.as_slice-switches.ensures)
     ∙ slice_get_read items (length items) c.loop-v.v c.index-switches-v.result refl lt c.index-switches-v.is in
-    spent-within (compile_steps c.args.network.now.tables) c.args.network.now.switches c.loop-v.v c.index-switches-v.result at c.args.steps.now c.loop-v.steps c.add_tree.new.steps
+    spent-within (compile_steps c.args.network.now.tables) c.args.network.now.switches c.loop-v.v
+    c.index-switches-v.result at c.args.steps.now c.loop-v.steps c.add_tree.new.steps
     c.loop-v.invariant.steps c.add_tree.ensures.steps
 
 pub returns-clause-steps : goal.returns-clause-steps
 returns-clause-steps g c =
-    spent-all (compile_steps c.args.network.now.tables) c.args.network.now.switches c.loop-v.v c.args.steps.now c.loop-v.steps c.loop-v.invariant.steps
+    spent-all (compile_steps c.args.network.now.tables) c.args.network.now.switches c.loop-v.v c.args.steps.now
+    c.loop-v.steps c.loop-v.invariant.steps

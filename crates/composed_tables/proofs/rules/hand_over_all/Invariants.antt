@@ -16,6 +16,7 @@ invariant-loop-v g l = record {
   done : (u : ℕ) (t : Tree) → u < l.v → slice_get l.trees u ≡ Some t → is_whole l.fn.hops u ≡ false
       → IsPermutation (rules_at (tree_of t)) (rules_kept l.hops u);
   none : (u : ℕ) → l.v ≤ u → rules_kept l.hops u ≡ [];
-  steps : (s : Setting) → AreSound l.trees → AreRulesOf s (record { trees = l.trees; sizes = l.sizes; whole = l.whole; hops = l.fn.hops })
+  steps : (s : Setting) → AreSound l.trees
+      → AreRulesOf s (record { trees = l.trees; sizes = l.sizes; whole = l.whole; hops = l.fn.hops })
       → l.steps ≤ l.fn.steps + first_steps l.fn.hops.plan s l.v;
 }

@@ -14,11 +14,14 @@ returns-in-Ok-clause-ends g c = λ form p old left reads steps r.
     let w = reported c.args.player.now in
     let mid = moment left reads (g.K.Sink.held c.args.out.now) (g.K.Sink.faults c.args.out.now) steps in
     let new = moment left reads (g.K.Sink.held c.end.new.out) (g.K.Sink.faults c.end.new.out) steps in
-    let there : Reaches (Ok c.in-Ok.field-0) form p at w old mid = subst (λ (x : Result (Unit {0}) Stop). Reaches x form p at w old mid) c.in-Ok.is r in
-    ends-done c.end.result (given_of form p) (cut_given_of form p) (end_text at.number) old mid new w there.0 refl there.2 there.3 c.end.ensures
+    let there : Reaches (Ok c.in-Ok.field-0) form p at w old mid =
+    subst (λ (x : Result (Unit {0}) Stop). Reaches x form p at w old mid) c.in-Ok.is r in
+    ends-done c.end.result (given_of form p) (cut_given_of form p) (end_text at.number) old mid new w there.0 refl
+    there.2 there.3 c.end.ensures
 
 pub returns-in-Err-clause-ends : goal.returns-in-Err-clause-ends
 returns-in-Err-clause-ends g c = λ form p old left reads steps r.
     let mid = moment left reads (g.K.Sink.held c.args.out.now) (g.K.Sink.faults c.args.out.now) steps in
     c.stopped.ensures.ends form p old left reads steps
-    (subst (λ (x : Result (Unit {0}) Stop). Reaches x form p (progress_of c.args.player.now) (reported c.args.player.now) old mid) c.in-Err.is r)
+    (subst (λ (x : Result (Unit {0}) Stop). Reaches x form p (progress_of c.args.player.now)
+    (reported c.args.player.now) old mid) c.in-Err.is r)

@@ -16,8 +16,10 @@ returns-in-Refused-clause-ends g c = λ form p old left reads steps r.
     let w = reported c.args.player.now in
     let mid = moment left reads (g.K.Sink.held c.args.out.now) (g.K.Sink.faults c.args.out.now) steps in
     let new = moment left reads (g.K.Sink.held c.refuse.new.out) (g.K.Sink.faults c.refuse.new.out) steps in
-    let there : Reaches (Err (Refused c.in-Refused.kind)) form p at w old mid = subst (λ (x : Stop). Reaches (Err x) form p at w old mid) c.in-Refused.is r in
-    ends-stopped c.refuse.result (given_of form p) (cut_given_of form p) (refusal_text (at.number + 1) c.in-Refused.kind) old mid new w there.0 refl there.1 c.refuse.ensures
+    let there : Reaches (Err (Refused c.in-Refused.kind)) form p at w old mid =
+    subst (λ (x : Stop). Reaches (Err x) form p at w old mid) c.in-Refused.is r in
+    ends-stopped c.refuse.result (given_of form p) (cut_given_of form p)
+    (refusal_text (at.number + 1) c.in-Refused.kind) old mid new w there.0 refl there.1 c.refuse.ensures
 
 pub returns-in-Read-clause-ends : goal.returns-in-Read-clause-ends
 returns-in-Read-clause-ends g c = λ form p old left reads steps r.
@@ -25,6 +27,8 @@ returns-in-Read-clause-ends g c = λ form p old left reads steps r.
     let w = reported c.args.player.now in
     let mid = moment left reads (g.K.Sink.held c.args.out.now) (g.K.Sink.faults c.args.out.now) steps in
     let new = moment left reads (g.K.Sink.held c.write_fault.new.out) (g.K.Sink.faults c.write_fault.new.out) steps in
-    let there : Reaches (Err Read) form p at w old mid = subst (λ (x : Stop). Reaches (Err x) form p at w old mid) c.in-Read.is r in
+    let there : Reaches (Err Read) form p at w old mid =
+    subst (λ (x : Stop). Reaches (Err x) form p at w old mid) c.in-Read.is r in
     subst (λ (x : Status). Ends x (given_of form p) (cut_given_of form p) old new) (sym c.write_fault.ensures.status)
-    (inr (breaks-off (cut_given_of form p) old mid new there.0 there.1 there.2 refl refl refl c.write_fault.ensures.writes))
+    (inr (breaks-off (cut_given_of form p) old mid new there.0 there.1 there.2 refl refl refl
+    c.write_fault.ensures.writes))

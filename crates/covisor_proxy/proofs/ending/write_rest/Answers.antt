@@ -6,5 +6,6 @@ use Rattle.covisor_proxy.proofs.ending.write_rest.Goals as goal
 pub returns-clause-some : goal.returns-clause-some
 returns-clause-some g c =
     on_err_weaker c.write_all.result
-    (some_after (g.K.Sink.held c.args.out.now) (g.K.Sink.held c.flush.new.out) (g.K.Sink.held c.write_all.new.out) (reported c.args.player.now) c.args.last.now c.in_ok-flush.ensures.written)
+    (some_after (g.K.Sink.held c.args.out.now) (g.K.Sink.held c.flush.new.out) (g.K.Sink.held c.write_all.new.out)
+    (reported c.args.player.now) c.args.last.now c.in_ok-flush.ensures.written)
     c.write_all.ensures.some

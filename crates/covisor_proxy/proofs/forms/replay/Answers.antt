@@ -8,12 +8,14 @@ use Rattle.covisor_proxy.proofs.forms.replay.Goals as goal
 
 pub returns-in_default-clause-ends : goal.returns-in_default-clause-ends
 returns-in_default-clause-ends g c =
-    let here = moment (g.S.Source.remaining c.args.input.now) (g.S.Source.faults c.args.input.now) (g.K.Sink.held c.args.out.now) (g.K.Sink.faults c.args.out.now) c.args.steps.now in
+    let here = moment (g.S.Source.remaining c.args.input.now) (g.S.Source.faults c.args.input.now)
+    (g.K.Sink.held c.args.out.now) (g.K.Sink.faults c.args.out.now) c.args.steps.now in
     begins-none (given_of c.args.form c.args.policy) here here refl refl
 
 pub returns-in_default-begin-clause-ends : goal.returns-in_default-begin-clause-ends
 returns-in_default-begin-clause-ends g c =
-    let here = moment (g.S.Source.remaining c.args.input.now) (g.S.Source.faults c.args.input.now) (g.K.Sink.held c.args.out.now) (g.K.Sink.faults c.args.out.now) c.args.steps.now in
+    let here = moment (g.S.Source.remaining c.args.input.now) (g.S.Source.faults c.args.input.now)
+    (g.K.Sink.held c.args.out.now) (g.K.Sink.faults c.args.out.now) c.args.steps.now in
     begins-none (given_of c.args.form c.args.policy) here here refl refl
 
 pub replay_over-outcome-requires-clause-begins : goal.replay_over-outcome-requires-clause-begins
@@ -27,18 +29,25 @@ returns-clause-ends g c =
     let player = c.replay_over-outcome.new.player in
     let left = g.S.Source.remaining c.replay_over-outcome.new.input in
     let reads = g.S.Source.faults c.replay_over-outcome.new.input in
-    let old = moment (g.S.Source.remaining c.args.input.now) (g.S.Source.faults c.args.input.now) (g.K.Sink.held c.args.out.now) (g.K.Sink.faults c.args.out.now) c.args.steps.now in
-    let mid = moment left reads (g.K.Sink.held c.replay_over-outcome.new.out) (g.K.Sink.faults c.replay_over-outcome.new.out) c.replay_over-outcome.new.steps in
+    let old = moment (g.S.Source.remaining c.args.input.now) (g.S.Source.faults c.args.input.now)
+    (g.K.Sink.held c.args.out.now) (g.K.Sink.faults c.args.out.now) c.args.steps.now in
+    let mid = moment left reads (g.K.Sink.held c.replay_over-outcome.new.out)
+    (g.K.Sink.faults c.replay_over-outcome.new.out) c.replay_over-outcome.new.steps in
     c.conclude-status.ensures.ends c.args.form c.args.policy old left reads c.replay_over-outcome.new.steps
-    (reaches-of c.replay_over-outcome.result c.args.form (form_of begun) c.args.policy (plan_of begun) (progress_of player) (reported player) old mid
+    (reaches-of c.replay_over-outcome.result c.args.form (form_of begun) c.args.policy (plan_of begun)
+    (progress_of player) (reported player) old mid
     c.in-Ok-begin.ensures.form c.in-Ok-begin.ensures.plan c.replay_over-outcome.ensures.reaches)
 
 pub returns-clause-whole : goal.returns-clause-whole
 returns-clause-whole g c = λ done.
     let begun = c.in-Ok-begin.player in
     let player = c.replay_over-outcome.new.player in
-    let old = moment (g.S.Source.remaining c.args.input.now) (g.S.Source.faults c.args.input.now) (g.K.Sink.held c.args.out.now) (g.K.Sink.faults c.args.out.now) c.args.steps.now in
-    let mid = moment (g.S.Source.remaining c.replay_over-outcome.new.input) (g.S.Source.faults c.replay_over-outcome.new.input)
-    (g.K.Sink.held c.replay_over-outcome.new.out) (g.K.Sink.faults c.replay_over-outcome.new.out) c.replay_over-outcome.new.steps in
-    reached-end c.replay_over-outcome.result (form_of begun) (plan_of begun) (progress_of player) (reported player) old mid
+    let old = moment (g.S.Source.remaining c.args.input.now) (g.S.Source.faults c.args.input.now)
+    (g.K.Sink.held c.args.out.now) (g.K.Sink.faults c.args.out.now) c.args.steps.now in
+    let mid = moment (g.S.Source.remaining c.replay_over-outcome.new.input)
+    (g.S.Source.faults c.replay_over-outcome.new.input)
+    (g.K.Sink.held c.replay_over-outcome.new.out) (g.K.Sink.faults c.replay_over-outcome.new.out)
+    c.replay_over-outcome.new.steps in
+    reached-end c.replay_over-outcome.result (form_of begun) (plan_of begun) (progress_of player) (reported player) old
+    mid
     (c.conclude-status.ensures.done done) c.replay_over-outcome.ensures.reaches

@@ -7,11 +7,14 @@ use Rattle.covisor_proxy.proofs.forms.replay_built_in.Goals as goal
 
 pub returns-in-Ok-clause-ends : goal.returns-in-Ok-clause-ends
 returns-in-Ok-clause-ends g c =
-    let old = moment (g.S.Source.remaining c.args.input.now) (g.S.Source.faults c.args.input.now) (g.K.Sink.held c.args.out.now) (g.K.Sink.faults c.args.out.now) c.args.steps.now in
-    let new = moment (g.S.Source.remaining c.replay.new.input) (g.S.Source.faults c.replay.new.input) (g.K.Sink.held c.replay.new.out) (g.K.Sink.faults c.replay.new.out) c.replay.new.steps in
+    let old = moment (g.S.Source.remaining c.args.input.now) (g.S.Source.faults c.args.input.now)
+    (g.K.Sink.held c.args.out.now) (g.K.Sink.faults c.args.out.now) c.args.steps.now in
+    let new = moment (g.S.Source.remaining c.replay.new.input) (g.S.Source.faults c.replay.new.input)
+    (g.K.Sink.held c.replay.new.out) (g.K.Sink.faults c.replay.new.out) c.replay.new.steps in
     over-built-in c.replay.result built_in_read c.in-Ok.policy old new c.in-Ok.ensures c.replay.ensures.ends
 
 pub returns-in-Err-clause-ends : goal.returns-in-Err-clause-ends
 returns-in-Err-clause-ends g c =
-    let here = moment (g.S.Source.remaining c.args.input.now) (g.S.Source.faults c.args.input.now) (g.K.Sink.held c.args.out.now) (g.K.Sink.faults c.args.out.now) c.args.steps.now in
+    let here = moment (g.S.Source.remaining c.args.input.now) (g.S.Source.faults c.args.input.now)
+    (g.K.Sink.held c.args.out.now) (g.K.Sink.faults c.args.out.now) c.args.steps.now in
     begins-none (over_built_in given_of built_in_read) here here refl refl

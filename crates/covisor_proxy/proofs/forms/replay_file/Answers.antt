@@ -6,15 +6,19 @@ use Rattle.covisor_proxy.proofs.forms.replay_file.Goals as goal
 
 pub returns-in-Ok-clause-ends : goal.returns-in-Ok-clause-ends
 returns-in-Ok-clause-ends g c =
-    let old = moment (g.S.Source.remaining c.args.input.now) (g.S.Source.faults c.args.input.now) (g.K.Sink.held c.args.out.now) (g.K.Sink.faults c.args.out.now) c.args.steps.now in
-    let new = moment (g.S.Source.remaining c.replay.new.input) (g.S.Source.faults c.replay.new.input) (g.K.Sink.held c.replay.new.out) (g.K.Sink.faults c.replay.new.out) c.replay.new.steps in
+    let old = moment (g.S.Source.remaining c.args.input.now) (g.S.Source.faults c.args.input.now)
+    (g.K.Sink.held c.args.out.now) (g.K.Sink.faults c.args.out.now) c.args.steps.now in
+    let new = moment (g.S.Source.remaining c.replay.new.input) (g.S.Source.faults c.replay.new.input)
+    (g.K.Sink.held c.replay.new.out) (g.K.Sink.faults c.replay.new.out) c.replay.new.steps in
     let o = c.in-Ok.ensures in
     (Ok o.0, o.1, over-policy c.replay.result c.args.form (stated o.0) c.in-Ok.policy old new o.2 c.replay.ensures.ends)
 
 pub returns-in-Err-clause-ends : goal.returns-in-Err-clause-ends
 returns-in-Err-clause-ends g c =
-    let old = moment (g.S.Source.remaining c.args.input.now) (g.S.Source.faults c.args.input.now) (g.K.Sink.held c.args.out.now) (g.K.Sink.faults c.args.out.now) c.args.steps.now in
-    let new = moment (g.S.Source.remaining c.args.input.now) (g.S.Source.faults c.args.input.now) (g.K.Sink.held c.tell.new.out) (g.K.Sink.faults c.tell.new.out) c.args.steps.now in
+    let old = moment (g.S.Source.remaining c.args.input.now) (g.S.Source.faults c.args.input.now)
+    (g.K.Sink.held c.args.out.now) (g.K.Sink.faults c.args.out.now) c.args.steps.now in
+    let new = moment (g.S.Source.remaining c.args.input.now) (g.S.Source.faults c.args.input.now)
+    (g.K.Sink.held c.tell.new.out) (g.K.Sink.faults c.tell.new.out) c.args.steps.now in
     let files = g.F.Files.files c.args.files.now in
     let fails = g.F.Files.faults c.args.files.now in
     let fails' = g.F.Files.faults c.open.new.files in

@@ -7,4 +7,5 @@ use Rattle.covisor_proxy.proofs.lines.feed_in.Goals as goal
 pub returns : goal.returns
 returns c =
     feed_found c.args.bytes.now c.position.result
-    (position_from_yields_List (λ byte. byte == 10) _ _ c.position.result c.position.ensures.ran (YieldsList-from_slice c.args.bytes.now cc) (λ x b q k. search (rules, tests)))
+    (position_from_yields_List (λ byte. byte == 10) _ _ c.position.result c.position.ensures.ran
+    (YieldsList-from_slice c.args.bytes.now cc) (λ x b q k. search (rules, tests)))

@@ -16,7 +16,8 @@ returns-in-Done-clause-ends g c = λ left reads steps.
     let between = g.K.Sink.held c.serve_policy.new.out in
     let faults = g.L.Links.faults c.args.links.now in
     let risen = g.L.Links.faults c.serve_policy.new.links in
-    subst (ServesPolicy hyper told reliable c.args.policy held between faults risen) c.in-Done.is c.serve_policy.ensures.serves
+    subst (ServesPolicy hyper told reliable c.args.policy held between faults risen) c.in-Done.is
+    c.serve_policy.ensures.serves
 
 pub returns-in-Memory-clause-ends : goal.returns-in-Memory-clause-ends
 returns-in-Memory-clause-ends g c = λ left reads steps.
@@ -26,7 +27,8 @@ returns-in-Memory-clause-ends g c = λ left reads steps.
     let between = g.K.Sink.held c.serve_policy.new.out in
     let faults = g.L.Links.faults c.args.links.now in
     let risen = g.L.Links.faults c.serve_policy.new.links in
-    subst (ServesPolicy hyper told reliable c.args.policy held between faults risen) c.in-Memory.is c.serve_policy.ensures.serves
+    subst (ServesPolicy hyper told reliable c.args.policy held between faults risen) c.in-Memory.is
+    c.serve_policy.ensures.serves
 
 pub returns-in-Write-clause-ends : goal.returns-in-Write-clause-ends
 returns-in-Write-clause-ends g c = λ left reads steps.
@@ -35,8 +37,11 @@ returns-in-Write-clause-ends g c = λ left reads steps.
     let held = g.K.Sink.held c.args.out.now in
     let between = g.K.Sink.held c.serve_policy.new.out in
     let faults = g.L.Links.faults c.args.links.now in
-    let risen = g.L.Links.faults c.serve_policy.new.links in
-    (c.serve_policy.ensures.write c.in-Write.is, subst (ServesPolicy hyper told reliable c.args.policy held between faults risen) c.in-Write.is c.serve_policy.ensures.serves)
+    let risen = g.L.Links.faults c.serve_policy.new.links in (
+      c.serve_policy.ensures.write c.in-Write.is,
+      subst (ServesPolicy hyper told reliable c.args.policy held between faults risen) c.in-Write.is
+          c.serve_policy.ensures.serves,
+    )
 
 pub returns-in-Link-clause-ends : goal.returns-in-Link-clause-ends
 returns-in-Link-clause-ends g c = λ left reads steps.
@@ -48,11 +53,13 @@ returns-in-Link-clause-ends g c = λ left reads steps.
     let risen = g.L.Links.faults c.serve_policy.new.links in
     let old = moment left reads held (g.K.Sink.faults c.args.out.now) steps in
     let new = moment left reads (g.K.Sink.held c.write_fault.new.out) (g.K.Sink.faults c.write_fault.new.out) steps in
-    subst (λ (x : Status). EndsServing hyper (links_of told reliable faults risen) x c.args.policy old new) (sym c.write_fault.ensures.status)
+    subst (λ (x : Status). EndsServing hyper (links_of told reliable faults risen) x c.args.policy old new)
+    (sym c.write_fault.ensures.status)
     (record {
       between = between;
       faults = g.K.Sink.faults c.serve_policy.new.out;
-      serves = subst (ServesPolicy hyper told reliable c.args.policy held between faults risen) c.in-Link.is c.serve_policy.ensures.serves;
+      serves = subst (ServesPolicy hyper told reliable c.args.policy held between faults risen) c.in-Link.is
+          c.serve_policy.ensures.serves;
       tells = c.write_fault.ensures.writes;
     })
 
@@ -65,12 +72,15 @@ returns-in-Spawn-clause-ends g c = λ left reads steps.
     let faults = g.L.Links.faults c.args.links.now in
     let risen = g.L.Links.faults c.serve_policy.new.links in
     let old = moment left reads held (g.K.Sink.faults c.args.out.now) steps in
-    let new = moment left reads (g.K.Sink.held c.write_fault-in-Spawn.new.out) (g.K.Sink.faults c.write_fault-in-Spawn.new.out) steps in
-    subst (λ (x : Status). EndsServing hyper (links_of told reliable faults risen) x c.args.policy old new) (sym c.write_fault-in-Spawn.ensures.status)
+    let new = moment left reads (g.K.Sink.held c.write_fault-in-Spawn.new.out)
+    (g.K.Sink.faults c.write_fault-in-Spawn.new.out) steps in
+    subst (λ (x : Status). EndsServing hyper (links_of told reliable faults risen) x c.args.policy old new)
+    (sym c.write_fault-in-Spawn.ensures.status)
     (record {
       between = between;
       faults = g.K.Sink.faults c.serve_policy.new.out;
-      serves = subst (ServesPolicy hyper told reliable c.args.policy held between faults risen) c.in-Spawn.is c.serve_policy.ensures.serves;
+      serves = subst (ServesPolicy hyper told reliable c.args.policy held between faults risen) c.in-Spawn.is
+          c.serve_policy.ensures.serves;
       tells = c.write_fault-in-Spawn.ensures.writes;
     })
 

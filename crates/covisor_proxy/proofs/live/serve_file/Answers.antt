@@ -15,7 +15,8 @@ returns-in-Ok-clause-ends g c = λ left reads steps.
     let links = links_of (g.L.Links.told c.args.links.now) (g.L.Links.is_reliable c.args.links.now)
     (g.L.Links.faults c.args.links.now) (g.L.Links.faults c.serve.new.links) in
     let files = g.F.Files.files c.args.files.now in
-    ended-served hyper links c.args.name.now files (g.F.Files.faults c.args.files.now) (g.F.Files.faults c.open.new.files) old new
+    ended-served hyper links c.args.name.now files (g.F.Files.faults c.args.files.now)
+    (g.F.Files.faults c.open.new.files) old new
     c.serve.result c.in-Ok.policy c.in-Ok.ensures (c.serve.ensures.ends left reads steps) refl
 
 pub returns-in-Err-clause-ends : goal.returns-in-Err-clause-ends
@@ -46,7 +47,8 @@ returns-in-Err-clause-link g c = λ is never.
     let fails = g.F.Files.faults c.args.files.now in
     let fails' = g.F.Files.faults c.open.new.files in
     let ends = c.tell.ensures.ends files fails fails' no_report no_report Replay None 0 0 c.in-Err.ensures in
-    absurd (subst (λ (x : Status). EndsUnopened x no_report no_report Replay c.args.name.now files fails fails' old new) is ends).3
+    absurd (subst (λ (x : Status). EndsUnopened x no_report no_report Replay c.args.name.now files fails fails' old new)
+    is ends).3
 
 pub returns-in-Err-clause-spawn : goal.returns-in-Err-clause-spawn
 returns-in-Err-clause-spawn g c = λ is.
@@ -56,4 +58,5 @@ returns-in-Err-clause-spawn g c = λ is.
     let fails = g.F.Files.faults c.args.files.now in
     let fails' = g.F.Files.faults c.open.new.files in
     let ends = c.tell.ensures.ends files fails fails' no_report no_report Replay None 0 0 c.in-Err.ensures in
-    absurd (subst (λ (x : Status). EndsUnopened x no_report no_report Replay c.args.name.now files fails fails' old new) is ends).3
+    absurd (subst (λ (x : Status). EndsUnopened x no_report no_report Replay c.args.name.now files fails fails' old new)
+    is ends).3

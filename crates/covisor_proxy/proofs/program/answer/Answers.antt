@@ -8,8 +8,10 @@ use Rattle.covisor_proxy.proofs.program.answer.Goals as goal
 
 pub returns-in-Err-clause-ends : goal.returns-in-Err-clause-ends
 returns-in-Err-clause-ends g c =
-    let here = moment (g.S.Source.remaining c.args.input.now) (g.S.Source.faults c.args.input.now) (g.K.Sink.held c.args.out.now) (g.K.Sink.faults c.args.out.now) c.args.steps.now in
+    let here = moment (g.S.Source.remaining c.args.input.now) (g.S.Source.faults c.args.input.now)
+    (g.K.Sink.held c.args.out.now) (g.K.Sink.faults c.args.out.now) c.args.steps.now in
     let fails = g.F.Files.faults c.args.files.now in
     let links = links_of (g.L.Links.told c.args.links.now) (g.L.Links.is_reliable c.args.links.now)
     (g.L.Links.faults c.args.links.now) (g.L.Links.faults c.args.links.now) in
-    ended-wanted hyper links (command_of c.args.words.now) (g.F.Files.files c.args.files.now) fails fails here here refl refl
+    ended-wanted hyper links (command_of c.args.words.now) (g.F.Files.files c.args.files.now) fails fails here here refl
+    refl

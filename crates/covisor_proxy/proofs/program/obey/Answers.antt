@@ -14,53 +14,74 @@ use Rattle.covisor_proxy.proofs.program.obey.Goals as goal
 
 pub returns-in-Replay-clause-ends : goal.returns-in-Replay-clause-ends
 returns-in-Replay-clause-ends g c =
-    let old = moment (g.S.Source.remaining c.args.input.now) (g.S.Source.faults c.args.input.now) (g.K.Sink.held c.args.out.now) (g.K.Sink.faults c.args.out.now) c.args.steps.now in
-    let new = moment (g.S.Source.remaining c.replay_built_in.new.input) (g.S.Source.faults c.replay_built_in.new.input) (g.K.Sink.held c.replay_built_in.new.out) (g.K.Sink.faults c.replay_built_in.new.out) c.replay_built_in.new.steps in
+    let old = moment (g.S.Source.remaining c.args.input.now) (g.S.Source.faults c.args.input.now)
+    (g.K.Sink.held c.args.out.now) (g.K.Sink.faults c.args.out.now) c.args.steps.now in
+    let new = moment (g.S.Source.remaining c.replay_built_in.new.input) (g.S.Source.faults c.replay_built_in.new.input)
+    (g.K.Sink.held c.replay_built_in.new.out) (g.K.Sink.faults c.replay_built_in.new.out)
+    c.replay_built_in.new.steps in
     let links = links_of (g.L.Links.told c.args.links.now) (g.L.Links.is_reliable c.args.links.now)
     (g.L.Links.faults c.args.links.now) (g.L.Links.faults c.args.links.now) in
-    subst (λ (x : Command). Ended hyper links c.replay_built_in.result (Some x) (g.F.Files.files c.args.files.now) (g.F.Files.faults c.args.files.now) (g.F.Files.faults c.args.files.now) old new) (sym c.in-Replay.is)
+    subst (λ (x : Command). Ended hyper links c.replay_built_in.result (Some x) (g.F.Files.files c.args.files.now)
+    (g.F.Files.faults c.args.files.now) (g.F.Files.faults c.args.files.now) old new) (sym c.in-Replay.is)
     (Err faults.Memory, tt, c.replay_built_in.ensures.ends)
 
 pub returns-in-Make-clause-ends : goal.returns-in-Make-clause-ends
 returns-in-Make-clause-ends g c =
-    let old = moment (g.S.Source.remaining c.args.input.now) (g.S.Source.faults c.args.input.now) (g.K.Sink.held c.args.out.now) (g.K.Sink.faults c.args.out.now) c.args.steps.now in
-    let new = moment (g.S.Source.remaining c.args.input.now) (g.S.Source.faults c.args.input.now) (g.K.Sink.held c.make.new.out) (g.K.Sink.faults c.make.new.out) c.make.new.steps in
+    let old = moment (g.S.Source.remaining c.args.input.now) (g.S.Source.faults c.args.input.now)
+    (g.K.Sink.held c.args.out.now) (g.K.Sink.faults c.args.out.now) c.args.steps.now in
+    let new = moment (g.S.Source.remaining c.args.input.now) (g.S.Source.faults c.args.input.now)
+    (g.K.Sink.held c.make.new.out) (g.K.Sink.faults c.make.new.out) c.make.new.steps in
     let making = Some (Make c.in-Make.seed c.in-Make.count) in
     let links = links_of (g.L.Links.told c.args.links.now) (g.L.Links.is_reliable c.args.links.now)
     (g.L.Links.faults c.args.links.now) (g.L.Links.faults c.args.links.now) in
-    subst (λ (x : Command). Ended hyper links c.make.result (Some x) (g.F.Files.files c.args.files.now) (g.F.Files.faults c.args.files.now) (g.F.Files.faults c.args.files.now) old new) (sym c.in-Make.is) (
+    subst (λ (x : Command). Ended hyper links c.make.result (Some x) (g.F.Files.files c.args.files.now)
+    (g.F.Files.faults c.args.files.now) (g.F.Files.faults c.args.files.now) old new) (sym c.in-Make.is) (
       Err faults.Memory,
       tt,
-      ends-made c.make.result (given_for making (Err faults.Memory)) (cut_given_for making (Err faults.Memory)) (summary_text (made_of c.in-Make.seed c.in-Make.count)) old new
+      ends-made c.make.result (given_for making (Err faults.Memory)) (cut_given_for making (Err faults.Memory))
+          (summary_text (made_of c.in-Make.seed c.in-Make.count)) old new
           (λ script. refl) (λ script. c.make.ensures.steps) refl c.make.ensures.ends,
     )
 
 pub returns-in-ReplayPolicy-clause-ends : goal.returns-in-ReplayPolicy-clause-ends
 returns-in-ReplayPolicy-clause-ends g c =
-    let old = moment (g.S.Source.remaining c.args.input.now) (g.S.Source.faults c.args.input.now) (g.K.Sink.held c.args.out.now) (g.K.Sink.faults c.args.out.now) c.args.steps.now in
-    let new = moment (g.S.Source.remaining c.replay_file.new.input) (g.S.Source.faults c.replay_file.new.input) (g.K.Sink.held c.replay_file.new.out) (g.K.Sink.faults c.replay_file.new.out) c.replay_file.new.steps in
+    let old = moment (g.S.Source.remaining c.args.input.now) (g.S.Source.faults c.args.input.now)
+    (g.K.Sink.held c.args.out.now) (g.K.Sink.faults c.args.out.now) c.args.steps.now in
+    let new = moment (g.S.Source.remaining c.replay_file.new.input) (g.S.Source.faults c.replay_file.new.input)
+    (g.K.Sink.held c.replay_file.new.out) (g.K.Sink.faults c.replay_file.new.out) c.replay_file.new.steps in
     let links = links_of (g.L.Links.told c.args.links.now) (g.L.Links.is_reliable c.args.links.now)
     (g.L.Links.faults c.args.links.now) (g.L.Links.faults c.args.links.now) in
     let fails' = g.F.Files.faults c.replay_file.new.files in
-    subst (λ (x : Command). Ended hyper links c.replay_file.result (Some x) (g.F.Files.files c.args.files.now) (g.F.Files.faults c.args.files.now) fails' old new) (sym c.in-ReplayPolicy.is)
+    subst (λ (x : Command). Ended hyper links c.replay_file.result (Some x) (g.F.Files.files c.args.files.now)
+    (g.F.Files.faults c.args.files.now) fails' old new) (sym c.in-ReplayPolicy.is)
     c.replay_file.ensures.ends
 
 pub returns-in-ExplainPolicy-clause-ends : goal.returns-in-ExplainPolicy-clause-ends
 returns-in-ExplainPolicy-clause-ends g c =
-    let old = moment (g.S.Source.remaining c.args.input.now) (g.S.Source.faults c.args.input.now) (g.K.Sink.held c.args.out.now) (g.K.Sink.faults c.args.out.now) c.args.steps.now in
-    let new = moment (g.S.Source.remaining c.replay_file-in-ExplainPolicy.new.input) (g.S.Source.faults c.replay_file-in-ExplainPolicy.new.input) (g.K.Sink.held c.replay_file-in-ExplainPolicy.new.out) (g.K.Sink.faults c.replay_file-in-ExplainPolicy.new.out) c.replay_file-in-ExplainPolicy.new.steps in
+    let old = moment (g.S.Source.remaining c.args.input.now) (g.S.Source.faults c.args.input.now)
+    (g.K.Sink.held c.args.out.now) (g.K.Sink.faults c.args.out.now) c.args.steps.now in
+    let new = moment (g.S.Source.remaining c.replay_file-in-ExplainPolicy.new.input)
+    (g.S.Source.faults c.replay_file-in-ExplainPolicy.new.input)
+    (g.K.Sink.held c.replay_file-in-ExplainPolicy.new.out) (g.K.Sink.faults c.replay_file-in-ExplainPolicy.new.out)
+    c.replay_file-in-ExplainPolicy.new.steps in
     let links = links_of (g.L.Links.told c.args.links.now) (g.L.Links.is_reliable c.args.links.now)
     (g.L.Links.faults c.args.links.now) (g.L.Links.faults c.args.links.now) in
     let fails' = g.F.Files.faults c.replay_file-in-ExplainPolicy.new.files in
-    subst (λ (x : Command). Ended hyper links c.replay_file-in-ExplainPolicy.result (Some x) (g.F.Files.files c.args.files.now) (g.F.Files.faults c.args.files.now) fails' old new) (sym c.in-ExplainPolicy.is)
+    subst (λ (x : Command). Ended hyper links c.replay_file-in-ExplainPolicy.result (Some x)
+    (g.F.Files.files c.args.files.now) (g.F.Files.faults c.args.files.now) fails' old new)
+    (sym c.in-ExplainPolicy.is)
     c.replay_file-in-ExplainPolicy.ensures.ends
 
 pub returns-in-Serve-clause-ends : goal.returns-in-Serve-clause-ends
 returns-in-Serve-clause-ends g c =
-    let old = moment (g.S.Source.remaining c.args.input.now) (g.S.Source.faults c.args.input.now) (g.K.Sink.held c.args.out.now) (g.K.Sink.faults c.args.out.now) c.args.steps.now in
-    let new = moment (g.S.Source.remaining c.args.input.now) (g.S.Source.faults c.args.input.now) (g.K.Sink.held c.serve_file.new.out) (g.K.Sink.faults c.serve_file.new.out) c.args.steps.now in
+    let old = moment (g.S.Source.remaining c.args.input.now) (g.S.Source.faults c.args.input.now)
+    (g.K.Sink.held c.args.out.now) (g.K.Sink.faults c.args.out.now) c.args.steps.now in
+    let new = moment (g.S.Source.remaining c.args.input.now) (g.S.Source.faults c.args.input.now)
+    (g.K.Sink.held c.serve_file.new.out) (g.K.Sink.faults c.serve_file.new.out) c.args.steps.now in
     let links = links_of (g.L.Links.told c.args.links.now) (g.L.Links.is_reliable c.args.links.now)
     (g.L.Links.faults c.args.links.now) (g.L.Links.faults c.serve_file.new.links) in
     let fails' = g.F.Files.faults c.serve_file.new.files in
-    subst (λ (x : Command). Ended hyper links c.serve_file.result (Some x) (g.F.Files.files c.args.files.now) (g.F.Files.faults c.args.files.now) fails' old new) (sym c.in-Serve.is)
-    (c.serve_file.ensures.ends (g.S.Source.remaining c.args.input.now) (g.S.Source.faults c.args.input.now) c.args.steps.now)
+    subst (λ (x : Command). Ended hyper links c.serve_file.result (Some x) (g.F.Files.files c.args.files.now)
+    (g.F.Files.faults c.args.files.now) fails' old new) (sym c.in-Serve.is)
+    (c.serve_file.ensures.ends (g.S.Source.remaining c.args.input.now) (g.S.Source.faults c.args.input.now)
+    c.args.steps.now)

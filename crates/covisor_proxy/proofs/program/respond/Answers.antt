@@ -10,12 +10,15 @@ use Rattle.covisor_proxy.proofs.program.respond.Goals as goal
 
 pub returns-in-None-clause-ends : goal.returns-in-None-clause-ends
 returns-in-None-clause-ends g c =
-    let old = moment (g.S.Source.remaining c.args.input.now) (g.S.Source.faults c.args.input.now) (g.K.Sink.held c.args.out.now) (g.K.Sink.faults c.args.out.now) c.args.steps.now in
-    let new = moment (g.S.Source.remaining c.args.input.now) (g.S.Source.faults c.args.input.now) (g.K.Sink.held c.write_fault.new.out) (g.K.Sink.faults c.write_fault.new.out) c.args.steps.now in
+    let old = moment (g.S.Source.remaining c.args.input.now) (g.S.Source.faults c.args.input.now)
+    (g.K.Sink.held c.args.out.now) (g.K.Sink.faults c.args.out.now) c.args.steps.now in
+    let new = moment (g.S.Source.remaining c.args.input.now) (g.S.Source.faults c.args.input.now)
+    (g.K.Sink.held c.write_fault.new.out) (g.K.Sink.faults c.write_fault.new.out) c.args.steps.now in
     let files = g.F.Files.files c.args.files.now in
     let fails = g.F.Files.faults c.args.files.now in
     let links = links_of (g.L.Links.told c.args.links.now) (g.L.Links.is_reliable c.args.links.now)
     (g.L.Links.faults c.args.links.now) (g.L.Links.faults c.args.links.now) in
-    subst (λ (x : Option Command). Ended hyper links c.write_fault.result x files fails fails old new) (sym c.in-None.is)
+    subst (λ (x : Option Command). Ended hyper links c.write_fault.result x files fails fails old new)
+    (sym c.in-None.is)
     (subst (λ (x : Status). Ended hyper links x None files fails fails old new) (sym c.write_fault.ensures.status)
     (ended-usage hyper links files fails fails old new refl c.write_fault.ensures.writes))

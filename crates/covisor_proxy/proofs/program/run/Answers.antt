@@ -11,8 +11,10 @@ use Rattle.covisor_proxy.proofs.program.run.Goals as goal
 
 pub returns-clause-steps : goal.returns-clause-steps
 returns-clause-steps g c =
-    let old = moment (g.S.Source.remaining c.args.input.now) (g.S.Source.faults c.args.input.now) (g.K.Sink.held c.args.out.now) (g.K.Sink.faults c.args.out.now) c.args.steps.now in
-    let new = moment (g.S.Source.remaining c.answer.new.input) (g.S.Source.faults c.answer.new.input) (g.K.Sink.held c.answer.new.out) (g.K.Sink.faults c.answer.new.out) c.answer.new.steps in
+    let old = moment (g.S.Source.remaining c.args.input.now) (g.S.Source.faults c.args.input.now)
+    (g.K.Sink.held c.args.out.now) (g.K.Sink.faults c.args.out.now) c.args.steps.now in
+    let new = moment (g.S.Source.remaining c.answer.new.input) (g.S.Source.faults c.answer.new.input)
+    (g.K.Sink.held c.answer.new.out) (g.K.Sink.faults c.answer.new.out) c.answer.new.steps in
     let links = links_of (g.L.Links.told c.args.links.now) (g.L.Links.is_reliable c.args.links.now)
     (g.L.Links.faults c.args.links.now) (g.L.Links.faults c.answer.new.links) in
     let command = command_of c.args.words.now in
@@ -24,8 +26,10 @@ returns-clause-steps g c =
 
 pub returns-clause-refused : goal.returns-clause-refused
 returns-clause-refused g c =
-    let old = moment (g.S.Source.remaining c.args.input.now) (g.S.Source.faults c.args.input.now) (g.K.Sink.held c.args.out.now) (g.K.Sink.faults c.args.out.now) c.args.steps.now in
-    let new = moment (g.S.Source.remaining c.answer.new.input) (g.S.Source.faults c.answer.new.input) (g.K.Sink.held c.answer.new.out) (g.K.Sink.faults c.answer.new.out) c.answer.new.steps in
+    let old = moment (g.S.Source.remaining c.args.input.now) (g.S.Source.faults c.args.input.now)
+    (g.K.Sink.held c.args.out.now) (g.K.Sink.faults c.args.out.now) c.args.steps.now in
+    let new = moment (g.S.Source.remaining c.answer.new.input) (g.S.Source.faults c.answer.new.input)
+    (g.K.Sink.held c.answer.new.out) (g.K.Sink.faults c.answer.new.out) c.answer.new.steps in
     let links = links_of (g.L.Links.told c.args.links.now) (g.L.Links.is_reliable c.args.links.now)
     (g.L.Links.faults c.args.links.now) (g.L.Links.faults c.answer.new.links) in
     let command = command_of c.args.words.now in
@@ -37,8 +41,10 @@ returns-clause-refused g c =
 
 pub returns-clause-absent : goal.returns-clause-absent
 returns-clause-absent g c =
-    let old = moment (g.S.Source.remaining c.args.input.now) (g.S.Source.faults c.args.input.now) (g.K.Sink.held c.args.out.now) (g.K.Sink.faults c.args.out.now) c.args.steps.now in
-    let new = moment (g.S.Source.remaining c.answer.new.input) (g.S.Source.faults c.answer.new.input) (g.K.Sink.held c.answer.new.out) (g.K.Sink.faults c.answer.new.out) c.answer.new.steps in
+    let old = moment (g.S.Source.remaining c.args.input.now) (g.S.Source.faults c.args.input.now)
+    (g.K.Sink.held c.args.out.now) (g.K.Sink.faults c.args.out.now) c.args.steps.now in
+    let new = moment (g.S.Source.remaining c.answer.new.input) (g.S.Source.faults c.answer.new.input)
+    (g.K.Sink.held c.answer.new.out) (g.K.Sink.faults c.answer.new.out) c.answer.new.steps in
     let links = links_of (g.L.Links.told c.args.links.now) (g.L.Links.is_reliable c.args.links.now)
     (g.L.Links.faults c.args.links.now) (g.L.Links.faults c.answer.new.links) in
     let command = command_of c.args.words.now in
@@ -50,8 +56,10 @@ returns-clause-absent g c =
 
 pub returns-clause-read : goal.returns-clause-read
 returns-clause-read g c =
-    let old = moment (g.S.Source.remaining c.args.input.now) (g.S.Source.faults c.args.input.now) (g.K.Sink.held c.args.out.now) (g.K.Sink.faults c.args.out.now) c.args.steps.now in
-    let new = moment (g.S.Source.remaining c.answer.new.input) (g.S.Source.faults c.answer.new.input) (g.K.Sink.held c.answer.new.out) (g.K.Sink.faults c.answer.new.out) c.answer.new.steps in
+    let old = moment (g.S.Source.remaining c.args.input.now) (g.S.Source.faults c.args.input.now)
+    (g.K.Sink.held c.args.out.now) (g.K.Sink.faults c.args.out.now) c.args.steps.now in
+    let new = moment (g.S.Source.remaining c.answer.new.input) (g.S.Source.faults c.answer.new.input)
+    (g.K.Sink.held c.answer.new.out) (g.K.Sink.faults c.answer.new.out) c.answer.new.steps in
     let links = links_of (g.L.Links.told c.args.links.now) (g.L.Links.is_reliable c.args.links.now)
     (g.L.Links.faults c.args.links.now) (g.L.Links.faults c.answer.new.links) in
     let command = command_of c.args.words.now in
@@ -63,8 +71,10 @@ returns-clause-read g c =
 
 pub returns-clause-write : goal.returns-clause-write
 returns-clause-write g c =
-    let old = moment (g.S.Source.remaining c.args.input.now) (g.S.Source.faults c.args.input.now) (g.K.Sink.held c.args.out.now) (g.K.Sink.faults c.args.out.now) c.args.steps.now in
-    let new = moment (g.S.Source.remaining c.answer.new.input) (g.S.Source.faults c.answer.new.input) (g.K.Sink.held c.answer.new.out) (g.K.Sink.faults c.answer.new.out) c.answer.new.steps in
+    let old = moment (g.S.Source.remaining c.args.input.now) (g.S.Source.faults c.args.input.now)
+    (g.K.Sink.held c.args.out.now) (g.K.Sink.faults c.args.out.now) c.args.steps.now in
+    let new = moment (g.S.Source.remaining c.answer.new.input) (g.S.Source.faults c.answer.new.input)
+    (g.K.Sink.held c.answer.new.out) (g.K.Sink.faults c.answer.new.out) c.answer.new.steps in
     let links = links_of (g.L.Links.told c.args.links.now) (g.L.Links.is_reliable c.args.links.now)
     (g.L.Links.faults c.args.links.now) (g.L.Links.faults c.answer.new.links) in
     let command = command_of c.args.words.now in
@@ -82,8 +92,10 @@ returns-clause-spawn g c = λ n. c.answer.ensures.spawn (known_by c.answer.resul
 
 pub returns-clause-complete : goal.returns-clause-complete
 returns-clause-complete g c =
-    let old = moment (g.S.Source.remaining c.args.input.now) (g.S.Source.faults c.args.input.now) (g.K.Sink.held c.args.out.now) (g.K.Sink.faults c.args.out.now) c.args.steps.now in
-    let new = moment (g.S.Source.remaining c.answer.new.input) (g.S.Source.faults c.answer.new.input) (g.K.Sink.held c.answer.new.out) (g.K.Sink.faults c.answer.new.out) c.answer.new.steps in
+    let old = moment (g.S.Source.remaining c.args.input.now) (g.S.Source.faults c.args.input.now)
+    (g.K.Sink.held c.args.out.now) (g.K.Sink.faults c.args.out.now) c.args.steps.now in
+    let new = moment (g.S.Source.remaining c.answer.new.input) (g.S.Source.faults c.answer.new.input)
+    (g.K.Sink.held c.answer.new.out) (g.K.Sink.faults c.answer.new.out) c.answer.new.steps in
     let links = links_of (g.L.Links.told c.args.links.now) (g.L.Links.is_reliable c.args.links.now)
     (g.L.Links.faults c.args.links.now) (g.L.Links.faults c.answer.new.links) in
     let command = command_of c.args.words.now in
@@ -94,4 +106,5 @@ returns-clause-complete g c =
     let before = calls fails (g.L.Links.faults c.args.links.now) (g.P.Spawner.faults c.args.spawner.now) in
     let after = calls fails' (g.L.Links.faults c.answer.new.links) (g.P.Spawner.faults c.answer.new.spawner) in
     subst (λ (x : ℕ). IsComplete links x command files before after old new) (sym c.code.ensures)
-    (complete_run hyper links command files before after e.0 old new e.1 c.answer.result c.answer.ensures.link c.answer.ensures.spawn e.2)
+    (complete_run hyper links command files before after e.0 old new e.1 c.answer.result c.answer.ensures.link
+    c.answer.ensures.spawn e.2)

@@ -13,15 +13,19 @@ pub returns-in-Absent-clause-ends : goal.returns-in-Absent-clause-ends
 returns-in-Absent-clause-ends g c = λ files fails fails' all cut form left reads steps o.
     let old = moment left reads (g.K.Sink.held c.args.out.now) (g.K.Sink.faults c.args.out.now) steps in
     let new = moment left reads (g.K.Sink.held c.tell_absent.new.out) (g.K.Sink.faults c.tell_absent.new.out) steps in
-    let h : Opens files fails fails' c.args.name.now (Err Absent) = subst (λ (x : NoPolicy). Opens files fails fails' c.args.name.now (Err x)) c.in-Absent.is o in
-    told-absent all cut form c.args.name.now files fails fails' old new refl c.tell_absent.result h c.tell_absent.ensures
+    let h : Opens files fails fails' c.args.name.now (Err Absent) =
+    subst (λ (x : NoPolicy). Opens files fails fails' c.args.name.now (Err x)) c.in-Absent.is o in
+    told-absent all cut form c.args.name.now files fails fails' old new refl c.tell_absent.result h
+    c.tell_absent.ensures
 
 pub returns-in-Unread-clause-ends : goal.returns-in-Unread-clause-ends
 returns-in-Unread-clause-ends g c = λ files fails fails' all cut form left reads steps o.
     let old = moment left reads (g.K.Sink.held c.args.out.now) (g.K.Sink.faults c.args.out.now) steps in
     let new = moment left reads (g.K.Sink.held c.write_fault.new.out) (g.K.Sink.faults c.write_fault.new.out) steps in
-    let h : Opens files fails fails' c.args.name.now (Err Unread) = subst (λ (x : NoPolicy). Opens files fails fails' c.args.name.now (Err x)) c.in-Unread.is o in
-    subst (λ (x : Status). EndsUnopened x all cut form c.args.name.now files fails fails' old new) (sym c.write_fault.ensures.status)
+    let h : Opens files fails fails' c.args.name.now (Err Unread) =
+    subst (λ (x : NoPolicy). Opens files fails fails' c.args.name.now (Err x)) c.in-Unread.is o in
+    subst (λ (x : Status). EndsUnopened x all cut form c.args.name.now files fails fails' old new)
+    (sym c.write_fault.ensures.status)
     (told-unread all cut form c.args.name.now files fails fails' old new refl h c.write_fault.ensures.writes)
 
 pub returns-in-Refused-clause-ends : goal.returns-in-Refused-clause-ends
@@ -30,7 +34,8 @@ returns-in-Refused-clause-ends g c = λ files fails fails' all cut form left rea
     let new = moment left reads (g.K.Sink.held c.tell_refused.new.out) (g.K.Sink.faults c.tell_refused.new.out) steps in
     let h : Opens files fails fails' c.args.name.now (Err (Refused c.in-Refused.fault)) =
     subst (λ (x : NoPolicy). Opens files fails fails' c.args.name.now (Err x)) c.in-Refused.is o in
-    told-refused all cut form c.args.name.now files fails fails' old new refl c.tell_refused.result c.in-Refused.fault h.0 h.1 h.2 c.tell_refused.ensures
+    told-refused all cut form c.args.name.now files fails fails' old new refl c.tell_refused.result c.in-Refused.fault
+    h.0 h.1 h.2 c.tell_refused.ensures
 
 pub returns-in-Memory-clause-ends : goal.returns-in-Memory-clause-ends
 returns-in-Memory-clause-ends g c = λ files fails fails' all cut form left reads steps o.

@@ -8,19 +8,24 @@ use Rattle.endpoint_works.proofs.audit.write_audit.Goals as goal
 pub returns-then-is_err-clause-posted : goal.returns-then-is_err-clause-posted
 returns-then-is_err-clause-posted g c =
     audited-part (g.D.Desk.posts c.args.pass.now) (g.D.Desk.posts c.loop.pass) (g.D.Desk.posts c.take.new.pass)
-    (g.K.Sink.held c.args.out.now) (g.K.Sink.held c.loop.out) (g.K.Sink.held c.write_line.new.out) c.loop.invariant.audited
+    (g.K.Sink.held c.args.out.now) (g.K.Sink.held c.loop.out) (g.K.Sink.held c.write_line.new.out)
+    c.loop.invariant.audited
     c.in-Message.line (rw c.in-Message.is at c.in_ok-line.ensures.posted)
-    (subst (λ z. AppendsSome (g.K.Sink.held c.loop.out) (g.K.Sink.held c.write_line.new.out) (z ++ 10 ∷ [])) c.as_slice.ensures
+    (subst (λ z. AppendsSome (g.K.Sink.held c.loop.out) (g.K.Sink.held c.write_line.new.out) (z ++ 10 ∷ []))
+    c.as_slice.ensures
     (after-err c.write_line.result (sym c.if-is_err.ensures.value) c.write_line.ensures.some))
 
 pub loop-preserved-in-Message : goal.loop-preserved-in-Message
 loop-preserved-in-Message g c = record {
   audited = audited-more (g.D.Desk.posts c.args.pass.now) (g.D.Desk.posts c.loop.pass) (g.D.Desk.posts c.take.new.pass)
-      (g.K.Sink.held c.args.out.now) (g.K.Sink.held c.loop.out) (g.K.Sink.held c.write_line.new.out) c.loop.invariant.audited
+      (g.K.Sink.held c.args.out.now) (g.K.Sink.held c.loop.out) (g.K.Sink.held c.write_line.new.out)
+      c.loop.invariant.audited
       c.in-Message.line (rw c.in-Message.is at c.in_ok-line.ensures.posted)
-      (subst (λ z. Appends (g.K.Sink.held c.loop.out) (g.K.Sink.held c.write_line.new.out) (z ++ 10 ∷ [])) c.as_slice.ensures
+      (subst (λ z. Appends (g.K.Sink.held c.loop.out) (g.K.Sink.held c.write_line.new.out) (z ++ 10 ∷ []))
+      c.as_slice.ensures
       (after-ok c.write_line.result (sym c.if-is_err.ensures.value) c.write_line.ensures.written));
-  faults = after-ok c.write_line.result (sym c.if-is_err.ensures.value) c.write_line.ensures.quiet ∙ c.loop.invariant.faults;
+  faults = after-ok c.write_line.result (sym c.if-is_err.ensures.value) c.write_line.ensures.quiet
+      ∙ c.loop.invariant.faults;
   admits = c.take.ensures.pass;
 }
 

@@ -20,7 +20,8 @@ loop-preserved g c =
             (g.A.Arrivals.left c.args.arrivals.now) (g.A.Arrivals.left c.next-in-loop.new.self) c.args.pass.now
             c.serve_round.new.pass (i.passes ++ c.serve_round.new.pass ∷ [])) (sym w.wanted-is)
             (rounds-more g.D.Desk.posts g.D.Desk.ended g.D.LaterDesk.later c.args.side.now c.loop.wanted
-            (g.A.Arrivals.left c.args.arrivals.now) (g.A.Arrivals.left c.loop.arrivals) (g.A.Arrivals.left c.next-in-loop.new.self)
+            (g.A.Arrivals.left c.args.arrivals.now) (g.A.Arrivals.left c.loop.arrivals)
+            (g.A.Arrivals.left c.next-in-loop.new.self)
             c.args.pass.now c.loop.pass c.serve_round.new.pass i.passes i.rounds
             (record {
               bytes = g.A.In.Source.remaining c.in-Ok-Some.source;
@@ -36,13 +37,16 @@ loop-preserved g c =
                 posted = inl (w.in-Ok.field-0, w.in-Ok.ensures.posted);
               };
             }))
-        | in-Err-serve_round w ↦ subst (λ z. AreRounds g.D.Desk.posts g.D.Desk.ended g.D.LaterDesk.later c.args.side.now z
+        | in-Err-serve_round w ↦ subst
+            (λ z. AreRounds g.D.Desk.posts g.D.Desk.ended g.D.LaterDesk.later c.args.side.now z
             (g.A.Arrivals.left c.args.arrivals.now) (g.A.Arrivals.left c.next-in-loop.new.self) c.args.pass.now
             c.serve_round.new.pass (i.passes ++ c.serve_round.new.pass ∷ [])) (sym w.wanted-is)
             (rounds-more g.D.Desk.posts g.D.Desk.ended g.D.LaterDesk.later c.args.side.now true
-            (g.A.Arrivals.left c.args.arrivals.now) (g.A.Arrivals.left c.loop.arrivals) (g.A.Arrivals.left c.next-in-loop.new.self)
+            (g.A.Arrivals.left c.args.arrivals.now) (g.A.Arrivals.left c.loop.arrivals)
+            (g.A.Arrivals.left c.next-in-loop.new.self)
             c.args.pass.now c.loop.pass c.serve_round.new.pass i.passes
-            (rounds-wanted g.D.Desk.posts g.D.Desk.ended g.D.LaterDesk.later c.args.side.now c.loop.wanted _ _ _ _ i.passes i.rounds)
+            (rounds-wanted g.D.Desk.posts g.D.Desk.ended g.D.LaterDesk.later c.args.side.now c.loop.wanted _ _ _ _
+            i.passes i.rounds)
             (record {
               bytes = g.A.In.Source.remaining c.in-Ok-Some.source;
               reads = g.A.In.Source.is_reliable c.in-Ok-Some.source;

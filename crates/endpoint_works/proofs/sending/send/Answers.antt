@@ -16,9 +16,11 @@ loop-preserved g c =
     record {
       posted = elim c.match-run_writer.branch [
         | in-Ok-Closed w ↦ subst (λ (z : Sent). HasSent z.cut p r) (sym w.sent-is)
-            (let e = rw w.in-Ok-Closed.field-0-is at w.in-Ok-Closed.ensures.posted in sent-closed s known _ p q r _ _ c.loop.sent.cut h e.0)
+            (let e = rw w.in-Ok-Closed.field-0-is at w.in-Ok-Closed.ensures.posted in
+            sent-closed s known _ p q r _ _ c.loop.sent.cut h e.0)
         | in-Ok-WriteFault w ↦ subst (λ (z : Sent). HasSent z.cut p r) (sym w.sent-is)
-            (sent-fault s known _ p q r _ _ c.loop.sent.cut (g.D.Desk.ended c.run_writer.new.pass s) h (rw w.in-Ok-WriteFault.field-0-is at w.in-Ok-WriteFault.ensures.posted))
+            (sent-fault s known _ p q r _ _ c.loop.sent.cut (g.D.Desk.ended c.run_writer.new.pass s) h
+            (rw w.in-Ok-WriteFault.field-0-is at w.in-Ok-WriteFault.ensures.posted))
         | in-Err w ↦ subst (λ (z : Sent). HasSent z.cut p r) (sym w.sent-is)
             (sent-wanted s known _ p q r _ _ c.loop.sent.cut _ h w.in-Err.ensures.memory)
       ];

@@ -6,4 +6,5 @@ use Rattle.switch_meaning.specs.declared.entry.PhysEntry.{PhysEntry}
 use Rattle.exact_gate.proofs.bucket.take_out.Goals as goal
 
 pub returns : goal.returns
-returns c = filter_same _ (λ (e : PhysEntry). not (same_entry c.args.entry.now e)) _ (λ x b f' k. search rules) _ _ c.retain.ensures.filtered
+returns c = filter_same _ (λ (e : PhysEntry). not (same_entry c.args.entry.now e)) _ (λ x b f' k. search rules) _ _
+    c.retain.ensures.filtered

@@ -9,4 +9,5 @@ after_ok r x e P h = let Q : Result _ _ → Type 0 = λ o. OnOk o P in subst Q e
 
 pub returns-clause-entries : goal.returns-clause-entries
 returns-clause-entries c =
-    after_ok c.insert.result c.unwrap.result c.unwrap.ensures _ c.insert.ensures.entries ∙ insert_entry-new one_key c.args.buckets.now c.args.key c.args.bucket c.requires.absent
+    after_ok c.insert.result c.unwrap.result c.unwrap.ensures _ c.insert.ensures.entries
+    ∙ insert_entry-new one_key c.args.buckets.now c.args.key c.args.bucket c.requires.absent

@@ -15,7 +15,9 @@ returns-clause-same c =
     let come = c.args.log.now.come in
     let now = c.in_ok-push.ensures.pushed ∙ ap (λ (x : PhysEntry). come ++ x ∷ []) c.in_ok-copy.ensures in
     let absent = sym c.has.ensures ∙ c.if-has.false in
-    either_then ((e : PhysEntry) → stands_in c.insert.new.self e ≡ (stands_in c.args.pool.now e || same_entry e c.args.entry.now)) (c.insert.new.self ≡ c.args.pool.now) _ c.insert.result
+    either_then ((e : PhysEntry) → stands_in c.insert.new.self e
+    ≡ (stands_in c.args.pool.now e || same_entry e c.args.entry.now)) (c.insert.new.self ≡ c.args.pool.now) _
+    c.insert.result
     (has-come c.args.pool.now c.insert.new.self c.args.log.now.gone come c.args.entry.now c.push.new.self now absent)
     (is-coming c.args.pool.now c.insert.new.self c.args.log.now.gone come c.args.entry.now c.push.new.self now absent)
     c.insert.ensures.entries c.insert.ensures.memory

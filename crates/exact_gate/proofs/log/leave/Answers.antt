@@ -10,4 +10,5 @@ returns-then-not-has-clause-gone c e = absent-already c.args.pool.now c.args.ent
 pub returns-clause-same : goal.returns-clause-same
 returns-clause-same c =
     has-gone c.args.pool.now c.remove.new.self c.args.log.now.gone c.args.log.now.come c.args.entry.now c.push.new.self
-    (c.in_ok-push.ensures.pushed ∙ ap (λ (x : PhysEntry). c.args.log.now.gone ++ x ∷ []) c.in_ok-copy.ensures) (sym c.if-not-has.ensures) c.requires c.remove.ensures
+    (c.in_ok-push.ensures.pushed ∙ ap (λ (x : PhysEntry). c.args.log.now.gone ++ x ∷ []) c.in_ok-copy.ensures)
+    (sym c.if-not-has.ensures) c.requires c.remove.ensures

@@ -18,16 +18,22 @@ returns-clause-gone c =
     let old = c.args.pool.now in
     let new = c.exchange.new.pool in
     let touched = c.in_ok-touched.touched in
-    IfOk-weaker c.delta.result (λ (d : GateDelta). d.gone ≡ flat_map (left_of new) touched) (λ (d : GateDelta). IsDifference (passing old) (passing new) d.gone)
-    (λ d is e. ap (λ (xs : List PhysEntry). stands_in xs e) is ∙ left-exact old new c.args.gone.now c.args.come.now touched c.in_ok-exchange.ensures.after c.in_ok-touched.ensures e) c.delta.ensures.gone
+    IfOk-weaker c.delta.result (λ (d : GateDelta). d.gone ≡ flat_map (left_of new) touched)
+    (λ (d : GateDelta). IsDifference (passing old) (passing new) d.gone)
+    (λ d is e. ap (λ (xs : List PhysEntry). stands_in xs e) is
+    ∙ left-exact old new c.args.gone.now c.args.come.now touched c.in_ok-exchange.ensures.after
+    c.in_ok-touched.ensures e) c.delta.ensures.gone
 
 pub returns-clause-come : goal.returns-clause-come
 returns-clause-come c =
     let old = c.args.pool.now in
     let new = c.exchange.new.pool in
     let touched = c.in_ok-touched.touched in
-    IfOk-weaker c.delta.result (λ (d : GateDelta). d.come ≡ flat_map (come_of new) touched) (λ (d : GateDelta). IsDifference (passing new) (passing old) d.come)
-    (λ d is e. ap (λ (xs : List PhysEntry). stands_in xs e) is ∙ come-exact old new c.args.gone.now c.args.come.now touched c.in_ok-exchange.ensures.after c.in_ok-touched.ensures e) c.delta.ensures.come
+    IfOk-weaker c.delta.result (λ (d : GateDelta). d.come ≡ flat_map (come_of new) touched)
+    (λ (d : GateDelta). IsDifference (passing new) (passing old) d.come)
+    (λ d is e. ap (λ (xs : List PhysEntry). stands_in xs e) is
+    ∙ come-exact old new c.args.gone.now c.args.come.now touched c.in_ok-exchange.ensures.after
+    c.in_ok-touched.ensures e) c.delta.ensures.come
 
 pub returns-clause-gone_once : goal.returns-clause-gone_once
 returns-clause-gone_once c =
@@ -35,8 +41,10 @@ returns-clause-gone_once c =
     let touched = c.in_ok-touched.touched in
     let t = c.in_ok-touched.ensures in
     let D : List PhysEntry → Type 0 = IsDistinct same_entry in
-    IfOk-weaker c.delta.result (λ (d : GateDelta). d.gone ≡ flat_map (left_of new) touched) (λ (d : GateDelta). D d.gone)
-    (λ d is. subst D (sym is) (left-once c.args.pool.now new t.keys touched t.is t.once c.stands_once.ensures)) c.delta.ensures.gone
+    IfOk-weaker c.delta.result (λ (d : GateDelta). d.gone ≡ flat_map (left_of new) touched)
+    (λ (d : GateDelta). D d.gone)
+    (λ d is. subst D (sym is) (left-once c.args.pool.now new t.keys touched t.is t.once c.stands_once.ensures))
+    c.delta.ensures.gone
 
 pub returns-clause-come_once : goal.returns-clause-come_once
 returns-clause-come_once c =
@@ -44,5 +52,7 @@ returns-clause-come_once c =
     let touched = c.in_ok-touched.touched in
     let t = c.in_ok-touched.ensures in
     let D : List PhysEntry → Type 0 = IsDistinct same_entry in
-    IfOk-weaker c.delta.result (λ (d : GateDelta). d.come ≡ flat_map (come_of new) touched) (λ (d : GateDelta). D d.come)
-    (λ d is. subst D (sym is) (come-once c.args.pool.now new t.keys touched t.is t.once c.stands_once-2.ensures)) c.delta.ensures.come
+    IfOk-weaker c.delta.result (λ (d : GateDelta). d.come ≡ flat_map (come_of new) touched)
+    (λ (d : GateDelta). D d.come)
+    (λ d is. subst D (sym is) (come-once c.args.pool.now new t.keys touched t.is t.once c.stands_once-2.ensures))
+    c.delta.ensures.come

@@ -8,7 +8,8 @@ pub returns : goal.returns
 returns c =
     let pool = c.args.pool.now in
     let keys = c.in_ok-keys.keys.keys in
-    IfOk-weaker c.with_before.result (λ list. list ≡ map (touched_of pool) c.as_slice.result.now) (IsTouched pool c.args.gone.now c.args.come.now)
+    IfOk-weaker c.with_before.result (λ list. list ≡ map (touched_of pool) c.as_slice.result.now)
+    (IsTouched pool c.args.gone.now c.args.come.now)
     (λ list e. record {
       keys = keys;
       is = e ∙ ap (λ (ks : List Key). map (touched_of pool) ks) c.as_slice.ensures.keys;

@@ -8,7 +8,8 @@ use Rattle.exact_gate.proofs.touched.note_entries.Goals as goal
 pub loop-entry-preserved : goal.loop-entry-preserved
 loop-entry-preserved c = record {
   more = λ k t. c.in_ok-note_entry.ensures.more k (c.loop-entry.invariant.more k t);
-  noted = all-noted c.args.pool.now c.loop-entry.keys.keys c.note_entry.new.keys.keys c.args.entries.now c.loop-entry.entry-index c.entry-item.result c.loop-entry-test.true c.entry-item.is
+  noted = all-noted c.args.pool.now c.loop-entry.keys.keys c.note_entry.new.keys.keys c.args.entries.now
+      c.loop-entry.entry-index c.entry-item.result c.loop-entry-test.true c.entry-item.is
       c.in_ok-note_entry.ensures.more c.loop-entry.invariant.noted c.in_ok-note_entry.ensures.noted;
 }
 

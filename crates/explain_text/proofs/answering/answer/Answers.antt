@@ -26,8 +26,11 @@ returns c =
     let trace_is : c.as_slice.result.now ≡ trace (network_of w) w.hops at.v (header_in at.by bytes) =
     let read = c.as_slice.ensures in let kept = c.in_ok-hops.hops-is in cc in
     let outs_is : c.as_slice-2.result.now ≡ (walk (ground_of (network_of w)) w.hops at.v (header_in at.by bytes)).outs =
-    let read = c.as_slice-2.ensures in let kept = c.in_ok-hops.walked-is in let out = ap (λ (x : Walked). x.outs) walked in cc in
+    let read = c.as_slice-2.ensures in let kept = c.in_ok-hops.walked-is in let out =
+    ap (λ (x : Walked). x.outs) walked in cc in
     let told_is : c.as_slice-3.result.now ≡ (walk (ground_of (network_of w)) w.hops at.v (header_in at.by bytes)).told =
-    let read = c.as_slice-3.ensures in let kept = c.in_ok-hops.walked-is in let tell = ap (λ (x : Walked). x.told) walked in cc in
+    let read = c.as_slice-3.ensures in let kept = c.in_ok-hops.walked-is in let tell =
+    ap (λ (x : Walked). x.told) walked in cc in
     let entering : c.header_of.result ≡ header_in at.port bytes = c.header_of.ensures in
-    said ∙ (λ i. findings w.topology.now (trace_is i) (record { outs = outs_is i; told = told_is i }) at.switch (option_map (used_for (entering i)) standing))
+    said ∙ (λ i. findings w.topology.now (trace_is i) (record { outs = outs_is i; told = told_is i }) at.switch
+    (option_map (used_for (entering i)) standing))

@@ -4,4 +4,5 @@ use Rattle.of10_match.proofs.Same.{match_decides}
 use Rattle.fitting_changes.proofs.composer.is_normal.Goals as goal
 
 pub returns : goal.returns
-returns c t = subst IsNormal ((match_decides c.normal.result c.args.m.now).0 (sym c.eq.ensures ∙ t)) c.normal.ensures.normal
+returns c t = subst IsNormal ((match_decides c.normal.result c.args.m.now).0 (sym c.eq.ensures ∙ t))
+    c.normal.ensures.normal

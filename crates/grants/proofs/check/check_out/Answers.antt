@@ -10,4 +10,6 @@ returns-clause-granted c =
     let v = c.args.v.now in
     let m = c.args.m.now in
     let A : List Action → Type 0 = λ list. first_of (action_rows false g v list) ≡ None in
-    on_ok (first_of (packet_rows g m c.args.h.now)) c.check_packet.result _ (packet_granted g v m c.args.h.now (subst A c.as_slice.ensures c.in_ok-check_actions.ensures)) c.check_packet.ensures
+    on_ok (first_of (packet_rows g m c.args.h.now)) c.check_packet.result _
+    (packet_granted g v m c.args.h.now (subst A c.as_slice.ensures c.in_ok-check_actions.ensures))
+    c.check_packet.ensures

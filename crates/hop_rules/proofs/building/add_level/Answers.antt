@@ -16,10 +16,12 @@ next_peers-requires-clause-count c =
 pub next_peers-requires-clause-fits : goal.next_peers-requires-clause-fits
 next_peers-requires-clause-fits c v lt =
     let r = c.requires in
-    subst (λ (ps : List ℕ). size_at c.args.sizes.now v * size_at ps v < 2 ^ 64) (sym c.as_slice-2.ensures) (next-fits r.0 c.args.ends.now c.args.given.now c.args.sizes.now c.args.rising.now r.1 v lt)
+    subst (λ (ps : List ℕ). size_at c.args.sizes.now v * size_at ps v < 2 ^ 64) (sym c.as_slice-2.ensures)
+    (next-fits r.0 c.args.ends.now c.args.given.now c.args.sizes.now c.args.rising.now r.1 v lt)
 
 pub returns-clause-count : goal.returns-clause-count
-returns-clause-count c = let p = ap length c.in_ok-push.ensures.pushed in let l = length_push c.args.rising.now.levels c.in_ok-level.level in omega arith
+returns-clause-count c = let p = ap length c.in_ok-push.ensures.pushed in let l =
+    length_push c.args.rising.now.levels c.in_ok-level.level in omega arith
 
 pub returns-clause-risen : goal.returns-clause-risen
 returns-clause-risen c f r =
@@ -30,5 +32,7 @@ returns-clause-risen c f r =
     let peers = c.as_slice-2.ensures in
     let then : Rising = record { levels = c.push.new.self; peers = c.in_ok-peers.peers } in
     one-more f c.args.ends.now c.args.given.now c.args.sizes.now r.fabric rising r.risen level
-    (c.in_ok-level.ensures.stands ∙ ap (λ (ps : List ℕ). map (arrival_stand ps) c.args.ends.now) c.as_slice.ensures) c.in_ok-level.ensures.count c.in_ok-level.ensures.nodes
-    next n.1 (λ v lt. n.2 v lt ∙ ap (λ (ps : List ℕ). size_at c.args.sizes.now v * size_at ps v) peers) then c.in_ok-push.ensures.pushed n.3
+    (c.in_ok-level.ensures.stands ∙ ap (λ (ps : List ℕ). map (arrival_stand ps) c.args.ends.now) c.as_slice.ensures)
+    c.in_ok-level.ensures.count c.in_ok-level.ensures.nodes
+    next n.1 (λ v lt. n.2 v lt ∙ ap (λ (ps : List ℕ). size_at c.args.sizes.now v * size_at ps v) peers)
+    then c.in_ok-push.ensures.pushed n.3

@@ -9,6 +9,7 @@ returns c f es sizes b =
     let ones = c.in_ok-sizes.sizes.items in
     let r : Rising = record { levels = c.new.result; peers = c.from_vec.result } in (
       none-risen f es c.args.given.now sizes b ones c.in_ok-sizes.ensures r c.new.ensures
-          (c.from_vec.ensures ∙ c.in_ok-peers_sizes.ensures ∙ ap (λ (xs : _). map (given_size xs) c.args.given.now) c.deref.ensures.value),
+          (c.from_vec.ensures ∙ c.in_ok-peers_sizes.ensures
+          ∙ ap (λ (xs : _). map (given_size xs) c.args.given.now) c.deref.ensures.value),
       ap length c.new.ensures,
     )

@@ -8,5 +8,6 @@ use Rattle.hop_rules.proofs.building.peers_size.Given as goal
 abbrev pub invariant-loop-exit : goal.invariant-loop-exit
 invariant-loop-exit l = record {
   positive : 1 ≤ l.greatest;
-  greatest : max l.greatest (peers_size (size_at l.sizes) (map exit_link (drop l.exit-index l.exits))) ≡ peers_size (size_at l.sizes) (map exit_link l.exits);
+  greatest : max l.greatest (peers_size (size_at l.sizes) (map exit_link (drop l.exit-index l.exits)))
+      ≡ peers_size (size_at l.sizes) (map exit_link l.exits);
 }

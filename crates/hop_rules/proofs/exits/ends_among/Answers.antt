@@ -8,7 +8,9 @@ pub loop-v-preserved : goal.loop-v-preserved
 loop-v-preserved c =
     c.in_ok-append.ensures.appended
     ∙ ((λ i. c.loop-v.invariant i ++ c.in_ok-port_ends.ensures i)
-    ∙ sym (numbered_more (port_ends c.args.topology.now) c.args.virtuals.now c.loop-v.v c.index-virtuals-v.result c.loop-v-test.true c.index-virtuals-v.is))
+    ∙ sym (numbered_more (port_ends c.args.topology.now) c.args.virtuals.now c.loop-v.v c.index-virtuals-v.result
+    c.loop-v-test.true c.index-virtuals-v.is))
 
 pub returns : goal.returns
-returns c = c.loop-v.invariant ∙ ap (flat_map (port_ends c.args.topology.now)) (numbered_all c.args.virtuals.now c.loop-v.v (omega (arith, c.loop-v-test.false)))
+returns c = c.loop-v.invariant ∙ ap (flat_map (port_ends c.args.topology.now))
+    (numbered_all c.args.virtuals.now c.loop-v.v (omega (arith, c.loop-v-test.false)))

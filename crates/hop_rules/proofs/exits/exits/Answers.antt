@@ -10,7 +10,9 @@ pub loop-place-preserved : goal.loop-place-preserved
 loop-place-preserved c =
     c.in_ok-push_some.ensures.pushed
     ∙ ((λ i. c.loop-place.invariant i ++ option_to_list (c.exit_at.ensures i))
-    ∙ sym (numbered_kept (exit_at c.args.v) c.args.ends.now c.loop-place.place _ c.loop-place-test.true (got_same c.args.ends.now c.loop-place.place _ _ c.loop-place-test.true)))
+    ∙ sym (numbered_kept (exit_at c.args.v) c.args.ends.now c.loop-place.place _ c.loop-place-test.true
+    (got_same c.args.ends.now c.loop-place.place _ _ c.loop-place-test.true)))
 
 pub returns : goal.returns
-returns c = c.loop-place.invariant ∙ ap (filter_map (exit_at c.args.v)) (numbered_all c.args.ends.now c.loop-place.place (omega (arith, c.loop-place-test.false)))
+returns c = c.loop-place.invariant ∙ ap (filter_map (exit_at c.args.v))
+    (numbered_all c.args.ends.now c.loop-place.place (omega (arith, c.loop-place-test.false)))

@@ -13,14 +13,16 @@ loop-id-init c =
     let exits = c.args.exits.now in
     record {
       room = let r = c.requires.room in omega arith;
-      shown = λ coming kept p e s. none-yet (listed exits) (listed-numbered exits) c.args.store.now coming kept c.args.ids.now c.len-count.ensures.rising p e c.args.index.now.items s;
+      shown = λ coming kept p e s. none-yet (listed exits) (listed-numbered exits) c.args.store.now coming kept
+          c.args.ids.now c.len-count.ensures.rising p e c.args.index.now.items s;
     }
 
 pub show-requires-clause-new_id : goal.show-requires-clause-new_id
 show-requires-clause-new_id c =
     let exits = c.args.exits.now in
     let r = c.requires.unlisted in
-    still-hidden (listed exits) (listed-numbered exits) c.args.store.now r.coming r.kept c.args.ids.now c.len-count.ensures.rising r.all r.ids_are c.loop-id.id-index _ c.loop-id-test.true c.loop-id.index.items
+    still-hidden (listed exits) (listed-numbered exits) c.args.store.now r.coming r.kept c.args.ids.now
+    c.len-count.ensures.rising r.all r.ids_are c.loop-id.id-index _ c.loop-id-test.true c.loop-id.index.items
     (c.loop-id.invariant.shown r.coming r.kept r.all r.ids_are r.listed)
 
 pub loop-id-preserved : goal.loop-id-preserved
@@ -29,7 +31,9 @@ loop-id-preserved c =
     record {
       room = let r = c.loop-id.invariant.room in let s = c.show.ensures.room in omega arith;
       shown = λ coming kept p e s.
-          one-more (listed exits) (listed-numbered exits) c.args.store.now coming kept c.args.ids.now c.len-count.ensures.rising p e c.loop-id.id-index _ c.loop-id-test.true c.loop-id.index.items c.show.new.index.items _
+          one-more (listed exits) (listed-numbered exits) c.args.store.now coming kept c.args.ids.now
+          c.len-count.ensures.rising p e c.loop-id.id-index _ c.loop-id-test.true c.loop-id.index.items
+          c.show.new.index.items _
           (c.loop-id.invariant.shown coming kept p e s)
           (λ h k there.
           ap (option_map (item_for _)) (c.asked_at.ensures h.item (ap (λ n. item_at c.args.store.now n) k ∙ there))
@@ -41,5 +45,7 @@ pub returns : goal.returns
 returns c =
     let exits = c.args.exits.now in
     let r = c.requires.unlisted in
-    all-shown (listed exits) (listed-numbered exits) c.args.store.now r.coming r.kept c.args.ids.now c.len-count.ensures.rising r.all r.ids_are c.loop-id.id-index c.loop-id.index.items (omega (arith, c.loop-id-test.false))
+    all-shown (listed exits) (listed-numbered exits) c.args.store.now r.coming r.kept c.args.ids.now
+    c.len-count.ensures.rising r.all r.ids_are c.loop-id.id-index c.loop-id.index.items
+    (omega (arith, c.loop-id-test.false))
     (c.loop-id.invariant.shown r.coming r.kept r.all r.ids_are r.listed)

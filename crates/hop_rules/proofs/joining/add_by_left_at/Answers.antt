@@ -14,7 +14,14 @@ use Rattle.hop_rules.proofs.joining.add_by_left_at.Goals as goal
 pub add_by_left-requires : goal.add_by_left-requires
 add_by_left-requires g c =
     let s = c.requires.1 in
-    record { own = c.requires.0; set_up = s; is_own = picked (λ (a : Held Rule). IsOwn c.requires.0 a.item) c.args.around.given.now.rules c.args.id c.in-Some.rule.now s.rules (sym c.in-Some.ensures.rule) }
+    record {
+      own = c.requires.0;
+      set_up = s;
+      is_own =
+          picked (λ (a : Held Rule). IsOwn c.requires.0 a.item) c.args.around.given.now.rules c.args.id
+          c.in-Some.rule.now
+          s.rules (sym c.in-Some.ensures.rule);
+    }
 
 pub returns-in-Some-clause-pushed : goal.returns-in-Some-clause-pushed
 returns-in-Some-clause-pushed g c =
@@ -23,7 +30,9 @@ returns-in-Some-clause-pushed g c =
     let made = by_one (hop_way a.at a.size a.given.now.exits) (arrivals a.below.now a.given.now.exits) in
     on_ok_weaker c.add_by_left.result
     (λ p. subst (λ z. IsPermutation c.add_by_left.new.fresh.items (c.args.fresh.now.items ++ z))
-    (sym (append-nil (made h)) ∙ ap (flat_map made) (sym (held-some a.given.now.rules c.args.id c.in-Some.rule.now (sym c.in-Some.ensures.rule)))) p)
+    (sym (append-nil (made h))
+    ∙ ap (flat_map made)
+    (sym (held-some a.given.now.rules c.args.id c.in-Some.rule.now (sym c.in-Some.ensures.rule)))) p)
     c.add_by_left.ensures.pushed
 
 pub returns-in-Some-clause-steps : goal.returns-in-Some-clause-steps
@@ -37,4 +46,5 @@ returns-in-Some-clause-steps g c =
 pub returns-in-None-clause-pushed : goal.returns-in-None-clause-pushed
 returns-in-None-clause-pushed g c =
     let a = c.args.around in
-    nothing-made (made_left a.at a.size a.given.now.exits (arrivals a.below.now a.given.now.exits)) a.given.now.rules c.args.id c.args.fresh.now.items refl (sym c.in-None.ensures.rule)
+    nothing-made (made_left a.at a.size a.given.now.exits (arrivals a.below.now a.given.now.exits)) a.given.now.rules
+    c.args.id c.args.fresh.now.items refl (sym c.in-None.ensures.rule)

@@ -19,14 +19,22 @@ add_pairs-requires-clause-leaving g c = (c.args.around.given.now.exits, c.args.a
 
 pub add_pairs-requires-clause-read : goal.add_pairs-requires-clause-read
 add_pairs-requires-clause-read g c =
-    all-got (λ (n : NodeOf). n.read ≡ true) c.args.around.below.now c.args.departure.now.exit.place c.in-Some.there.now c.requires.around.set_up.read (got-some c.args.around.below.now c.args.departure.now.exit.place c.in-Some.there.now c.in-Some.ensures.lookup.3.0 c.in-Some.ensures.lookup.1)
+    all-got (λ (n : NodeOf). n.read ≡ true) c.args.around.below.now c.args.departure.now.exit.place c.in-Some.there.now
+    c.requires.around.set_up.read
+    (got-some c.args.around.below.now c.args.departure.now.exit.place c.in-Some.there.now
+    c.in-Some.ensures.lookup.3.0 c.in-Some.ensures.lookup.1)
 
 pub add_pairs-requires-clause-arriving : goal.add_pairs-requires-clause-arriving
 add_pairs-requires-clause-arriving g c =
     let s = c.requires.around.set_up in
-    subst (λ held. AllByRecursion (λ (b : Held Rule). IsAt c.args.around.size c.args.departure.now.exit.peer.port b.item) (rules_in held))
-    (got-held c.args.around.below.now c.args.departure.now.exit.place c.in-Some.there.now (got-some c.args.around.below.now c.args.departure.now.exit.place c.in-Some.there.now c.in-Some.ensures.lookup.3.0 c.in-Some.ensures.lookup.1))
-    (arriving-there c.args.around.below.now c.args.around.size c.args.around.given.now.exits c.args.around.at.port c.args.here.rule.now c.args.departure.now s.arriving c.requires.leaving)
+    subst
+    (λ held. AllByRecursion (λ (b : Held Rule). IsAt c.args.around.size c.args.departure.now.exit.peer.port b.item)
+    (rules_in held))
+    (got-held c.args.around.below.now c.args.departure.now.exit.place c.in-Some.there.now
+    (got-some c.args.around.below.now c.args.departure.now.exit.place c.in-Some.there.now
+    c.in-Some.ensures.lookup.3.0 c.in-Some.ensures.lookup.1))
+    (arriving-there c.args.around.below.now c.args.around.size c.args.around.given.now.exits c.args.around.at.port
+    c.args.here.rule.now c.args.departure.now s.arriving c.requires.leaving)
 
 pub add_pairs-requires-clause-own : goal.add_pairs-requires-clause-own
 add_pairs-requires-clause-own g c = let r = c.requires.around in (r.own, r.is_own, r.set_up.fits)
@@ -35,19 +43,27 @@ pub returns-in-Some-clause-pushed : goal.returns-in-Some-clause-pushed
 returns-in-Some-clause-pushed g c =
     let f = pair_with c.args.around.size c.args.here.id c.args.here.rule.now c.args.departure.now in
     on_ok_weaker c.add_pairs.result
-    (λ p. subst (λ held. IsPermutation c.add_pairs.new.fresh.items (c.args.fresh.now.items ++ filter_map f (rules_in held)))
-    (sym (got-held c.args.around.below.now c.args.departure.now.exit.place c.in-Some.there.now (got-some c.args.around.below.now c.args.departure.now.exit.place c.in-Some.there.now c.in-Some.ensures.lookup.3.0 c.in-Some.ensures.lookup.1))) p)
+    (λ p. subst (λ held. IsPermutation c.add_pairs.new.fresh.items
+    (c.args.fresh.now.items ++ filter_map f (rules_in held)))
+    (sym (got-held c.args.around.below.now c.args.departure.now.exit.place c.in-Some.there.now
+    (got-some c.args.around.below.now c.args.departure.now.exit.place c.in-Some.there.now
+    c.in-Some.ensures.lookup.3.0 c.in-Some.ensures.lookup.1))) p)
     c.add_pairs.ensures.pushed
 
 pub returns-in-Some-clause-steps : goal.returns-in-Some-clause-steps
 returns-in-Some-clause-steps g c =
     let q = λ (b : Held Rule). overlaps (asked c.args.here.rule.now.m c.args.departure.now) b.item.m in
     subst (λ held. c.add_pairs.new.steps ≤ c.args.steps.now + count_by q (rules_in held))
-    (sym (got-held c.args.around.below.now c.args.departure.now.exit.place c.in-Some.there.now (got-some c.args.around.below.now c.args.departure.now.exit.place c.in-Some.there.now c.in-Some.ensures.lookup.3.0 c.in-Some.ensures.lookup.1)))
+    (sym (got-held c.args.around.below.now c.args.departure.now.exit.place c.in-Some.there.now
+    (got-some c.args.around.below.now c.args.departure.now.exit.place c.in-Some.there.now
+    c.in-Some.ensures.lookup.3.0 c.in-Some.ensures.lookup.1)))
     c.add_pairs.ensures.steps
 
 pub returns-in-None-clause-pushed : goal.returns-in-None-clause-pushed
 returns-in-None-clause-pushed g c =
     let f = pair_with c.args.around.size c.args.here.id c.args.here.rule.now c.args.departure.now in
-    by-equation _ _ (sym (ap (λ (held : List (Held Made)). c.args.fresh.now.items ++ filter_map f (rules_in held)) (got-none c.args.around.below.now c.args.departure.now.exit.place (got-past c.args.around.below.now c.args.departure.now.exit.place c.in-None.ensures.lookup.3))
+    by-equation _ _
+    (sym (ap (λ (held : List (Held Made)). c.args.fresh.now.items ++ filter_map f (rules_in held))
+    (got-none c.args.around.below.now c.args.departure.now.exit.place
+    (got-past c.args.around.below.now c.args.departure.now.exit.place c.in-None.ensures.lookup.3))
     ∙ append-nil c.args.fresh.now.items))

@@ -17,16 +17,21 @@ add_pair-requires-clause-joins g c =
 pub add_pair-requires-clause-level : goal.add_pair-requires-clause-level
 add_pair-requires-clause-level g c =
     let o = c.requires.own in
-    let b = picked (λ (b : Held Rule). IsAt c.args.size c.args.departure.now.exit.peer.port b.item) (rules_in c.args.there.now.held) c.args.id c.in-Some.rule.now c.requires.arriving (sym c.in-Some.ensures.rule) in
+    let b = picked (λ (b : Held Rule). IsAt c.args.size c.args.departure.now.exit.peer.port b.item)
+    (rules_in c.args.there.now.held) c.args.id c.in-Some.rule.now c.requires.arriving
+    (sym c.in-Some.ensures.rule) in
     pair-level o.0 c.args.size c.args.here.rule.now c.in-Some.rule.now o.1 b.below o.2
 
 pub returns-in-Some-clause-pushed : goal.returns-in-Some-clause-pushed
 returns-in-Some-clause-pushed g c =
     let r = c.requires.leaving in
     on_ok_weaker c.add_pair.result
-    (λ e. pair-pushed r.0 r.1 c.args.departure.now c.args.size c.args.here.id c.args.here.rule.now (rules_in c.args.there.now.held) c.args.id c.in-Some.rule.now c.args.fresh.now.items c.add_pair.new.fresh.items r.2 (sym c.in-Some.ensures.rule) e)
+    (λ e. pair-pushed r.0 r.1 c.args.departure.now c.args.size c.args.here.id c.args.here.rule.now
+    (rules_in c.args.there.now.held) c.args.id c.in-Some.rule.now c.args.fresh.now.items c.add_pair.new.fresh.items
+    r.2 (sym c.in-Some.ensures.rule) e)
     c.add_pair.ensures.pushed
 
 pub returns-in-None-clause-pushed : goal.returns-in-None-clause-pushed
 returns-in-None-clause-pushed g c =
-    nothing-pushed (pair_with c.args.size c.args.here.id c.args.here.rule.now c.args.departure.now) (rules_in c.args.there.now.held) c.args.id c.args.fresh.now.items (sym c.in-None.ensures.rule)
+    nothing-pushed (pair_with c.args.size c.args.here.id c.args.here.rule.now c.args.departure.now)
+    (rules_in c.args.there.now.held) c.args.id c.args.fresh.now.items (sym c.in-None.ensures.rule)

@@ -15,10 +15,15 @@ returns-clause-pushed g c =
     let held = rules_in c.args.there.now.held in
     let a = c.args.here.rule.now in
     let dep = c.args.departure.now in
-    let ids = subst (λ m. IsPermutation c.in_ok-ids.ids.items (map id_of (filter (λ (h : Held Rule). overlaps m h.item.m) held))) c.asked.ensures c.in_ok-ids.ensures.ids in
-    let found = subst (λ z. IsPermutation z (map id_of (filter (λ (h : Held Rule). overlaps (asked a.m dep) h.item.m) held))) (sym c.deref.ensures.value) ids in
+    let ids =
+    subst (λ m. IsPermutation c.in_ok-ids.ids.items
+    (map id_of (filter (λ (h : Held Rule). overlaps m h.item.m) held))) c.asked.ensures c.in_ok-ids.ensures.ids in
+    let found =
+    subst (λ z. IsPermutation z (map id_of (filter (λ (h : Held Rule). overlaps (asked a.m dep) h.item.m) held)))
+    (sym c.deref.ensures.value) ids in
     on_ok_weaker c.add_each_pair.result
-    (λ e. pairs-walked c.args.size c.args.size c.args.here.id a dep held c.deref.result.now c.args.fresh.now.items c.add_each_pair.new.fresh.items c.requires.own.1.normal c.requires.arriving c.in_ok-ids.ensures.rising found e)
+    (λ e. pairs-walked c.args.size c.args.size c.args.here.id a dep held c.deref.result.now c.args.fresh.now.items
+    c.add_each_pair.new.fresh.items c.requires.own.1.normal c.requires.arriving c.in_ok-ids.ensures.rising found e)
     c.add_each_pair.ensures.pushed
 
 pub returns-clause-steps : goal.returns-clause-steps
@@ -26,7 +31,11 @@ returns-clause-steps g c =
     let held = rules_in c.args.there.now.held in
     let a = c.args.here.rule.now in
     let dep = c.args.departure.now in
-    let ids = subst (λ m. IsPermutation c.in_ok-ids.ids.items (map id_of (filter (λ (h : Held Rule). overlaps m h.item.m) held))) c.asked.ensures c.in_ok-ids.ensures.ids in
-    let found = subst (λ z. IsPermutation z (map id_of (filter (λ (h : Held Rule). overlaps (asked a.m dep) h.item.m) held))) (sym c.deref.ensures.value) ids in
+    let ids =
+    subst (λ m. IsPermutation c.in_ok-ids.ids.items
+    (map id_of (filter (λ (h : Held Rule). overlaps m h.item.m) held))) c.asked.ensures c.in_ok-ids.ensures.ids in
+    let found =
+    subst (λ z. IsPermutation z (map id_of (filter (λ (h : Held Rule). overlaps (asked a.m dep) h.item.m) held)))
+    (sym c.deref.ensures.value) ids in
     let n = candidates-count (λ (h : Held Rule). overlaps (asked a.m dep) h.item.m) held c.deref.result.now found in
     subst (λ k. c.add_each_pair.new.steps ≤ c.args.steps.now + k) n c.add_each_pair.ensures.steps

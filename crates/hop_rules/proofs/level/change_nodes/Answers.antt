@@ -24,7 +24,8 @@ loop-place-init g c = record {
 }
 
 pub change_at-requires : goal.change_at-requires
-change_at-requires g c = all-at (IsReadyAt c.args.given.now c.args.below.now) c.args.stands.now no_stand c.requires.ready c.loop-place.place c.loop-place-test.true
+change_at-requires g c = all-at (IsReadyAt c.args.given.now c.args.below.now) c.args.stands.now no_stand
+    c.requires.ready c.loop-place.place c.loop-place-test.true
 
 pub loop-place-preserved : goal.loop-place-preserved
 loop-place-preserved g c =
@@ -41,19 +42,27 @@ loop-place-preserved g c =
     let here : i < length nodes = let n = inv.size in let r = c.requires.count in omega arith in
     let was = next-held first nodes i here node inv.rest c.index-nodes-place.result in
     record {
-      count = let p = ap length c.in_ok-push.ensures.pushed in let q = length-append c.loop-place.tolds (told ∷ []) in let n = inv.count in omega arith;
+      count = let p = ap length c.in_ok-push.ensures.pushed in let q = length-append c.loop-place.tolds (told ∷ []) in
+          let n = inv.count in omega arith;
       size = length-set nodes i node ∙ inv.size;
       rest = rest-more first nodes i here node inv.rest;
       read = read-same nodes i node c.index-nodes-place.result here c.in_ok-told.ensures.read ∙ inv.read;
       made = λ old before ev t.
           made-more first nodes i here node gs old before below stands (inv.made old before ev t)
-          (λ m. c.in_ok-told.ensures.made old before ev (all-at (AreTurnedAt gs before below c.args.turns.now) stands no_stand t i lt) (subst (IsMadeAt old before (stand_at stands i)) (sym was) m));
+          (λ m. c.in_ok-told.ensures.made old before ev
+          (all-at (AreTurnedAt gs before below c.args.turns.now) stands no_stand t i lt)
+          (subst (IsMadeAt old before (stand_at stands i)) (sym was) m));
       told =
-          subst (λ (ts : List Told). (k : ℕ) → k < i + 1 → IsTold (held_at first k) (held_at (set nodes i node) k) (told_at ts k).turn (told_at ts k).left) (sym c.in_ok-push.ensures.pushed)
-          (told-more first nodes i here node c.loop-place.tolds told inv.count inv.told (subst (λ (z : List (Held Made)). IsTold z node.held told.turn told.left) was c.in_ok-told.ensures.told));
+          subst (λ (ts : List Told). (k : ℕ) → k < i + 1
+          → IsTold (held_at first k) (held_at (set nodes i node) k) (told_at ts k).turn (told_at ts k).left)
+          (sym c.in_ok-push.ensures.pushed)
+          (told-more first nodes i here node c.loop-place.tolds told inv.count inv.told
+          (subst (λ (z : List (Held Made)). IsTold z node.held told.turn told.left) was c.in_ok-told.ensures.told));
       steps = λ old ev.
-          steps-more (node_cost gs below c.args.event.now c.args.turns.now) stands i c.args.steps.now c.loop-place.steps c.change_at.new.steps (stand_at stands i) lt
-          (get_or_default stands i no_stand (stand_at stands i) lt) (inv.steps old ev) (c.change_at.ensures.steps old ev);
+          steps-more (node_cost gs below c.args.event.now c.args.turns.now) stands i c.args.steps.now c.loop-place.steps
+          c.change_at.new.steps (stand_at stands i) lt
+          (get_or_default stands i no_stand (stand_at stands i) lt) (inv.steps old ev)
+          (c.change_at.ensures.steps old ev);
     }
 
 pub returns-clause-turned : goal.returns-clause-turned
@@ -78,7 +87,8 @@ pub returns-clause-steps : goal.returns-clause-steps
 returns-clause-steps g c old ev =
     let stands = c.args.stands.now in
     let le : length stands ≤ c.loop-place.place = c.loop-place-test.false in
-    subst (λ (ss : List Stand). c.loop-place.steps ≤ c.args.steps.now + sum_by (node_cost c.args.given.now c.args.below.now c.args.event.now c.args.turns.now) ss)
+    subst (λ (ss : List Stand). c.loop-place.steps ≤ c.args.steps.now + sum_by
+    (node_cost c.args.given.now c.args.below.now c.args.event.now c.args.turns.now) ss)
     (take_all c.loop-place.place stands le) (c.loop-place.invariant.steps old ev)
 
 pub returns-in_err-told-clause-steps : goal.returns-in_err-told-clause-steps
@@ -86,13 +96,17 @@ returns-in_err-told-clause-steps g c old ev =
     let stands = c.args.stands.now in
     let i = c.loop-place.place in
     let lt : i < length stands = c.loop-place-test.true in
-    steps-ended (node_cost c.args.given.now c.args.below.now c.args.event.now c.args.turns.now) stands i c.args.steps.now c.loop-place.steps c.change_at.new.steps (stand_at stands i) lt
-    (get_or_default stands i no_stand (stand_at stands i) lt) (c.loop-place.invariant.steps old ev) (c.change_at.ensures.steps old ev)
+    steps-ended (node_cost c.args.given.now c.args.below.now c.args.event.now c.args.turns.now) stands i
+    c.args.steps.now c.loop-place.steps c.change_at.new.steps (stand_at stands i) lt
+    (get_or_default stands i no_stand (stand_at stands i) lt) (c.loop-place.invariant.steps old ev)
+    (c.change_at.ensures.steps old ev)
 
 pub returns-in_err-push-clause-steps : goal.returns-in_err-push-clause-steps
 returns-in_err-push-clause-steps g c old ev =
     let stands = c.args.stands.now in
     let i = c.loop-place.place in
     let lt : i < length stands = c.loop-place-test.true in
-    steps-ended (node_cost c.args.given.now c.args.below.now c.args.event.now c.args.turns.now) stands i c.args.steps.now c.loop-place.steps c.change_at.new.steps (stand_at stands i) lt
-    (get_or_default stands i no_stand (stand_at stands i) lt) (c.loop-place.invariant.steps old ev) (c.change_at.ensures.steps old ev)
+    steps-ended (node_cost c.args.given.now c.args.below.now c.args.event.now c.args.turns.now) stands i
+    c.args.steps.now c.loop-place.steps c.change_at.new.steps (stand_at stands i) lt
+    (get_or_default stands i no_stand (stand_at stands i) lt) (c.loop-place.invariant.steps old ev)
+    (c.change_at.ensures.steps old ev)

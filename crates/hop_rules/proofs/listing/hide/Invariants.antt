@@ -8,7 +8,8 @@ use Rattle.hop_rules.proofs.listing.hide.Given as goal
 
 abbrev pub invariant-loop-id : goal.invariant-loop-id
 invariant-loop-id l = record {
-  items : (shown : Held Rule → Option Item) → IsNumbered shown → (rules : List (Held Rule)) → IsPermutation l.fn.index.items (filter_map shown rules) →
+  items : (shown : Held Rule → Option Item) → IsNumbered shown → (rules : List (Held Rule))
+      → IsPermutation l.fn.index.items (filter_map shown rules) →
       IsPermutation l.index.items (filter_map shown (filter (is_outside (take l.id-index l.ids)) rules));
   room : l.index.room ≡ l.fn.index.room;
 }

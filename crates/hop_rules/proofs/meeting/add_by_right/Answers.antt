@@ -13,9 +13,11 @@ returns-clause-pushed g c kept listed found =
     let a = c.args.around in
     let given = a.given.now in
     let b : Held Rule = record { id = c.args.there.id; item = c.args.there.rule.now } in
-    let ids = subst (λ z. IsPermutation z (ids_of (is_meeting b.item.m) given.items)) (sym c.deref.ensures.value) c.in_ok-ids.ensures in
+    let ids = subst (λ z. IsPermutation z (ids_of (is_meeting b.item.m) given.items)) (sym c.deref.ensures.value)
+    c.in_ok-ids.ensures in
     on_ok_weaker c.add_each_met.result
-    (λ e. met-walked a.at a.size given.exits c.args.place b c.requires.there c.requires.around.0 given.rules kept c.deref.result.now given.items c.args.fresh.now.items c.add_each_met.new.fresh.items
+    (λ e. met-walked a.at a.size given.exits c.args.place b c.requires.there c.requires.around.0 given.rules kept
+    c.deref.result.now given.items c.args.fresh.now.items c.add_each_met.new.fresh.items
     c.requires.around.1.rules found ids listed e)
     c.add_each_met.ensures.pushed
 
@@ -24,7 +26,9 @@ returns-clause-steps g c kept listed found =
     let a = c.args.around in
     let given = a.given.now in
     let b : Held Rule = record { id = c.args.there.id; item = c.args.there.rule.now } in
-    let ids = subst (λ z. IsPermutation z (ids_of (is_meeting b.item.m) given.items)) (sym c.deref.ensures.value) c.in_ok-ids.ensures in
-    let n = met-count a.at a.size given.exits c.args.place b c.requires.there given.rules kept c.deref.result.now given.items found ids listed in
+    let ids = subst (λ z. IsPermutation z (ids_of (is_meeting b.item.m) given.items)) (sym c.deref.ensures.value)
+    c.in_ok-ids.ensures in
+    let n = met-count a.at a.size given.exits c.args.place b c.requires.there given.rules kept c.deref.result.now
+    given.items found ids listed in
     let s = c.add_each_met.ensures.steps in
     omega arith

@@ -12,7 +12,10 @@ use Rattle.hop_rules.proofs.meeting.add_each_by_right.Given as goal
 abbrev pub invariant-loop-id : goal.invariant-loop-id
 invariant-loop-id g l = record {
   made : (kept : List (Held Rule)) → AreListed l.around.given.now kept → AreFound l.around.given.now.rules kept →
-      IsPermutation l.fresh.items (l.fn.fresh.items ++ made_right l.around.at l.around.size l.around.given.now.exits kept (map (arrival l.place) (under (rules_in l.node.held) (take l.id-index l.come))));
+      IsPermutation l.fresh.items
+      (l.fn.fresh.items ++ made_right l.around.at l.around.size l.around.given.now.exits kept
+      (map (arrival l.place) (under (rules_in l.node.held) (take l.id-index l.come))));
   steps : (kept : List (Held Rule)) → AreListed l.around.given.now kept → AreFound l.around.given.now.rules kept →
-      l.steps ≤ l.fn.steps + right_cost l.around.at l.around.given.now.exits kept (map (arrival l.place) (under (rules_in l.node.held) (take l.id-index l.come)));
+      l.steps ≤ l.fn.steps + right_cost l.around.at l.around.given.now.exits kept
+      (map (arrival l.place) (under (rules_in l.node.held) (take l.id-index l.come)));
 }

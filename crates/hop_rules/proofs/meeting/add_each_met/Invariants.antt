@@ -6,6 +6,10 @@ use Rattle.hop_rules.proofs.meeting.add_each_met.Given as goal
 
 abbrev pub invariant-loop-id : goal.invariant-loop-id
 invariant-loop-id g l = record {
-  made : l.fresh.items ≡ l.fn.fresh.items ++ filter_map (λ h. (hop_way l.around.at l.around.size l.around.given.now.exits).pair h (arrival l.place (record { id = l.there.id; item = l.there.rule.now }))) (under l.around.given.now.rules (take l.id-index l.ids));
-  steps : l.steps ≤ l.fn.steps + count_by (leads_over l.around.at l.around.given.now.exits l.place) (under l.around.given.now.rules (take l.id-index l.ids));
+  made : l.fresh.items ≡ l.fn.fresh.items ++ filter_map
+      (λ h. (hop_way l.around.at l.around.size l.around.given.now.exits).pair h
+      (arrival l.place (record { id = l.there.id; item = l.there.rule.now })))
+      (under l.around.given.now.rules (take l.id-index l.ids));
+  steps : l.steps ≤ l.fn.steps + count_by (leads_over l.around.at l.around.given.now.exits l.place)
+      (under l.around.given.now.rules (take l.id-index l.ids));
 }

@@ -19,5 +19,6 @@ show_all-requires-clause-hidden c =
     let b = c.requires.turned (c.if-not-is_read.false) in
     subst (λ ids. AreHidden c.hide.new.index.items c.args.store.now ids) (sym c.as_slice-2.ensures)
     (found-hidden c.args.index.now.items c.hide.new.index.items c.args.store.now c.args.turn.now b
-    (subst (λ ids. IsPermutation c.hide.new.index.items (filter_map found (filter (is_outside ids) b.before))) c.as_slice.ensures
+    (subst (λ ids. IsPermutation c.hide.new.index.items (filter_map found (filter (is_outside ids) b.before)))
+    c.as_slice.ensures
     (c.hide.ensures.items found found-numbered b.before b.found_are)))

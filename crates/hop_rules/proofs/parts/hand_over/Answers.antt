@@ -11,7 +11,9 @@ use Rattle.hop_rules.proofs.parts.hand_over.Goals as goal
 
 pub turn-requires : goal.turn-requires
 turn-requires c =
-    subst (λ (x : GivenOf). AreListed x x.rules) (sym (get_or_default c.args.given.now c.args.v c.index-given-v.result none_given c.requires.there)) (c.requires.listed c.args.v)
+    subst (λ (x : GivenOf). AreListed x x.rules)
+    (sym (get_or_default c.args.given.now c.args.v c.index-given-v.result none_given c.requires.there))
+    (c.requires.listed c.args.v)
 
 pub returns : goal.returns
 returns c =
@@ -25,6 +27,8 @@ returns c =
     let hands =
     subst (λ (x : GivenOf). Hands x g delta.gone delta.come t) here
     (subst (λ (come : List Rule). Hands was g delta.gone come t) c.as_slice-2.ensures
-    (subst (λ (gone : List Rule). Hands was g gone c.as_slice-2.result.now t) c.as_slice.ensures c.in_ok-turn.ensures.turned)) in
-    subst (λ (s : Turn). IsHandedOver old (set old v g) v delta.gone delta.come (record { v = v; turn = t; still = s })) (sym c.none.ensures)
+    (subst (λ (gone : List Rule). Hands was g gone c.as_slice-2.result.now t) c.as_slice.ensures
+    c.in_ok-turn.ensures.turned)) in
+    subst (λ (s : Turn). IsHandedOver old (set old v g) v delta.gone delta.come (record { v = v; turn = t; still = s }))
+    (sym c.none.ensures)
     (hands-over old v g c.requires.there c.requires.listed c.requires.rising delta.gone delta.come t hands)

@@ -16,6 +16,9 @@ returns c =
     let nodes : c.as_slice-nodes.result.now ≡ level.nodes = c.as_slice-nodes.ensures in
     let at = ap (λ (ss : List Stand). (stand_at ss n).at) stands in
     let held =
-    ap (λ (m : NodeOf). m.held) (c.index-nodes-number.is ∙ ap (λ (ns : List NodeOf). get_or ns n c.index-nodes-number.result) nodes ∙ get_or_default level.nodes n c.index-nodes-number.result no_node c.requires.nodes)
+    ap (λ (m : NodeOf). m.held) (c.index-nodes-number.is
+    ∙ ap (λ (ns : List NodeOf). get_or ns n c.index-nodes-number.result) nodes
+    ∙ get_or_default level.nodes n c.index-nodes-number.result no_node c.requires.nodes)
     ∙ sym (held-is level.nodes n) in
-    on_ok_weaker c.add_delta.result (λ e. e ∙ (λ i. c.args.deltas.now ++ delta_if (at i) (held i) c.args.told)) c.add_delta.ensures
+    on_ok_weaker c.add_delta.result (λ e. e ∙ (λ i. c.args.deltas.now ++ delta_if (at i) (held i) c.args.told))
+    c.add_delta.ensures

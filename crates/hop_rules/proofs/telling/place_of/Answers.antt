@@ -12,5 +12,6 @@ returns-clause-none c d =
     let n = length-map stands (λ (s : Stand). s.at) in
     let lt = d.1 in
     let le = c.loop-place-test.false in
-    let at = sym (map-at (λ (s : Stand). s.at) no_stand stands d.0) ∙ get_or_default (map (λ (s : Stand). s.at) stands) d.0 no_place c.args.at lt ∙ d.2 in
+    let at = sym (map-at (λ (s : Stand). s.at) no_stand stands d.0)
+    ∙ get_or_default (map (λ (s : Stand). s.at) stands) d.0 no_place c.args.at lt ∙ d.2 in
     c.loop-place.invariant d.0 (omega arith) at

@@ -16,6 +16,7 @@ loop-told-preserved c =
       number = let l = length_push c.loop-told.yielded told in let i = inv.number in omega arith;
       left = let s = c.in-Some.ensures.steps.1 in let i = inv.left in omega arith;
       deltas =
-          c.in_ok-add_delta_at.ensures ∙ ap (λ z. z ++ delta_if (stand_at level.stands n).at (held_at level.nodes n) told) inv.deltas
+          c.in_ok-add_delta_at.ensures
+          ∙ ap (λ z. z ++ delta_if (stand_at level.stands n).at (held_at level.nodes n) told) inv.deltas
           ∙ sym (deltas-push level.stands level.nodes c.loop-told.yielded told 0 n (let i = inv.number in omega arith));
     }

@@ -10,5 +10,6 @@ pub returns : goal.returns
 returns c =
     let held = rules_in c.args.node.now.held in
     IfOk-weaker c.rules_under.result _ _
-    (λ rules e. e ∙ ap (map item_of) (ap (under held) (c.deref.ensures.value ∙ c.in_ok-ids.ensures.ids) ∙ under-itself held c.in_ok-ids.ensures.rising))
+    (λ rules e. e ∙ ap (map item_of) (ap (under held) (c.deref.ensures.value ∙ c.in_ok-ids.ensures.ids)
+    ∙ under-itself held c.in_ok-ids.ensures.rising))
     c.rules_under.ensures

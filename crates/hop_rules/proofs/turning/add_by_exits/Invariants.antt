@@ -11,7 +11,10 @@ use Rattle.hop_rules.proofs.turning.add_by_exits.Given as goal
 abbrev pub invariant-loop-exit : goal.invariant-loop-exit
 invariant-loop-exit g l = record {
   made : (kept : List (Held Rule)) → AreListed l.around.given.now kept → AreFound l.around.given.now.rules kept →
-      IsPermutation l.fresh.items (l.fn.fresh.items ++ made_right l.around.at l.around.size l.around.given.now.exits kept (came_there l.around.below.now l.turns (take l.exit-index l.exits)));
+      IsPermutation l.fresh.items
+      (l.fn.fresh.items ++ made_right l.around.at l.around.size l.around.given.now.exits kept
+      (came_there l.around.below.now l.turns (take l.exit-index l.exits)));
   steps : (kept : List (Held Rule)) → AreListed l.around.given.now kept → AreFound l.around.given.now.rules kept →
-      l.steps ≤ l.fn.steps + right_cost l.around.at l.around.given.now.exits kept (came_there l.around.below.now l.turns (take l.exit-index l.exits));
+      l.steps ≤ l.fn.steps + right_cost l.around.at l.around.given.now.exits kept
+      (came_there l.around.below.now l.turns (take l.exit-index l.exits));
 }

@@ -21,8 +21,10 @@ returns-clause-made g c kept l f =
     let es = a.given.now.exits in
     let left = made_left a.at a.size es (arrivals a.below.now es) (under a.given.now.rules c.args.come.now) in
     let right = λ (xs : List Exit). made_right a.at a.size es kept (came_there a.below.now c.args.turns.now xs) in
-    let first = subst (λ (z : List Made). IsPermutation c.add_all_by_left.new.fresh.items (z ++ left)) c.new-fresh.ensures.items c.in_ok-add_all_by_left.ensures.pushed in
-    let both = IsPermutation-trans _ _ _ (c.in_ok-add_by_exits.ensures.pushed kept l f) (IsPermutation-append_left (right c.exits.result.now) _ _ first) in
+    let first = subst (λ (z : List Made). IsPermutation c.add_all_by_left.new.fresh.items (z ++ left))
+    c.new-fresh.ensures.items c.in_ok-add_all_by_left.ensures.pushed in
+    let both = IsPermutation-trans _ _ _ (c.in_ok-add_by_exits.ensures.pushed kept l f)
+    (IsPermutation-append_left (right c.exits.result.now) _ _ first) in
     subst (λ xs. IsPermutation c.add_by_exits.new.fresh.items (left ++ right xs)) c.exits.ensures both
 
 pub returns-clause-steps : goal.returns-clause-steps
@@ -31,7 +33,8 @@ returns-clause-steps g c kept l f =
     let es = a.given.now.exits in
     let s = c.add_all_by_left.ensures.steps in
     let t = c.add_by_exits.ensures.steps kept l f in
-    let e = ap (λ (xs : List Exit). right_cost a.at es kept (came_there a.below.now c.args.turns.now xs)) c.exits.ensures in
+    let e = ap (λ (xs : List Exit). right_cost a.at es kept (came_there a.below.now c.args.turns.now xs))
+    c.exits.ensures in
     omega arith
 
 pub returns-in_err-add_by_exits-clause-steps : goal.returns-in_err-add_by_exits-clause-steps
@@ -40,7 +43,8 @@ returns-in_err-add_by_exits-clause-steps g c kept l f =
     let es = a.given.now.exits in
     let s = c.add_all_by_left.ensures.steps in
     let t = c.add_by_exits.ensures.steps kept l f in
-    let e = ap (λ (xs : List Exit). right_cost a.at es kept (came_there a.below.now c.args.turns.now xs)) c.exits.ensures in
+    let e = ap (λ (xs : List Exit). right_cost a.at es kept (came_there a.below.now c.args.turns.now xs))
+    c.exits.ensures in
     omega arith
 
 pub returns-in_err-add_all_by_left-clause-steps : goal.returns-in_err-add_all_by_left-clause-steps

@@ -3,15 +3,16 @@ use Rattle.std.proofs.lemmas.Result.{IfOk-weaker}
 use Rattle.std.specs.Prelude.{IfSome}
 use Rattle.machine_meaning.specs.Phases.{settled_of}
 use Rattle.machine_meaning.specs.States.{State}
-use Rattle.hyper_core.proofs.Attempts.{in_ok_case, numbers_kept, put_at}
-use Rattle.machine_drafts.specs.Closings.{closing_of}
-use Rattle.hyper_core.specs.Costs.{is_replaced, kept_steps, turning_steps}
-use Rattle.hyper_core.specs.Kept.{IsBegun, IsComposedOf}
+use Rattle.hyper_core.proofs.Attempts.{numbers_kept, put_at}
+use Rattle.event_composes.proofs.Cases.{in_ok_case}
+use Rattle.event_ends.specs.Closings.{closing_of}
+use Rattle.event_composes.specs.Costs.{is_replaced, kept_steps, turning_steps}
+use Rattle.event_composes.specs.Kept.{IsBegun, IsComposedOf}
 use Rattle.machine_drafts.specs.Moments.{moment_of}
-use Rattle.machine_drafts.specs.Overtaking.{IsHeardOf}
-use Rattle.machine_drafts.specs.Puts.{HaveNumbers}
-use Rattle.hyper_core.specs.Settled.{IsSettledState}
-use Rattle.hyper_core.proofs.Bounds.{no_more}
+use Rattle.event_acts.specs.Overtaking.{IsHeardOf}
+use Rattle.machine_drafts.specs.Outcomes.{HaveNumbers}
+use Rattle.event_composes.specs.Settled.{IsSettledState}
+use Rattle.event_composes.proofs.Bounds.{no_more}
 use Rattle.hyper_core.proofs.drafting.attempt.Goals as goal
 
 pub judge_event-requires : goal.judge_event-requires
@@ -60,7 +61,8 @@ returns-clause-kept g c =
     in_ok_case c.put.result
     (subst
     (λ (s : State). IfSome c.draft.new.composed
-    (IsComposedOf c.args.setup.now (settled_of c.args.setup.now s c.args.event.now (closing_of c.args.closing.now)).state))
+    (IsComposedOf c.args.setup.now
+    (settled_of c.args.setup.now s c.args.event.now (closing_of c.args.closing.now)).state))
     c.judge_event.ensures.state c.in_ok-drafted.ensures.kept)
 
 pub returns-clause-state : goal.returns-clause-state

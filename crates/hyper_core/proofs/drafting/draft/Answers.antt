@@ -1,21 +1,21 @@
 use Rattle.std.proofs.Common.{◌≡◌, ◌∙◌, ℕ, ◌+◌, ◌≤◌, refl, sym, ap, subst}
 use Rattle.std.specs.Prelude.{IfSome}
-use Rattle.machine_drafts.proofs.Acted.{fresh_begun, judged_begun, nothing_sent}
-use Rattle.hyper_core.specs.Costs.{is_replaced, kept_steps}
+use Rattle.event_acts.proofs.Acted.{fresh_begun, judged_begun, nothing_sent}
+use Rattle.event_composes.specs.Costs.{is_replaced, kept_steps}
 use Rattle.hyper_core.specs.Drafting.{settled_from}
-use Rattle.hyper_core.specs.Kept.{IsComposedOf}
-use Rattle.hyper_core.specs.Settled.{WasSettled}
+use Rattle.event_composes.specs.Kept.{IsComposedOf}
+use Rattle.event_composes.specs.Settled.{WasSettled}
 use Rattle.hyper_core.proofs.Attempts.{numbers_kept}
-use Rattle.hyper_core.proofs.Bounds.{drafted_steps, no_more}
-use Rattle.hyper_core.proofs.KeptOn.{all_settled, kept_settled}
+use Rattle.event_composes.proofs.Bounds.{drafted_steps, no_more}
+use Rattle.event_composes.proofs.KeptOn.{all_settled, kept_settled}
 use Rattle.hyper_core.proofs.Overtaken.{heard_at}
-use Rattle.hyper_core.proofs.Phased.{moment_again, stands_before, timely_begun}
-use Rattle.machine_drafts.specs.Closings.{closing_of}
+use Rattle.event_composes.proofs.Phased.{moment_again, stands_before, timely_begun}
+use Rattle.event_ends.specs.Closings.{closing_of}
 use Rattle.machine_drafts.specs.Machines.{at_moment, bases_of, state_in_held}
 use Rattle.machine_drafts.specs.Moments.{IsOfEvent, moment_of}
 use Rattle.machine_drafts.specs.Outcomes.{AreTimely, IsBefore, bases, draft_in}
-use Rattle.machine_drafts.specs.Overtaking.{IsHeardOf}
-use Rattle.machine_drafts.specs.Puts.{HaveNumbers}
+use Rattle.event_acts.specs.Overtaking.{IsHeardOf}
+use Rattle.machine_drafts.specs.Outcomes.{HaveNumbers}
 use Rattle.machine_meaning.specs.Composing.{compose}
 use Rattle.machine_meaning.specs.Drafts.{Draft, untouched}
 use Rattle.machine_meaning.specs.Phases.{settled_of}

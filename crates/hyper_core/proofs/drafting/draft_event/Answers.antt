@@ -6,18 +6,18 @@ use Rattle.composed_tables.specs.Composing.{ComposedOf}
 use Rattle.machine_meaning.specs.Rounds.{Closing}
 use Rattle.machine_meaning.specs.Phases.{settled_of}
 use Rattle.machine_meaning.specs.States.{State}
-use Rattle.hyper_core.specs.Costs.{first_steps, is_replaced, kept_steps, turning_steps}
-use Rattle.hyper_core.proofs.Bounds.{begun_rest, begun_steps, none_more, none_replaced, none_slow}
-use Rattle.hyper_core.proofs.Bounds.{slow_some, tried, tried_at}
+use Rattle.event_composes.specs.Costs.{first_steps, is_replaced, kept_steps, turning_steps}
+use Rattle.event_composes.proofs.Bounds.{begun_rest, begun_steps, none_more, none_replaced, none_slow}
+use Rattle.event_composes.proofs.Bounds.{slow_some, tried, tried_at}
 use Rattle.hyper_core.proofs.Attempts.{all_drafted, drafted_anew, kept_drafted, numbers_kept}
-use Rattle.machine_drafts.specs.Closings.{closing_of}
+use Rattle.event_ends.specs.Closings.{closing_of}
 use Rattle.hyper_core.specs.Drafting.{IsPutOf}
-use Rattle.hyper_core.specs.Kept.{IsBegun, IsComposedOf}
+use Rattle.event_composes.specs.Kept.{IsBegun, IsComposedOf}
 use Rattle.machine_drafts.specs.Machines.{state_in_held}
 use Rattle.machine_drafts.specs.Moments.{moment_of}
-use Rattle.machine_drafts.specs.Overtaking.{IsHeardOf}
+use Rattle.event_acts.specs.Overtaking.{IsHeardOf}
 use Rattle.machine_meaning.specs.Phases.{slow_from}
-use Rattle.hyper_core.specs.Settled.{IsSettledState}
+use Rattle.event_composes.specs.Settled.{IsSettledState}
 use Rattle.hyper_core.proofs.drafting.draft_event.Goals as goal
 
 pub attempt-requires-clause-numbers : goal.attempt-requires-clause-numbers

@@ -1,8 +1,8 @@
 use Rattle.std.proofs.Common.{◌≡◌, ◌+◌, ◌≤◌, true}
 use Rattle.std.specs.Prelude.{IfSome, is_some}
-use Rattle.machine_drafts.specs.Closings.{closing_of}
-use Rattle.hyper_core.specs.Costs.{first_steps, kept_steps}
-use Rattle.hyper_core.specs.Kept.{IsBegun}
+use Rattle.event_ends.specs.Closings.{closing_of}
+use Rattle.event_composes.specs.Costs.{first_steps, kept_steps}
+use Rattle.event_composes.specs.Kept.{IsBegun}
 use Rattle.machine_drafts.specs.Machines.{state_in_held}
 use Rattle.machine_meaning.specs.Phases.{is_empty, nobody, slow, slow_from}
 use Rattle.hyper_core.proofs.drafting.draft_event.Given as goal

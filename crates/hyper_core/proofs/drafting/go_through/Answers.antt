@@ -1,13 +1,13 @@
 use Rattle.std.proofs.Common.{◌≡◌, ◌∙◌, ◌+◌, ◌≤◌, refl, sym, ap, subst}
 use Rattle.std.specs.Prelude.{IfSome}
-use Rattle.machine_drafts.proofs.Acted.{sendable_after}
-use Rattle.hyper_core.specs.Costs.{is_replaced, kept_steps, turning_from}
+use Rattle.event_acts.proofs.Acted.{sendable_after}
+use Rattle.event_composes.specs.Costs.{is_replaced, kept_steps, turning_from}
 use Rattle.hyper_core.specs.Drafting.{settled_from}
-use Rattle.hyper_core.specs.Kept.{IsComposedOf, IsKeptBy}
-use Rattle.hyper_core.specs.Settled.{WasSettled}
-use Rattle.hyper_core.proofs.Bounds.{no_more}
-use Rattle.hyper_core.proofs.Phased.{few_of}
-use Rattle.machine_drafts.specs.Closings.{closing_of}
+use Rattle.event_composes.specs.Kept.{IsComposedOf, IsKeptBy}
+use Rattle.event_composes.specs.Settled.{WasSettled}
+use Rattle.event_composes.proofs.Bounds.{no_more}
+use Rattle.event_composes.proofs.Phased.{few_of}
+use Rattle.event_ends.specs.Closings.{closing_of}
 use Rattle.machine_drafts.specs.Outcomes.{AreTimely, Bases, IsBefore, bases, draft_in}
 use Rattle.machine_meaning.specs.Composing.{compose}
 use Rattle.machine_meaning.specs.Drafts.{Draft}

@@ -1,4 +1,4 @@
-use Rattle.hyper_core.proofs.Meanings.{meanings_are_states}
+use Rattle.event_composes.proofs.Meanings.{meanings_are_states}
 use Rattle.hyper_core.proofs.machine.meanings_are_states.Goals as goal
 
 pub returns : goal.returns

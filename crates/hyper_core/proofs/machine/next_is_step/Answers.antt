@@ -1,4 +1,4 @@
-use Rattle.hyper_core.proofs.Meanings.{next_is_step}
+use Rattle.event_composes.proofs.Meanings.{next_is_step}
 use Rattle.hyper_core.proofs.machine.next_is_step.Goals as goal
 
 pub returns : goal.returns

@@ -4,7 +4,7 @@ use Rattle.std.proofs.lemmas.Option.{slice_get-map}
 use Rattle.stats_map.specs.Told.{told}
 use Rattle.waitings.specs.declared.state.Waiting.{Waiting}
 use Rattle.hyper_core.proofs.Overtaken.{heard_there, last_there}
-use Rattle.machine_drafts.specs.CookieCounts.{counts_in}
+use Rattle.event_acts.specs.CookieCounts.{counts_in}
 use Rattle.machine_drafts.specs.Machines.{state_in_held}
 use Rattle.machine_drafts.specs.Views.{switch_of}
 use Rattle.hyper_core.proofs.overtaking.hear_switch.Goals as goal

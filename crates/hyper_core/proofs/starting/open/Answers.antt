@@ -11,9 +11,9 @@ use Rattle.machine_meaning.proofs.Opening.{opening_sound}
 use Rattle.machine_drafts.specs.Machines.{HasBits}
 use Rattle.machine_drafts.specs.Views.{member_of, standing_of, switch_of}
 use Rattle.hyper_core.proofs.Opened.{all_bits, as_many}
-use Rattle.machine_drafts.proofs.Puts.{state_same}
-use Rattle.hyper_core.proofs.StaysSettled.{opening_settled}
-use Rattle.hyper_core.specs.Settled.{IsSettledState}
+use Rattle.machine_drafts.proofs.SameStates.{state_same}
+use Rattle.event_composes.proofs.StaysSettled.{opening_settled}
+use Rattle.event_composes.specs.Settled.{IsSettledState}
 use Rattle.hyper_core.proofs.starting.open.Goals as goal
 
 pub new_members-requires : goal.new_members-requires

@@ -2,10 +2,10 @@ use Rattle.std.proofs.Common.{◌∙◌, ap, subst, sym}
 use Rattle.stats_map.specs.Told.{HeldOf}
 use Rattle.machine_drafts.specs.Machines.{state_in_held}
 use Rattle.hyper_core.proofs.Attempts.{drafted_done, drafted_moves, has_all_kept, has_all_moved, held_with}
-use Rattle.hyper_core.proofs.Attempts.{in_any_case}
-use Rattle.hyper_core.proofs.KeptOn.{kept_done}
+use Rattle.event_composes.proofs.Cases.{in_any_case}
+use Rattle.event_composes.proofs.KeptOn.{kept_done}
 use Rattle.hyper_core.proofs.Stepped.{settled_done}
-use Rattle.hyper_core.specs.Settled.{IsSettledState}
+use Rattle.event_composes.specs.Settled.{IsSettledState}
 use Rattle.hyper_core.proofs.stepping.drive.Goals as goal
 
 pub draft_event-requires-clause-whole : goal.draft_event-requires-clause-whole

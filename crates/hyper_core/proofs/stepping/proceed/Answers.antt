@@ -4,14 +4,15 @@ use Rattle.machine_meaning.specs.Phases.{drafted}
 use Rattle.machine_meaning.specs.States.{State}
 use Rattle.machine_meaning.specs.Steps.{done, step_of}
 use Rattle.events.specs.declared.event.Reply.{Reply}
-use Rattle.hyper_core.proofs.Attempts.{has_all_kept, in_ok_case}
-use Rattle.hyper_core.proofs.Bounds.{followed, followed_wanting, no_more, whole, whole_wanting}
-use Rattle.hyper_core.proofs.KeptOn.{begun_kept, kept_none, sound_stepped}
+use Rattle.hyper_core.proofs.Attempts.{has_all_kept}
+use Rattle.event_composes.proofs.Cases.{in_ok_case}
+use Rattle.event_composes.proofs.Bounds.{followed, followed_wanting, no_more, whole, whole_wanting}
+use Rattle.event_composes.proofs.KeptOn.{begun_kept, kept_none, sound_stepped}
 use Rattle.hyper_core.proofs.Stepped.{has_all_counted, settled_counted, step_other, taken_back}
-use Rattle.hyper_core.specs.Costs.{is_followed}
-use Rattle.hyper_core.specs.Kept.{IsKept, IsSoundWhile}
+use Rattle.event_composes.specs.Costs.{is_followed}
+use Rattle.event_composes.specs.Kept.{IsKept, IsSoundWhile}
 use Rattle.machine_drafts.specs.Machines.{state_in_held}
-use Rattle.hyper_core.specs.Settled.{IsSettledState}
+use Rattle.event_composes.specs.Settled.{IsSettledState}
 use Rattle.machine_drafts.specs.declared.held.Held.{Held}
 use Rattle.hyper_core.proofs.stepping.proceed.Goals as goal
 
@@ -47,7 +48,8 @@ keep-requires-clause-sound g c ks lives =
     (step_other p s e c.requires.changes c.requires.drafted
     ∙ sym (c.in-Ok.ensures.done ∙ ap (λ (z : State). done p (drafted p z e)) c.in_ok-overtaken.ensures.heard)) in
     subst (IsSoundWhile p) is
-    (sound_stepped c.soundness_is_kept.ensures p c.policy-policy.ensures.sound s c.cookie_fits.ensures e c.requires.given
+    (sound_stepped c.soundness_is_kept.ensures p c.policy-policy.ensures.sound s c.cookie_fits.ensures e
+    c.requires.given
     c.requires.kept.sound)
 
 pub keep-requires-clause-followed : goal.keep-requires-clause-followed
@@ -86,7 +88,8 @@ returns-in-Err-clause-all g c =
     has_all_kept c.args.setup.now c.args.held.now (record c.drive.new.held { counts = c.take_back.new.counts })
     c.requires.all
     (taken_back c.args.held.now c.hear.new.held c.drive.new.held c.take_back.new.counts
-    c.in_ok-overtaken.overtaken.switch (reverse c.in_ok-overtaken.overtaken.exchanged) c.in_ok-overtaken.ensures.rest c.in_ok-overtaken.ensures.back
+    c.in_ok-overtaken.overtaken.switch (reverse c.in_ok-overtaken.overtaken.exchanged) c.in_ok-overtaken.ensures.rest
+    c.in_ok-overtaken.ensures.back
     c.in-Err.ensures.memory c.take_back.ensures)
 
 pub returns-in-Err-clause-kept : goal.returns-in-Err-clause-kept
@@ -102,7 +105,8 @@ returns-in-Err-clause-kept g c =
 pub returns-in-Err-clause-memory : goal.returns-in-Err-clause-memory
 returns-in-Err-clause-memory g c =
     taken_back c.args.held.now c.hear.new.held c.drive.new.held c.take_back.new.counts
-    c.in_ok-overtaken.overtaken.switch (reverse c.in_ok-overtaken.overtaken.exchanged) c.in_ok-overtaken.ensures.rest c.in_ok-overtaken.ensures.back
+    c.in_ok-overtaken.overtaken.switch (reverse c.in_ok-overtaken.overtaken.exchanged) c.in_ok-overtaken.ensures.rest
+    c.in_ok-overtaken.ensures.back
     c.in-Err.ensures.memory c.take_back.ensures
 
 pub returns-in-Ok-clause-cost : goal.returns-in-Ok-clause-cost

@@ -1,8 +1,8 @@
-use Rattle.std.proofs.Common.{◌≡◌, ◌∙◌, ◌+◌, ◌≤◌, ℕ, true, subst, sym}
+use Rattle.std.proofs.Common.{◌∙◌, ◌+◌, ◌≤◌, ℕ, true, subst, sym}
 use Rattle.machine_drafts.specs.Machines.{state_in_held}
 use Rattle.machine_meaning.specs.Hearing.{heard}
-use Rattle.hyper_core.specs.Costs.{followed_cost, is_followed, whole_cost}
-use Rattle.hyper_core.proofs.Bounds.{no_more, not_still}
+use Rattle.event_composes.specs.Costs.{followed_cost, is_followed, whole_cost}
+use Rattle.event_composes.proofs.Bounds.{no_more, not_still}
 use Rattle.hyper_core.proofs.Stepped.{kept_left, settled_taken}
 use Rattle.hyper_core.proofs.stepping.step.Goals as goal
 

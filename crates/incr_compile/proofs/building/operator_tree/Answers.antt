@@ -11,7 +11,8 @@ use Rattle.incr_compile.proofs.building.operator_tree.Goals as goal
 pub of-requires : goal.of-requires
 of-requires g c =
     let left = c.made.ensures ∙ ap (λ (z : Tree). made_in (tree_of z)) (c.deref.ensures ∙ c.in_ok-left.ensures.ok) in
-    let right = c.made-2.ensures ∙ ap (λ (z : Tree). made_in (tree_of z)) (c.deref-2.ensures ∙ c.in_ok-right.ensures.ok) in (
+    let right = c.made-2.ensures ∙ ap (λ (z : Tree). made_in (tree_of z))
+    (c.deref-2.ensures ∙ c.in_ok-right.ensures.ok) in (
       search sendable,
       subst (λ z. CanJoin c.args.op c.args.size z c.made-2.result.now) (sym left)
           (subst (λ z. CanJoin c.args.op c.args.size (made_in (tree_of c.args.left)) z) (sym right)
@@ -21,7 +22,8 @@ of-requires g c =
 pub returns-clause-over : goal.returns-clause-over
 returns-clause-over g c =
     let left = c.made.ensures ∙ ap (λ (z : Tree). made_in (tree_of z)) (c.deref.ensures ∙ c.in_ok-left.ensures.ok) in
-    let right = c.made-2.ensures ∙ ap (λ (z : Tree). made_in (tree_of z)) (c.deref-2.ensures ∙ c.in_ok-right.ensures.ok) in
+    let right = c.made-2.ensures ∙ ap (λ (z : Tree). made_in (tree_of z))
+    (c.deref-2.ensures ∙ c.in_ok-right.ensures.ok) in
     let node = node_of c.in_ok-node.node in
     over-is c.args.op c.args.size (tree_of c.args.left) (tree_of c.args.right) node _ c.requires
     c.in_ok-node.ensures.op c.in_ok-node.ensures.size

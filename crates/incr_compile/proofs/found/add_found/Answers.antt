@@ -13,8 +13,10 @@ use Rattle.incr_compile.proofs.found.add_found.Goals as goal
 
 pub add_by_left-requires-clause-level : goal.add_by_left-requires-clause-level
 add_by_left-requires-clause-level g c =
-    found-all (λ (b : Held Rule). joined_level c.args.op c.args.a.now.item.level b.item.level c.args.size < 2 ^ 64) _ (rules_in c.args.right.now) c.deref.result.now
-    (read-rules (λ (b : Held Rule). could_meet c.args.op c.args.a.now.item b.item) c.args.right.now c.args.ids.now c.deref.result.now c.requires.found (λ hs rest e s. c.deref.ensures.value ∙ c.in_ok-rights.ensures hs rest e s))
+    found-all (λ (b : Held Rule). joined_level c.args.op c.args.a.now.item.level b.item.level c.args.size < 2 ^ 64) _
+    (rules_in c.args.right.now) c.deref.result.now
+    (read-rules (λ (b : Held Rule). could_meet c.args.op c.args.a.now.item b.item) c.args.right.now c.args.ids.now
+    c.deref.result.now c.requires.found (λ hs rest e s. c.deref.ensures.value ∙ c.in_ok-rights.ensures hs rest e s))
     c.requires.level
 
 pub returns-clause-made : goal.returns-clause-made
@@ -22,13 +24,18 @@ returns-clause-made g c =
     on_ok_weaker c.add_by_left.result
     (λ e. IsPermutation-trans _ _ _ (by-equation _ _ e)
     (IsPermutation-append_right c.args.fresh.now.items _ _
-    (enough-rights c.args.op c.args.size c.args.a.now (rules_in c.args.right.now) c.deref.result.now c.requires.sound c.requires.sound_rights
-    (read-rules (λ (b : Held Rule). could_meet c.args.op c.args.a.now.item b.item) c.args.right.now c.args.ids.now c.deref.result.now c.requires.found (λ hs rest e s. c.deref.ensures.value ∙ c.in_ok-rights.ensures hs rest e s)))))
+    (enough-rights c.args.op c.args.size c.args.a.now (rules_in c.args.right.now) c.deref.result.now c.requires.sound
+    c.requires.sound_rights
+    (read-rules (λ (b : Held Rule). could_meet c.args.op c.args.a.now.item b.item) c.args.right.now c.args.ids.now
+    c.deref.result.now c.requires.found (λ hs rest e s. c.deref.ensures.value
+    ∙ c.in_ok-rights.ensures hs rest e s)))))
     c.add_by_left.ensures.made
 
 pub returns-clause-steps : goal.returns-clause-steps
 returns-clause-steps g c =
     let s = c.add_by_left.ensures.steps in
     let n = found-count _ (rules_in c.args.right.now) c.deref.result.now
-    (read-rules (λ (b : Held Rule). could_meet c.args.op c.args.a.now.item b.item) c.args.right.now c.args.ids.now c.deref.result.now c.requires.found (λ hs rest e s. c.deref.ensures.value ∙ c.in_ok-rights.ensures hs rest e s)) in
+    (read-rules (λ (b : Held Rule). could_meet c.args.op c.args.a.now.item b.item) c.args.right.now c.args.ids.now
+    c.deref.result.now c.requires.found (λ hs rest e s. c.deref.ensures.value ∙ c.in_ok-rights.ensures hs rest e s))
+    in
     omega arith

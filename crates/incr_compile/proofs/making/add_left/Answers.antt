@@ -12,8 +12,10 @@ use Rattle.incr_compile.proofs.making.add_left.Goals as goal
 
 pub add_by_left-requires-clause-level : goal.add_by_left-requires-clause-level
 add_by_left-requires-clause-level g c =
-    found-all (λ (b : Held Rule). joined_level c.args.op c.args.a.now.item.level b.item.level c.args.size < 2 ^ 64) _ (rules_in c.args.right.now) c.deref.result.now
-    (reach-found c.args.op c.reach.result c.a.inside.rule.now c.args.a.now (rules_in c.args.right.now) c.in_ok-rights.rights.items c.deref.result.now c.reach.ensures (ap (λ (h : Held Rule). h.item) c.a.view_is)
+    found-all (λ (b : Held Rule). joined_level c.args.op c.args.a.now.item.level b.item.level c.args.size < 2 ^ 64) _
+    (rules_in c.args.right.now) c.deref.result.now
+    (reach-found c.args.op c.reach.result c.a.inside.rule.now c.args.a.now (rules_in c.args.right.now)
+    c.in_ok-rights.rights.items c.deref.result.now c.reach.ensures (ap (λ (h : Held Rule). h.item) c.a.view_is)
     (c.in_ok-rights.ensures (asked c.args.op) c.requires.shown) c.deref.ensures.value)
     c.requires.level
 
@@ -22,8 +24,10 @@ returns-clause-made g c =
     on_ok_weaker c.add_by_left.result
     (λ e. IsPermutation-trans _ _ _ (by-equation _ _ e)
     (IsPermutation-append_right c.args.fresh.now.items _ _
-    (enough-rights c.args.op c.args.size c.args.a.now (rules_in c.args.right.now) c.deref.result.now c.requires.sound c.requires.sound_rights
-    (reach-found c.args.op c.reach.result c.a.inside.rule.now c.args.a.now (rules_in c.args.right.now) c.in_ok-rights.rights.items c.deref.result.now c.reach.ensures (ap (λ (h : Held Rule). h.item) c.a.view_is)
+    (enough-rights c.args.op c.args.size c.args.a.now (rules_in c.args.right.now) c.deref.result.now c.requires.sound
+    c.requires.sound_rights
+    (reach-found c.args.op c.reach.result c.a.inside.rule.now c.args.a.now (rules_in c.args.right.now)
+    c.in_ok-rights.rights.items c.deref.result.now c.reach.ensures (ap (λ (h : Held Rule). h.item) c.a.view_is)
     (c.in_ok-rights.ensures (asked c.args.op) c.requires.shown) c.deref.ensures.value))))
     c.add_by_left.ensures.made
 
@@ -31,6 +35,7 @@ pub returns-clause-steps : goal.returns-clause-steps
 returns-clause-steps g c =
     let s = c.add_by_left.ensures.steps in
     let n = found-count _ (rules_in c.args.right.now) c.deref.result.now
-    (reach-found c.args.op c.reach.result c.a.inside.rule.now c.args.a.now (rules_in c.args.right.now) c.in_ok-rights.rights.items c.deref.result.now c.reach.ensures (ap (λ (h : Held Rule). h.item) c.a.view_is)
+    (reach-found c.args.op c.reach.result c.a.inside.rule.now c.args.a.now (rules_in c.args.right.now)
+    c.in_ok-rights.rights.items c.deref.result.now c.reach.ensures (ap (λ (h : Held Rule). h.item) c.a.view_is)
     (c.in_ok-rights.ensures (asked c.args.op) c.requires.shown) c.deref.ensures.value) in
     omega arith

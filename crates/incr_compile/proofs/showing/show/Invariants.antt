@@ -13,5 +13,7 @@ invariant-loop-id l = record {
   room : length l.ids ≤ l.index.room + l.id-index;
   clear : AreClear (drop l.id-index l.ids) l.index.items;
   once : IsDistinct ◌==◌ (drop l.id-index l.ids);
-  shows : (items rest : List (Held Made)) → map id_of items ≡ l.ids → IsPermutation l.store (items ++ rest) → l.index.items ≡ l.fn.index.items ++ filter_map (shown (shown_as l.op l.side)) (rules_in (take l.id-index items));
+  shows : (items rest : List (Held Made)) → map id_of items ≡ l.ids → IsPermutation l.store (items ++ rest)
+      → l.index.items ≡ l.fn.index.items ++ filter_map (shown (shown_as l.op l.side))
+      (rules_in (take l.id-index items));
 }

@@ -7,5 +7,7 @@ use Rattle.incr_compile.proofs.telling.tell.Goals as goal
 
 pub returns-clause-come : goal.returns-clause-come
 returns-clause-come c before lost fresh r =
-    c.in_ok-come.ensures ∙ ap without_ids (c.deref.ensures.value ∙ c.in_ok-held.ensures r.coming _ (r.come ∙ sym c.come.ensures) (coming-first before c.args.store.now (settled r) lost fresh c.args.change.now r refl))
+    c.in_ok-come.ensures ∙ ap without_ids (c.deref.ensures.value
+    ∙ c.in_ok-held.ensures r.coming _ (r.come ∙ sym c.come.ensures)
+    (coming-first before c.args.store.now (settled r) lost fresh c.args.change.now r refl))
     ∙ without-held r.coming

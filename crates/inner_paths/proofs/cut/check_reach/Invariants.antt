@@ -5,4 +5,5 @@ use Rattle.inner_paths.specs.Cuts.{cut_of}
 use Rattle.inner_paths.proofs.cut.check_reach.Given as goal
 
 abbrev pub invariant-loop-v : goal.invariant-loop-v
-invariant-loop-v l = first_answer (cut_of l.topology) (drop l.v (range_with_len 0 (length l.topology.virtuals))) ≡ first_answer (cut_of l.topology) (range_with_len 0 (length l.topology.virtuals))
+invariant-loop-v l = first_answer (cut_of l.topology) (drop l.v (range_with_len 0 (length l.topology.virtuals)))
+    ≡ first_answer (cut_of l.topology) (range_with_len 0 (length l.topology.virtuals))

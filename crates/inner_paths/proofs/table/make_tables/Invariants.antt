@@ -5,5 +5,6 @@ use Rattle.inner_paths.specs.Tables.{IsTable}
 use Rattle.inner_paths.proofs.table.make_tables.Given as goal
 
 abbrev pub invariant-loop-to : goal.invariant-loop-to
-invariant-loop-to l = IsTable (length l.topology.switches) l.to (λ to from. distance l.topology from to) l.tables.distances
+invariant-loop-to l = IsTable (length l.topology.switches) l.to (λ to from. distance l.topology from to)
+    l.tables.distances
     × IsTable (length l.topology.switches) l.to (λ to from. hop_between l.topology from to) l.tables.hops

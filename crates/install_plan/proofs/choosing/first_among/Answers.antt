@@ -13,8 +13,11 @@ loop-key-preserved c =
     let i = c.loop-key.key-index in
     let none : Key = record { priority = 0; bytes = [] } in
     let k = get_or keys i none in
-    let next = leads-next slots h keys i k c.loop-key.first c.loop-key-test.true (get_or_default keys i none k c.loop-key-test.true) c.loop-key.invariant in
-    subst (Leads (candidates slots h (take (i + 1) keys))) (sym (c.before-first.ensures ∙ ap (before c.loop-key.first) c.weigh.ensures)) next
+    let next = leads-next slots h keys i k c.loop-key.first c.loop-key-test.true
+    (get_or_default keys i none k c.loop-key-test.true) c.loop-key.invariant in
+    subst (Leads (candidates slots h (take (i + 1) keys)))
+    (sym (c.before-first.ensures ∙ ap (before c.loop-key.first) c.weigh.ensures)) next
 
 pub returns : goal.returns
-returns c = leads-all c.args.slots.now.entries c.args.header.now c.args.keys.now c.loop-key.key-index c.loop-key.first (omega (arith, c.loop-key-test.false)) c.loop-key.invariant
+returns c = leads-all c.args.slots.now.entries c.args.header.now c.args.keys.now c.loop-key.key-index c.loop-key.first
+    (omega (arith, c.loop-key-test.false)) c.loop-key.invariant

@@ -7,4 +7,5 @@ use Rattle.install_plan.proofs.choosing.weigh_slot.Goals as goal
 pub returns-in-Some : goal.returns-in-Some
 returns-in-Some c =
     c.weigh_entry.ensures
-    ∙ ap (option_and_then (candidate_if c.args.header.now c.args.key.now)) (sym (top-of c.args.slot.now c.in-Some.entry.now (sym c.in-Some.ensures)))
+    ∙ ap (option_and_then (candidate_if c.args.header.now c.args.key.now))
+    (sym (top-of c.args.slot.now c.in-Some.entry.now (sym c.in-Some.ensures)))

@@ -10,4 +10,5 @@ pub returns : goal.returns
 returns c =
     let tops = λ (s : Slot). option_to_list (top s) in
     let last = ap (λ (z : List Slot). c.loop-slot.list ++ flat_map tops z) (sym c.in-None.ensures.steps.0) in
-    sym (append-nil c.loop-slot.list) ∙ (last ∙ (c.loop-slot.invariant ∙ flat-mapped tops (λ (p : Key × Slot). p.1) c.args.slots.now.entries))
+    sym (append-nil c.loop-slot.list)
+    ∙ (last ∙ (c.loop-slot.invariant ∙ flat-mapped tops (λ (p : Key × Slot). p.1) c.args.slots.now.entries))

@@ -7,4 +7,5 @@ use Rattle.install_plan.proofs.listing.listed.Given as goal
 
 abbrev pub invariant-loop-slot : goal.invariant-loop-slot
 invariant-loop-slot l =
-    l.list ++ flat_map (λ (s : Slot). option_to_list (top s)) l.slot-iterator ≡ flat_map (λ (s : Slot). option_to_list (top s)) (values_of l.slots.entries)
+    l.list ++ flat_map (λ (s : Slot). option_to_list (top s)) l.slot-iterator
+    ≡ flat_map (λ (s : Slot). option_to_list (top s)) (values_of l.slots.entries)

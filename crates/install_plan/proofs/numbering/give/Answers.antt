@@ -16,4 +16,5 @@ returns-in-Some c =
     let entries = ap entries_of c.in-Some.ensures.value ∙ ap (entries_at slots) c.of.ensures.value in
     w
     ∙ (ap (λ (z : Key). set_value (is_at (order z)) slots new) c.of.ensures.value
-    ∙ ap (λ (es : List PhysEntry). set_value (is_at (order (key_of c.args.written.now.entry))) slots (record { entries = es; cookie = c.args.written.now.cookie })) entries)
+    ∙ ap (λ (es : List PhysEntry). set_value (is_at (order (key_of c.args.written.now.entry))) slots
+    (record { entries = es; cookie = c.args.written.now.cookie })) entries)

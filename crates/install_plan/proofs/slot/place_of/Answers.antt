@@ -5,10 +5,13 @@ use Rattle.install_plan.proofs.slot.place_of.Goals as goal
 
 pub returns-clause-before : goal.returns-clause-before
 returns-clause-before c =
-    let point = IsPartitionPoint-from_clause (is_before c.args.ancestry.now) _ _ c.partition_point.ensures.partitioned (parted c.args.entries.now c.args.ancestry.now c.requires) (λ a r q k. search rules) in
-    each-take (λ d. is_before c.args.ancestry.now d ≡ true) c.args.entries.now c.partition_point.result c.partition_point.ensures.bound point.0
+    let point = IsPartitionPoint-from_clause (is_before c.args.ancestry.now) _ _ c.partition_point.ensures.partitioned
+    (parted c.args.entries.now c.args.ancestry.now c.requires) (λ a r q k. search rules) in
+    each-take (λ d. is_before c.args.ancestry.now d ≡ true) c.args.entries.now c.partition_point.result
+    c.partition_point.ensures.bound point.0
 
 pub returns-clause-after : goal.returns-clause-after
 returns-clause-after c =
-    let point = IsPartitionPoint-from_clause (is_before c.args.ancestry.now) _ _ c.partition_point.ensures.partitioned (parted c.args.entries.now c.args.ancestry.now c.requires) (λ a r q k. search rules) in
+    let point = IsPartitionPoint-from_clause (is_before c.args.ancestry.now) _ _ c.partition_point.ensures.partitioned
+    (parted c.args.entries.now c.args.ancestry.now c.requires) (λ a r q k. search rules) in
     each-drop (λ d. is_before c.args.ancestry.now d ≡ false) c.args.entries.now c.partition_point.result point.1

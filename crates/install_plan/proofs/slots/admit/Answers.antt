@@ -6,4 +6,5 @@ returns-in_err-insert-clause-known c = λ known q t. c.insert.ensures.still q (k
 
 pub returns-clause-known : goal.returns-clause-known
 returns-clause-known c = λ known.
-    known-more c.args.finder.now c.insert.new.self c.args.slots.now.entries c.open.new.slots.entries c.args.key.now c.in_ok-insert.ensures.there c.insert.ensures.still c.open.ensures.only known
+    known-more c.args.finder.now c.insert.new.self c.args.slots.now.entries c.open.new.slots.entries c.args.key.now
+    c.in_ok-insert.ensures.there c.insert.ensures.still c.open.ensures.only known

@@ -10,5 +10,6 @@ loop-key-init c =
 
 pub loop-key-preserved : goal.loop-key-preserved
 loop-key-preserved c =
-    let one = keep-step c.loop-key.slots.entries c.loop-key.key-iterator c.next.new.self _ c.in-Some.key.now _ _ c.in-Some.ensures.steps c.drop_empty.ensures.slots (c.loop-key.invariant.0, c.loop-key.invariant.1) in
+    let one = keep-step c.loop-key.slots.entries c.loop-key.key-iterator c.next.new.self _ c.in-Some.key.now _ _
+    c.in-Some.ensures.steps c.drop_empty.ensures.slots (c.loop-key.invariant.0, c.loop-key.invariant.1) in
     (one.0, one.1, c.drop_empty.ensures.known c.loop-key.invariant.2)

@@ -11,4 +11,5 @@ returns-else-is_empty-clause-known c = λ known.
     let slots = c.args.slots.now.entries in
     let f = found (slot_at k slots) c.requires in
     known-written c.args.finder.now slots c.write.new.slots.entries
-    (λ q t. written-only k q f.0 c.args.old slots f.1 (subst (λ (z : Slots). IsSome (slot_at q z)) c.write.ensures t)) known
+    (λ q t. written-only k q f.0 c.args.old slots f.1 (subst (λ (z : Slots). IsSome (slot_at q z)) c.write.ensures t))
+    known

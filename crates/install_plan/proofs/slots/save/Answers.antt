@@ -5,16 +5,21 @@ use Rattle.install_plan.proofs.Writing.{nothing, save-before, save-kept, some-co
 use Rattle.install_plan.proofs.slots.save.Goals as goal
 
 pub returns-in_ok-insert-clause-still : goal.returns-in_ok-insert-clause-still
-returns-in_ok-insert-clause-still c = λ q t. subst IsSome (sym (c.in_ok-insert.ensures.updates.0 q)) (some-cond _ c.in_ok-copy.field-0 (slot_at q c.args.saved.now.entries) t)
+returns-in_ok-insert-clause-still c = λ q t. subst IsSome (sym (c.in_ok-insert.ensures.updates.0 q))
+    (some-cond _ c.in_ok-copy.field-0 (slot_at q c.args.saved.now.entries) t)
 
 pub returns-in_ok-insert-clause-kept : goal.returns-in_ok-insert-clause-kept
 returns-in_ok-insert-clause-kept c = λ kept.
     let found = sym c.in-Some.ensures.value ∙ ap Some (sym c.in_ok-copy.ensures) in
-    let none = nothing (slot_at c.args.key.now c.args.saved.now.entries) c.contains_key.result c.contains_key.ensures c.if-contains_key.false in
-    save-kept c.args.key.now c.in_ok-copy.field-0 c.args.slots.now.entries c.args.saved.now.entries c.insert.new.self.entries found none kept c.in_ok-insert.ensures.entries c.insert.ensures.ordered
+    let none = nothing (slot_at c.args.key.now c.args.saved.now.entries) c.contains_key.result c.contains_key.ensures
+    c.if-contains_key.false in
+    save-kept c.args.key.now c.in_ok-copy.field-0 c.args.slots.now.entries c.args.saved.now.entries
+    c.insert.new.self.entries found none kept c.in_ok-insert.ensures.entries c.insert.ensures.ordered
 
 pub returns-in_ok-insert-clause-before : goal.returns-in_ok-insert-clause-before
 returns-in_ok-insert-clause-before c = λ kept.
     let found = sym c.in-Some.ensures.value ∙ ap Some (sym c.in_ok-copy.ensures) in
-    let none = nothing (slot_at c.args.key.now c.args.saved.now.entries) c.contains_key.result c.contains_key.ensures c.if-contains_key.false in
-    save-before c.args.key.now c.in_ok-copy.field-0 c.args.slots.now.entries c.args.saved.now.entries c.insert.new.self.entries found none kept c.in_ok-insert.ensures.updates.0
+    let none = nothing (slot_at c.args.key.now c.args.saved.now.entries) c.contains_key.result c.contains_key.ensures
+    c.if-contains_key.false in
+    save-before c.args.key.now c.in_ok-copy.field-0 c.args.slots.now.entries c.args.saved.now.entries
+    c.insert.new.self.entries found none kept c.in_ok-insert.ensures.updates.0

@@ -17,7 +17,9 @@ loop-key-init c =
     let pairs = c.into_iter-key-iterator.ensures.into_iter_gives ∙ c.iter-key-items.ensures.rest in (
       c.requires,
       refl,
-      subst (Listed slots) (sym pairs) (all-in (λ (p : Key × Slot). slot_at p.0 slots ≡ Some p.1) slots (λ p i. in-found p.0 p.1 slots c.requires.rise i)),
+      subst (Listed slots) (sym pairs)
+          (all-in (λ (p : Key × Slot). slot_at p.0 slots ≡ Some p.1) slots
+          (λ p i. in-found p.0 p.1 slots c.requires.rise i)),
       λ p i. inr (subst (IsIn p) (sym pairs) i),
     )
 
@@ -32,11 +34,15 @@ loop-key-preserved c = (
     left : Listed c.args.slots.now.entries ((c.in-Some.key.now, c.in-Some.slot.now) ∷ c.next.new.self)
     left = subst (Listed c.args.slots.now.entries) c.in-Some.ensures.steps c.loop-key.invariant.2
 
-    now : (p : Key × Slot) → (p ≡ (c.in-Some.key.now, c.in-Some.slot.now)) ⊎ IsIn p c.next.new.self → IsSome (slot_at p.0 c.save_slot.new.saved.entries) ⊎ IsIn p c.next.new.self
-    now p (inl e) = inl (subst (λ (z : Key). IsSome (slot_at z c.save_slot.new.saved.entries)) (sym (ap (λ (q : Key × Slot). q.0) e)) c.in_ok-save_slot.ensures.there)
+    now : (p : Key × Slot) → (p ≡ (c.in-Some.key.now, c.in-Some.slot.now)) ⊎ IsIn p c.next.new.self
+        → IsSome (slot_at p.0 c.save_slot.new.saved.entries) ⊎ IsIn p c.next.new.self
+    now p (inl e) =
+        inl (subst (λ (z : Key). IsSome (slot_at z c.save_slot.new.saved.entries))
+        (sym (ap (λ (q : Key × Slot). q.0) e)) c.in_ok-save_slot.ensures.there)
     now p (inr j) = inr j
 
-    by : (p : Key × Slot) → IsSome (slot_at p.0 c.loop-key.saved.entries) ⊎ IsIn p c.loop-key.key-iterator → IsSome (slot_at p.0 c.save_slot.new.saved.entries) ⊎ IsIn p c.next.new.self
+    by : (p : Key × Slot) → IsSome (slot_at p.0 c.loop-key.saved.entries) ⊎ IsIn p c.loop-key.key-iterator
+        → IsSome (slot_at p.0 c.save_slot.new.saved.entries) ⊎ IsIn p c.next.new.self
     by p (inl t) = inl (c.save_slot.ensures.still p.0 t)
     by p (inr j) = now p (first-or-later (subst (IsIn p) c.in-Some.ensures.steps j))
 
@@ -51,8 +57,10 @@ returns-in_err-save_slot-clause-before c =
     c.save_slot.ensures.before c.args.slots.now.entries left.0 c.loop-key.invariant.0 ∙ c.loop-key.invariant.1
 
 pub returns-clause-there : goal.returns-clause-there
-returns-clause-there c = all-in (λ (p : Key × Slot). IsSome (slot_at p.0 c.loop-key.saved.entries)) c.args.slots.now.entries (λ p i. by p (c.loop-key.invariant.3 p i))
+returns-clause-there c = all-in (λ (p : Key × Slot). IsSome (slot_at p.0 c.loop-key.saved.entries))
+    c.args.slots.now.entries (λ p i. by p (c.loop-key.invariant.3 p i))
   where
-    by : (p : Key × Slot) → IsSome (slot_at p.0 c.loop-key.saved.entries) ⊎ IsIn p c.loop-key.key-iterator → IsSome (slot_at p.0 c.loop-key.saved.entries)
+    by : (p : Key × Slot) → IsSome (slot_at p.0 c.loop-key.saved.entries) ⊎ IsIn p c.loop-key.key-iterator
+        → IsSome (slot_at p.0 c.loop-key.saved.entries)
     by p (inl t) = t
     by p (inr j) = no-items (subst (IsIn p) c.in-None.ensures.steps.0 j)

@@ -26,10 +26,12 @@ returns-clause-changed c =
     let serials = c.in_ok-changed.changed.0 in
     let entries = c.in_ok-changed.changed.1 in
     subst (λ (ls : List Leaf). IsPermutation
-    (rules_after (record { member = i; gone = ls; come = c.in_ok-come.come }) (leaf_rules ports t)) (leaf_rules ports u))
+    (rules_after (record { member = i; gone = ls; come = c.in_ok-come.come }) (leaf_rules ports t))
+    (leaf_rules ports u))
     (sym (c.in_ok-gone.ensures ∙ ap (λ ss. map (leaf_at i) (filter has_kind ss)) c.as_slice.ensures))
     (subst (λ (rs : List Rule). IsPermutation
-    (rules_after (record { member = i; gone = map (leaf_at i) (filter has_kind serials); come = rs }) (leaf_rules ports t))
+    (rules_after (record { member = i; gone = map (leaf_at i) (filter has_kind serials); come = rs })
+    (leaf_rules ports t))
     (leaf_rules ports u))
     (sym c.in_ok-come.ensures) (told_changes ports t u serials entries c.in_ok-changed.ensures))
 

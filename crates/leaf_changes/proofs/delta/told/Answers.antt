@@ -35,6 +35,7 @@ returns c =
     c.requires.plan in
     let told = told_anew c.args.member c.args.grant.now h p c.args.now c.table.ensures.sound c.requires.ready
     c.requires.plan
-    (subst (AllByRecursion (IsFitting p.levels.size)) c.in_ok-entries.ensures.entries c.in_ok-entries.ensures.fitting) in
+    (subst (AllByRecursion (IsFitting p.levels.size)) c.in_ok-entries.ensures.entries c.in_ok-entries.ensures.fitting)
+    in
     subst (λ (ss : List ℕ). IsTold t u ss c.in_ok-entries.entries) (sym c.in_ok-serials.ensures)
     (subst (λ (es : List LeafEntry). IsTold t u all es) (sym c.in_ok-entries.ensures.entries) told)

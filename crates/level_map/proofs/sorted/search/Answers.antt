@@ -7,9 +7,11 @@ use Rattle.level_map.proofs.sorted.search.Goals as goal
 pub returns-clause-found : goal.returns-clause-found
 returns-clause-found c =
     let facts = c.binary_search_by_key.ensures in
-    (searched _ c.requires c.args.rank _ facts.bound (facts.position (λ pair. pair.rank) (answers_always _ _ _ (λ f a r g called. search rules)))).0
+    (searched _ c.requires c.args.rank _ facts.bound
+    (facts.position (λ pair. pair.rank) (answers_always _ _ _ (λ f a r g called. search rules)))).0
 
 pub returns-clause-absent : goal.returns-clause-absent
 returns-clause-absent c =
     let facts = c.binary_search_by_key.ensures in
-    (searched _ c.requires c.args.rank _ facts.bound (facts.position (λ pair. pair.rank) (answers_always _ _ _ (λ f a r g called. search rules)))).1
+    (searched _ c.requires c.args.rank _ facts.bound
+    (facts.position (λ pair. pair.rank) (answers_always _ _ _ (λ f a r g called. search rules)))).1

@@ -1,8 +1,8 @@
-use Rattle.std.proofs.Common.{◌≡◌, ◌∙◌, None, map, refl, ap}
+use Rattle.std.proofs.Common.{◌∙◌, None, map, refl, ap}
 use Rattle.stats_map.specs.Told.{told}
 use Rattle.machine_drafts.proofs.Begun.{bases_begun, bases_same, members_begun, moments_begun, standing_begun}
 use Rattle.machine_drafts.proofs.Begun.{switch_bases_begun, switches_begun, untouched_is}
-use Rattle.machine_drafts.proofs.Puts.{state_same}
+use Rattle.machine_drafts.proofs.SameStates.{state_same}
 use Rattle.machine_meaning.specs.Drafts.{Draft}
 use Rattle.machine_drafts.specs.Machines.{at_moment, bases_of, state_in_held}
 use Rattle.machine_drafts.specs.MemberDrafts.{standing_member}

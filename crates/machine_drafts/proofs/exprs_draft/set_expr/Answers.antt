@@ -1,4 +1,4 @@
-use Rattle.std.proofs.Common.{◌≡◌, ◌∙◌, ◌<◌, ◌≤◌, length, refl, sym, ap, arith, map}
+use Rattle.std.proofs.Common.{◌∙◌, ◌<◌, ◌≤◌, length, refl, sym, ap, arith, map}
 use Rattle.std.proofs.lemmas.List.{length-map}
 use Rattle.policy_expr.specs.Policy.{Policy, policy_of}
 use Rattle.machine_meaning.proofs.Places.{changed_past, map-set_changed}

@@ -11,9 +11,12 @@ use Rattle.made_rules.proofs.parting.part.Goals.{then-loop-come-test+else-not-is
 
 pub loop-come-init : goal.loop-come-init
 loop-come-init c =
-    none-parted _ _ _ _ _ _ _ c.new.ensures.items c.new-2.ensures.items c.new-3.ensures.items c.in_ok-sort_by.ensures.permutation c.in_ok-sort_by-2.ensures.permutation
-    (c.in_ok-sort_by.ensures.sorted (λ (x y : Held Rule). is_lt (by_ancestry x.item y.item)) (weak (λ (h : Held Rule). h.item)) (answers_always _ _ _ (λ f a r k h. search rules)))
-    (c.in_ok-sort_by-2.ensures.sorted (λ (x y : Made). is_lt (by_ancestry x.rule y.rule)) (weak (λ (m : Made). m.rule)) (answers_always _ _ _ (λ f a r k h. search rules)))
+    none-parted _ _ _ _ _ _ _ c.new.ensures.items c.new-2.ensures.items c.new-3.ensures.items
+    c.in_ok-sort_by.ensures.permutation c.in_ok-sort_by-2.ensures.permutation
+    (c.in_ok-sort_by.ensures.sorted (λ (x y : Held Rule). is_lt (by_ancestry x.item y.item))
+    (weak (λ (h : Held Rule). h.item)) (answers_always _ _ _ (λ f a r k h. search rules)))
+    (c.in_ok-sort_by-2.ensures.sorted (λ (x y : Made). is_lt (by_ancestry x.rule y.rule)) (weak (λ (m : Made). m.rule))
+    (answers_always _ _ _ (λ f a r k h. search rules)))
 
 pub loop-come-smaller : goal.loop-come-smaller
 loop-come-smaller c = c.part_one.ensures.fewer
@@ -22,7 +25,13 @@ pub loop-come-preserved : goal.loop-come-preserved
 loop-come-preserved c = c.in_ok-part_one.ensures.parted _ _ c.loop-come.invariant
 
 one-is-empty : (c : goal.After-drop-gone-2) → (c.loop-come.gone.items ≡ []) ⊎ (c.loop-come.come.items ≡ [])
-one-is-empty c = elim c.loop-come-test.branch [ then-loop-come-test+else-not-is_empty w ↦ inr (one-empty _ _ c.loop-come.come.ok.0 (sym w.if-not-is_empty.ensures)) | else-loop-come-test w ↦ inl (one-empty _ _ c.loop-come.gone.ok.0 (sym w.loop-come-test.ensures)) ]
+one-is-empty c = elim c.loop-come-test.branch [
+  | then-loop-come-test+else-not-is_empty w ↦ inr
+      (one-empty _ _ c.loop-come.come.ok.0 (sym w.if-not-is_empty.ensures))
+  | else-loop-come-test w ↦ inl
+      (one-empty _ _ c.loop-come.gone.ok.0 (sym w.loop-come-test.ensures))
+]
 
 pub returns : goal.returns
-returns c = all-parted _ _ _ _ _ _ _ _ _ (one-is-empty c) c.in_ok-append.ensures.items c.in_ok-append-2.ensures.items c.loop-come.invariant
+returns c = all-parted _ _ _ _ _ _ _ _ _ (one-is-empty c) c.in_ok-append.ensures.items c.in_ok-append-2.ensures.items
+    c.loop-come.invariant

@@ -9,6 +9,8 @@ use Rattle.made_rules.proofs.stay.widen.Given as goal
 
 abbrev pub invariant-loop-one : goal.invariant-loop-one
 invariant-loop-one l = record {
-  widening : (rest wases : List (Held Made)) → rules_in wases ≡ map old_of l.fn.both.items → IsPermutation l.fn.store (rest ++ wases) → Widening rest wases l.fn.both.items (into_iter_items l.one-iterator) l.store l.stays.items;
+  widening : (rest wases : List (Held Made)) → rules_in wases ≡ map old_of l.fn.both.items
+      → IsPermutation l.fn.store (rest ++ wases)
+      → Widening rest wases l.fn.both.items (into_iter_items l.one-iterator) l.store l.stays.items;
   count : into_iter_len l.one-iterator ≡ length (into_iter_items l.one-iterator);
 }

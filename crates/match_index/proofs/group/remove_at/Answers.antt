@@ -16,16 +16,21 @@ returns-clause-taken c shape a there =
     let bs = c.args.buckets.now.entries in
     let old = c.index_mut.result.now in
     let found = sym c.requires.at ∙ c.index_mut.ensures.value in
-    let is_here : list_any (same_item c.args.item.now) old ≡ true = ap (λ o. list_any (same_item c.args.item.now) (bucket_items o)) (sym found) ∙ (sym (has_in shape c.args.item.now bs a) ∙ there) in
-    taken_at c.args.item.now bs c.args.place old c.remove.new.self c.index_mut.ensures.value (c.remove.ensures.taken (c.remove.ensures.found ∙ is_here))
+    let is_here : list_any (same_item c.args.item.now) old ≡ true =
+    ap (λ o. list_any (same_item c.args.item.now) (bucket_items o)) (sym found)
+    ∙ (sym (has_in shape c.args.item.now bs a) ∙ there) in
+    taken_at c.args.item.now bs c.args.place old c.remove.new.self c.index_mut.ensures.value
+    (c.remove.ensures.taken (c.remove.ensures.found ∙ is_here))
 
 pub returns-clause-buckets : goal.returns-clause-buckets
 returns-clause-buckets c shape a =
     let bs = c.args.buckets.now.entries in
     let old = c.index_mut.result.now in
     bool_then c.remove.result _
-    (λ t. buckets_taken shape c.args.item.now bs c.args.place old c.remove.new.self a c.index_mut.ensures.value (c.remove.ensures.taken t))
-    (λ f. subst (AreBuckets shape) (sym (set_same bs c.args.place old c.remove.new.self c.index_mut.ensures.value (c.remove.ensures.missing f))) a)
+    (λ t. buckets_taken shape c.args.item.now bs c.args.place old c.remove.new.self a c.index_mut.ensures.value
+    (c.remove.ensures.taken t))
+    (λ f. subst (AreBuckets shape)
+    (sym (set_same bs c.args.place old c.remove.new.self c.index_mut.ensures.value (c.remove.ensures.missing f))) a)
 
 pub returns-clause-len : goal.returns-clause-len
 returns-clause-len c = index_map_len-with_value_at c.args.buckets.now c.args.place c.remove.new.self

@@ -14,8 +14,10 @@ loop-bucket-preserved c =
     let p : Item → Bool = asks c.args.question.now in
     let so_far : List Item = joined (map deref c.loop-bucket.yielded) in
     let P : Option Item → List Item → Type 0 = λ o xs. IsTop p xs o in
-    subst₂ P (sym c.before-top.ensures) (ap (λ xs. so_far ++ xs) c.as_slice.ensures ∙ sym (joined_pushed deref c.loop-bucket.yielded c.in-Some.bucket))
-    (top_both p so_far c.as_slice.result.now c.loop-bucket.top c.top_among.result c.loop-bucket.invariant c.top_among.ensures)
+    subst₂ P (sym c.before-top.ensures) (ap (λ xs. so_far ++ xs) c.as_slice.ensures
+    ∙ sym (joined_pushed deref c.loop-bucket.yielded c.in-Some.bucket))
+    (top_both p so_far c.as_slice.result.now c.loop-bucket.top c.top_among.result c.loop-bucket.invariant
+    c.top_among.ensures)
 
 pub returns : goal.returns
 returns c =

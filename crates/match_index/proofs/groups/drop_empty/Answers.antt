@@ -9,6 +9,9 @@ returns-then-is_empty c =
     let gs = c.args.groups.now.items in
     let g = c.swap_remove.result in
     let within : c.args.place < length gs = search rules in
-    let is : g ≡ c.index.result.now = c.swap_remove.ensures.value ∙ (got_same gs c.args.place g c.index.result.now within ∙ sym c.index.ensures) in
+    let is : g ≡ c.index.result.now = c.swap_remove.ensures.value
+    ∙ (got_same gs c.args.place g c.index.result.now within ∙ sym c.index.ensures) in
     let P : List GroupOf → Type 0 = λ hs. SameItems (in_groups hs) (in_groups gs) in
-    subst P (sym c.swap_remove.ensures.items) (group_dropped gs c.args.place g within c.swap_remove.ensures.value (ap (λ (h : GroupOf). h.items) is ∙ c.is_empty.ensures c.if-is_empty.true))
+    subst P (sym c.swap_remove.ensures.items)
+    (group_dropped gs c.args.place g within c.swap_remove.ensures.value
+    (ap (λ (h : GroupOf). h.items) is ∙ c.is_empty.ensures c.if-is_empty.true))

@@ -5,4 +5,5 @@ use Rattle.match_index.specs.Questions.{asks}
 use Rattle.match_index.proofs.groups.list_of.Given as goal
 
 abbrev pub invariant-loop-group : goal.invariant-loop-group
-invariant-loop-group l = l.ids.items ≡ l.fn.ids.items ++ ids_of (asks l.question) (l.late ++ in_groups (take l.group-index l.groups))
+invariant-loop-group l = l.ids.items ≡ l.fn.ids.items ++ ids_of (asks l.question)
+    (l.late ++ in_groups (take l.group-index l.groups))

@@ -4,7 +4,8 @@ use Rattle.match_index.proofs.groups.settle.Given as goal
 
 abbrev pub invariant-loop-item : goal.invariant-loop-item
 invariant-loop-item l = record {
-  same : SameItems (l.initial.late.items ++ in_groups l.initial.groups.items) (l.late.items ++ in_groups l.groups.items);
+  same : SameItems (l.initial.late.items ++ in_groups l.initial.groups.items)
+      (l.late.items ++ in_groups l.groups.items);
   room : vec_capacity l.initial.late - vec_len l.initial.late ≤ vec_capacity l.late - vec_len l.late;
 }
 

@@ -18,12 +18,16 @@ loop-group-preserved c =
     let gs = c.args.groups.now in
     let g = c.group-item.result in
     let so_far = take c.loop-group.group-index gs in
-    let more = ap in_groups (take_pushed gs c.loop-group.group-index g c.loop-group-test.true c.group-item.is) ∙ groups_pushed so_far g in
+    let more = ap in_groups (take_pushed gs c.loop-group.group-index g c.loop-group-test.true c.group-item.is)
+    ∙ groups_pushed so_far g in
     let P : Option Item → List Item → Type 0 = λ o xs. IsTop p xs o in
-    subst₂ P (sym c.before-top.ensures) (append_assoc c.args.late.now (in_groups so_far) g.items ∙ ap (λ xs. c.args.late.now ++ xs) (sym more))
-    (top_both p (c.args.late.now ++ in_groups so_far) g.items c.loop-group.top c.top.result c.loop-group.invariant c.top.ensures)
+    subst₂ P (sym c.before-top.ensures) (append_assoc c.args.late.now (in_groups so_far) g.items
+    ∙ ap (λ xs. c.args.late.now ++ xs) (sym more))
+    (top_both p (c.args.late.now ++ in_groups so_far) g.items c.loop-group.top c.top.result c.loop-group.invariant
+    c.top.ensures)
 
 pub returns : goal.returns
 returns c =
-    let P : List GroupOf → Type 0 = λ gs. IsTop (asks c.args.question.now) (c.args.late.now ++ in_groups gs) c.loop-group.top in
+    let P : List GroupOf
+    → Type 0 = λ gs. IsTop (asks c.args.question.now) (c.args.late.now ++ in_groups gs) c.loop-group.top in
     subst P (take_all c.loop-group.group-index c.args.groups.now c.loop-group-test.false) c.loop-group.invariant

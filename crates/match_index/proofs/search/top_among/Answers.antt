@@ -24,9 +24,13 @@ loop-item-preserved c =
     let P : Option Item → List Item → Type 0 = λ o xs. IsTop p xs o in
     elim c.if-asks.branch [
       | then-asks w ↦
-          subst₂ P (sym w.before-top.ensures ∙ sym w.top-is) (sym more) (top_both p so_far _ c.loop-item.top (Some x) c.loop-item.invariant (top_one p x (sym c.asks.ensures ∙ w.if-asks.true)))
+          subst₂ P (sym w.before-top.ensures ∙ sym w.top-is) (sym more)
+          (top_both p so_far _ c.loop-item.top (Some x) c.loop-item.invariant
+          (top_one p x (sym c.asks.ensures ∙ w.if-asks.true)))
       | else-asks w ↦
-          subst₂ P (before_none c.loop-item.top ∙ sym w.top-is) (sym more) (top_both p so_far _ c.loop-item.top None c.loop-item.invariant (top_none p x (sym c.asks.ensures ∙ w.if-asks.false)))
+          subst₂ P (before_none c.loop-item.top ∙ sym w.top-is) (sym more)
+          (top_both p so_far _ c.loop-item.top None c.loop-item.invariant
+          (top_none p x (sym c.asks.ensures ∙ w.if-asks.false)))
     ]
 
 pub returns : goal.returns

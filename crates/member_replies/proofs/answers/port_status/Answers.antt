@@ -5,4 +5,6 @@ use Rattle.member_replies.proofs.answers.port_status.Goals as goal
 
 pub write_message-requires : goal.write_message-requires
 write_message-requires c =
-    rw c.in_ok-port_of.ensures.port (port_writable c.args.v c.args.port c.args.is_link c.args.is_dark (subst HasAddress c.in_ok-port_of.ensures.port c.in_ok-port_of.ensures.address))
+    rw c.in_ok-port_of.ensures.port
+    (port_writable c.args.v c.args.port c.args.is_link c.args.is_dark
+    (subst HasAddress c.in_ok-port_of.ensures.port c.in_ok-port_of.ensures.address))

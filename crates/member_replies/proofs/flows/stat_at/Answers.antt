@@ -18,6 +18,7 @@ pub count-packets-requires : goal.count-packets-requires
 count-packets-requires g c =
     let t = c.args.table.now.table in
     let sound = c.requires.sound in
-    let given = at_place (λ (e : Entry). (0 < e.serial) × (e.serial < t.next)) t.entries c.args.place c.in-Some.entry.now
+    let given = at_place (λ (e : Entry). (0 < e.serial) × (e.serial < t.next)) t.entries c.args.place
+    c.in-Some.entry.now
     sound.given c.in-Some.ensures in
     omega (arith, given.1, sound.fits)

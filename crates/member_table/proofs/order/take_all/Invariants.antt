@@ -8,7 +8,8 @@ use Rattle.member_table.proofs.order.take_all.Given as goal
 
 abbrev pub invariant-loop-serial : goal.invariant-loop-serial
 invariant-loop-serial l = record {
-  way : (es : List Entry) → IsIndexed (get nat_eq l.fn.entries) (get same_identity l.fn.numbers) es → IsOnTheWay (get nat_eq l.entries) (get same_identity l.numbers) l.serials l.fn.serials l.place es;
+  way : (es : List Entry) → IsIndexed (get nat_eq l.fn.entries) (get same_identity l.fn.numbers) es
+      → IsOnTheWay (get nat_eq l.entries) (get same_identity l.numbers) l.serials l.fn.serials l.place es;
   entries_room : spare l.fn.entries ≤ spare l.entries;
   numbers_room : spare l.fn.numbers ≤ spare l.numbers;
 }

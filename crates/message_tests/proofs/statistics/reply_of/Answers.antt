@@ -8,5 +8,8 @@ use Rattle.message_tests.proofs.statistics.reply_of.Goals as goal
 pub returns : goal.returns
 returns c =
     let bytes = drop 8 c.args.frame.now in
-    let gives = subst (λ (b : List ℕ). Gives c.read_reply.result (reply_in b)) c.split_at.ensures.back c.read_reply.ensures in
-    reply_answered bytes c.read_reply.result (IsBytes-drop 8 c.args.frame.now (λ i. omega (arith, c.type_inv.frame i))) (omega (arith, length-drop 8 c.args.frame.now, c.requires.room)) (omega (arith, length-drop 8 c.args.frame.now, c.requires.room, c.requires.fits)) gives
+    let gives = subst (λ (b : List ℕ). Gives c.read_reply.result (reply_in b)) c.split_at.ensures.back
+    c.read_reply.ensures in
+    reply_answered bytes c.read_reply.result (IsBytes-drop 8 c.args.frame.now (λ i. omega (arith, c.type_inv.frame i)))
+    (omega (arith, length-drop 8 c.args.frame.now, c.requires.room))
+    (omega (arith, length-drop 8 c.args.frame.now, c.requires.room, c.requires.fits)) gives

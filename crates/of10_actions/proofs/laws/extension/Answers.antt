@@ -1,4 +1,5 @@
-use Rattle.of10_actions.proofs.Extending.{extends-itself, extends-onward, extends-composed, extends-after, and_then-absorbs}
+use Rattle.of10_actions.proofs.Extending.{extends-itself, extends-onward, extends-composed, extends-after}
+use Rattle.of10_actions.proofs.Extending.{and_then-absorbs}
 use Rattle.of10_actions.proofs.laws.extension.Goals as goal
 
 pub returns-clause-itself : goal.returns-clause-itself

@@ -4,4 +4,5 @@ use Rattle.of10_actions.specs.declared.effects.Dest.TheVariants.{Flood}
 use Rattle.of10_actions.proofs.meaning.flood.Given as goal
 
 abbrev pub invariant-loop-port : goal.invariant-loop-port
-invariant-loop-port l = l.outs ≡ l.initial.outs ++ outs_of l.rewrite (map (λ port. Flood l.ports.v port) (take l.port-index l.port-items))
+invariant-loop-port l = l.outs ≡ l.initial.outs ++ outs_of l.rewrite
+    (map (λ port. Flood l.ports.v port) (take l.port-index l.port-items))

@@ -9,4 +9,5 @@ returns-clause-reads_back c =
     let m = c.args.m.now in
     let written : c.write_body.new.out ≡ spelling m = search rules in
     let xid : m.xid < 2 ^ 32 = search rules in
-    ap reading written ∙ written_is_read m (record { xid = xid; body = c.requires; fits = c.in_ok-write_body.ensures.types })
+    ap reading written
+    ∙ written_is_read m (record { xid = xid; body = c.requires; fits = c.in_ok-write_body.ensures.types })

@@ -7,7 +7,8 @@ use Rattle.of10_stats.proofs.reading.entries_in.Given as goal
 abbrev pub invariant-loop-at : goal.invariant-loop-at
 invariant-loop-at l = record {
   within : l.at ≤ length l.bytes;
-  so_far : with_front l.entries (items_at entry_at entry_size 0 (drop l.at l.bytes)) ≡ items_at entry_at entry_size 0 l.bytes;
+  so_far : with_front l.entries (items_at entry_at entry_size 0 (drop l.at l.bytes))
+      ≡ items_at entry_at entry_size 0 l.bytes;
 }
 
 abbrev pub decreases-loop-at : goal.decreases-loop-at

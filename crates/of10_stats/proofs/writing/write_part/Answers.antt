@@ -9,8 +9,10 @@ pub returns : goal.returns
 returns c =
     let part = c.args.part.now in
     let bytes = flat_map entry_bytes part in
-    let head = c.in_ok-extend_from_slice.ensures.extended ∙ (ap (λ (x : List ℕ). x ++ c.head.result) c.in_ok-out.ensures ∙ c.head.ensures) in
-    let long : 12 + c.entries_length-length.result ≡ 8 + length (start 1 (more_flag c.args.more) ++ bytes) = omega (arith, c.entries_length-length.ensures, length_entries part) in
+    let head = c.in_ok-extend_from_slice.ensures.extended
+    ∙ (ap (λ (x : List ℕ). x ++ c.head.result) c.in_ok-out.ensures ∙ c.head.ensures) in
+    let long : 12 + c.entries_length-length.result ≡ 8 + length (start 1 (more_flag c.args.more) ++ bytes) =
+    omega (arith, c.entries_length-length.ensures, length_entries part) in
     c.in_ok-write_entries.ensures
     ∙ (ap (λ (x : List ℕ). x ++ bytes) head
     ∙ ap (λ (n : ℕ). (header_bytes 17 n c.args.xid ++ start 1 (more_flag c.args.more)) ++ bytes) long)

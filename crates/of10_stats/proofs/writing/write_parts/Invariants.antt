@@ -6,7 +6,8 @@ use Rattle.of10_stats.proofs.writing.write_parts.Given as goal
 
 abbrev pub invariant-loop-left : goal.invariant-loop-left
 invariant-loop-left l = record {
-  so_far : l.messages ++ map (reply_message l.xid) (part_replies (parts l.left)) ≡ l.fn.messages ++ map (reply_message l.xid) (part_replies (parts l.entries));
+  so_far : l.messages ++ map (reply_message l.xid) (part_replies (parts l.left))
+      ≡ l.fn.messages ++ map (reply_message l.xid) (part_replies (parts l.entries));
   writable : All CanWriteEntry l.left;
 }
 

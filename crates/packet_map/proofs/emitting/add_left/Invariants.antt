@@ -6,4 +6,5 @@ use Rattle.packet_map.specs.Sending.{emitted}
 use Rattle.packet_map.proofs.emitting.add_left.Given as goal
 
 abbrev pub invariant-loop-out : goal.invariant-loop-out
-invariant-loop-out l = l.left ≡ l.fn.left ++ filter_map (λ (o : Out). emitted l.gate.v l.gate.ingress (and_then l.rewrite o.rewrite) o.dest) (take l.out-index l.out-items)
+invariant-loop-out l = l.left ≡ l.fn.left ++ filter_map
+    (λ (o : Out). emitted l.gate.v l.gate.ingress (and_then l.rewrite o.rewrite) o.dest) (take l.out-index l.out-items)

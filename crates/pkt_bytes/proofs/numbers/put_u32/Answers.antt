@@ -4,4 +4,5 @@ use Rattle.pkt_bytes.proofs.numbers.put_u32.Goals as goal
 
 pub returns-in-Some : goal.returns-in-Some
 returns-in-Some c =
-    rw c.in-Some.is (part_written c.args.place 4 c.in-Some.value c.args.bytes.now c.write_u32.new.buf (omega arith) c.write_u32.ensures)
+    rw c.in-Some.is (part_written c.args.place 4 c.in-Some.value c.args.bytes.now c.write_u32.new.buf (omega arith)
+    c.write_u32.ensures)

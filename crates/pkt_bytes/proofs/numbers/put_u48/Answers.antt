@@ -4,4 +4,5 @@ use Rattle.pkt_bytes.proofs.numbers.put_u48.Goals as goal
 
 pub returns-in-Some : goal.returns-in-Some
 returns-in-Some c =
-    rw c.in-Some.is (part_written c.args.place 6 c.in-Some.value c.args.bytes.now c.write_u48.new.buf (omega arith) c.write_u48.ensures)
+    rw c.in-Some.is (part_written c.args.place 6 c.in-Some.value c.args.bytes.now c.write_u48.new.buf (omega arith)
+    c.write_u48.ensures)

@@ -14,7 +14,8 @@ use Rattle.pkt_bytes.proofs.rewriting.rewrite.Goals as goal
 pub returns-clause-header : goal.returns-clause-header
 returns-clause-header c =
     let frame : c.from_vec.result ≡ rewritten c.args.r.now c.args.bytes.now = grind (arith, common_steps) in
-    λ in_port whole. ap (header_in in_port) frame ∙ header_after c.args.r.now in_port c.args.bytes.now c.check_ranges.ensures whole
+    λ in_port whole. ap (header_in in_port) frame
+    ∙ header_after c.args.r.now in_port c.args.bytes.now c.check_ranges.ensures whole
 
 pub returns-clause-apart : goal.returns-clause-apart
 returns-clause-apart c =

@@ -11,5 +11,6 @@ returns c =
     let outs = c.args.outs.now in
     c.in_ok-push_outs.ensures
     ∙ ap₂ (λ xs ys. xs ++ ys)
-    (c.in_ok-push_copy.ensures ∙ ap₂ (λ xs told. xs ++ copy_if told) c.new-actions.ensures (c.tells.ensures ∙ sym (kept_tells w c.args.site c.args.in_port c.args.ingress outs)))
+    (c.in_ok-push_copy.ensures ∙ ap₂ (λ xs told. xs ++ copy_if told) c.new-actions.ensures
+    (c.tells.ensures ∙ sym (kept_tells w c.args.site c.args.in_port c.args.ingress outs)))
     (kept_actions w c.args.site c.args.in_port c.args.ingress outs no_rewrite None)

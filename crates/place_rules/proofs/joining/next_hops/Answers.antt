@@ -6,5 +6,7 @@ use Rattle.place_rules.proofs.joining.next_hops.Goals as goal
 
 pub loop-from-preserved : goal.loop-from-preserved
 loop-from-preserved c =
-    rows_more (hops_from c.args.topology.now) c.loop-from.list c.push_hops.new.list c.loop-from.from c.loop-from.invariant
-    (c.in_ok-push_hops.ensures ∙ ap (λ (plan : TopologyPlan). c.loop-from.list ++ hops_from plan c.loop-from.from) c.requires)
+    rows_more (hops_from c.args.topology.now) c.loop-from.list c.push_hops.new.list c.loop-from.from
+    c.loop-from.invariant
+    (c.in_ok-push_hops.ensures ∙ ap (λ (plan : TopologyPlan). c.loop-from.list ++ hops_from plan c.loop-from.from)
+    c.requires)

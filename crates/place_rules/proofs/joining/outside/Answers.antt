@@ -13,5 +13,8 @@ returns-clause-tags c =
     let P : List Outside → Type 0 = All (λ (o : Outside). IfSome o.tag (λ t. t < 4096)) in
     let F : List Joint → Type 0 = λ js. length js ≤ 1024 in
     subst P
-    (sym (c.loop-joint.invariant ∙ ap (map (outside_from plan)) (take_all c.loop-joint.joint-index c.outside_ports-joint-items.result.now c.loop-joint-test.false ∙ c.outside_ports-joint-items.ensures.ports)))
+    (sym (c.loop-joint.invariant
+    ∙ ap (map (outside_from plan))
+    (take_all c.loop-joint.joint-index c.outside_ports-joint-items.result.now c.loop-joint-test.false
+    ∙ c.outside_ports-joint-items.ensures.ports)))
     (tags_in plan (subst F c.outside_ports-joint-items.ensures.ports c.outside_ports-joint-items.ensures.few))

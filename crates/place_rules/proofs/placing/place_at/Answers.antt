@@ -14,12 +14,17 @@ returns-in-None c =
     let w = wiring_of c.args.topology.now in
     let r = c.args.rule.now in
     ap (option_map (entry_with w c.args.site (flat r)))
-    (c.in-None.ensures ∙ ap (λ (i : Option ℕ). option_map (λ (n : MatchOf). record n { in_port = i }) (if c.args.site.spread then meet r.m untagged else Some r.m)) c.ingress_of-ingress.ensures)
+    (c.in-None.ensures
+    ∙ ap (λ (i : Option ℕ). option_map (λ (n : MatchOf). record n { in_port = i })
+    (if c.args.site.spread then meet r.m untagged else Some r.m)) c.ingress_of-ingress.ensures)
 
 pub returns : goal.returns
 returns c =
     let w = wiring_of c.args.topology.now in
     let r = c.args.rule.now in
-    ap (λ (e : PhysEntry). Some e) (c.in_ok-entry_with.ensures ∙ ap (λ (i : Option ℕ). entry_by w c.args.site i c.in-Some.m r) c.ingress_of-ingress.ensures)
+    ap (λ (e : PhysEntry). Some e) (c.in_ok-entry_with.ensures
+    ∙ ap (λ (i : Option ℕ). entry_by w c.args.site i c.in-Some.m r) c.ingress_of-ingress.ensures)
     ∙ ap (option_map (entry_with w c.args.site (flat r)))
-    (c.in-Some.ensures ∙ ap (λ (i : Option ℕ). option_map (λ (n : MatchOf). record n { in_port = i }) (if c.args.site.spread then meet r.m untagged else Some r.m)) c.ingress_of-ingress.ensures)
+    (c.in-Some.ensures
+    ∙ ap (λ (i : Option ℕ). option_map (λ (n : MatchOf). record n { in_port = i })
+    (if c.args.site.spread then meet r.m untagged else Some r.m)) c.ingress_of-ingress.ensures)

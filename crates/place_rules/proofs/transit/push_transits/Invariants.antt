@@ -5,4 +5,5 @@ use Rattle.place_rules.proofs.transit.push_transits.Given as goal
 
 -- the entries of the ports so far
 abbrev pub invariant-loop-goal : goal.invariant-loop-goal
-invariant-loop-goal l = l.entries ≡ l.initial.entries ++ flat_map (transits_to l.wiring l.switch) (take l.goal-index l.goal-items)
+invariant-loop-goal l = l.entries ≡ l.initial.entries ++ flat_map (transits_to l.wiring l.switch)
+    (take l.goal-index l.goal-items)

@@ -14,7 +14,8 @@ loop-at-preserved c =
     let at = c.loop-at.at in
     let w = c.token_at-token.result.1 in
     let before : State = state_of c.loop-at.progress in
-    let rest_is : take (length text - at) (drop at text) ≡ drop at text = take_all (length text - at) (drop at text) (omega (arith, length-drop at text)) in
+    let rest_is : take (length text - at) (drop at text) ≡ drop at text =
+    take_all (length text - at) (drop at text) (omega (arith, length-drop at text)) in
     let token_is = rw rest_is at c.token_at-token.ensures.sign in
     let width_is = rw rest_is at c.token_at-token.ensures.width in
     let within_is = rw rest_is at c.token_at-token.ensures.within in
@@ -24,9 +25,12 @@ loop-at-preserved c =
     let rest = signs_from 0 (at + w) (drop (at + w) text) in
     let in_text : w ≤ length (drop at text) = within_is in
     let signs = signs_front text at w (omega arith) c.if-text-at-eq32.false c.token_at-token.ensures.some width_is in
-    let few : length c.in-Some.after.context.names ≤ length c.loop-at.progress.context.names + 1 = step_names members before (state_of c.in-Some.after) (front_sign (drop at text)) stepped in
+    let few : length c.in-Some.after.context.names ≤ length c.loop-at.progress.context.names + 1 =
+    step_names members before (state_of c.in-Some.after) (front_sign (drop at text)) stepped in
     record {
       within = omega (arith, length-drop at text);
-      same = sym (ap (run members (length text) before) signs ∙ ap (λ (o : Option State). run_on at o (λ after. run members (length text) after rest)) stepped) ∙ c.loop-at.invariant.same;
+      same = sym (ap (run members (length text) before) signs
+          ∙ ap (λ (o : Option State). run_on at o (λ after. run members (length text) after rest)) stepped)
+          ∙ c.loop-at.invariant.same;
       few = omega (arith, c.loop-at.invariant.few, c.token_at-token.ensures.some);
     }

@@ -6,4 +6,5 @@ use Rattle.policy_file.specs.Outcomes.{then_do}
 use Rattle.policy_file.proofs.exprs.exprs.Given as goal
 
 abbrev pub invariant-loop-v : goal.invariant-loop-v
-invariant-loop-v l = then_do (all_of (expr_of l.members) (drop l.v (enumerate_from 0 l.virtuals))) (λ rest. Ok (map policy_of l.exprs ++ rest)) ≡ exprs_of l.virtuals l.members
+invariant-loop-v l = then_do (all_of (expr_of l.members) (drop l.v (enumerate_from 0 l.virtuals)))
+    (λ rest. Ok (map policy_of l.exprs ++ rest)) ≡ exprs_of l.virtuals l.members

@@ -16,6 +16,10 @@ returns-in_err-add_item g c =
     let kind = c.args.kind in
     let n = c.loop-number.number in
     let x = c.index-values-number.result in
-    let step = subst (λ (ds : List Data). drop n (enumerate_from 0 ds) ≡ (n, view x) ∷ drop (n + 1) (enumerate_from 0 ds)) c.items-values.ensures (rest_viewed view c.items-values.result.now n x c.index-values-number.is c.loop-number-test.true) in
-    rw (p.1, p.2) (items_stopped reads kind c.loop-number.list (drop n (enumerate_from 0 (items (table_view c.args.file.now) kind))) (drop (n + 1) (enumerate_from 0 (items (table_view c.args.file.now) kind))) (n, view x)
+    let step = subst (λ (ds : List Data). drop n (enumerate_from 0 ds)
+    ≡ (n, view x) ∷ drop (n + 1) (enumerate_from 0 ds)) c.items-values.ensures
+    (rest_viewed view c.items-values.result.now n x c.index-values-number.is c.loop-number-test.true) in
+    rw (p.1, p.2) (items_stopped reads kind c.loop-number.list
+    (drop n (enumerate_from 0 (items (table_view c.args.file.now) kind)))
+    (drop (n + 1) (enumerate_from 0 (items (table_view c.args.file.now) kind))) (n, view x)
     (items_of reads kind (table_view c.args.file.now)) _ step c.in_err-add_item.ensures c.loop-number.invariant)

@@ -8,4 +8,5 @@ use Rattle.policy_file.proofs.item_reader.read_items.Given as goal
 abbrev pub invariant-loop-number : goal.invariant-loop-number
 invariant-loop-number g l =
     let reads = g.R.ItemReader.reads l.reader in
-    items_after reads l.kind l.list (drop l.number (enumerate_from 0 (items (table_view l.file) l.kind))) ≡ items_of reads l.kind (table_view l.file)
+    items_after reads l.kind l.list (drop l.number (enumerate_from 0 (items (table_view l.file) l.kind)))
+    ≡ items_of reads l.kind (table_view l.file)

@@ -16,7 +16,8 @@ returns-in_err-check_item_listed c =
     let i = c.loop-number.number in
     let x = c.index-items-number.result in
     let lt : i < length xs = omega (arith, as_many_mapped view c.args.items.now, c.loop-number-test.true) in
-    rw (p.1, p.2) (stopped_at Memory (in_item (unlisted c.args.version) c.args.kind) (enumerate_from 0 xs) i (i, view x) _
+    rw (p.1, p.2) (stopped_at Memory (in_item (unlisted c.args.version) c.args.kind) (enumerate_from 0 xs) i (i, view x)
+    _
     (numbered_at xs i (view x) lt (mapped_at view c.args.items.now i x c.loop-number-test.true c.index-items-number.is))
     c.in_err-check_item_listed.ensures c.loop-number.invariant)
 
@@ -35,4 +36,5 @@ pub returns : goal.returns
 returns c =
     let xs = map view c.args.items.now in
     ended (in_item (unlisted c.args.version) c.args.kind) (enumerate_from 0 xs) c.loop-number.number
-    (omega (arith, length-enumerate_from 0 xs, as_many_mapped view c.args.items.now, c.loop-number-test.false)) c.loop-number.invariant
+    (omega (arith, length-enumerate_from 0 xs, as_many_mapped view c.args.items.now, c.loop-number-test.false))
+    c.loop-number.invariant

@@ -8,4 +8,5 @@ use Rattle.policy_file.proofs.listed.check_items_listed.Given as goal
 abbrev pub invariant-loop-number : goal.invariant-loop-number
 invariant-loop-number l =
     let f = in_item (unlisted l.version) l.kind in
-    first_answer f (drop l.number (enumerate_from 0 (map view l.items))) ≡ first_answer f (enumerate_from 0 (map view l.items))
+    first_answer f (drop l.number (enumerate_from 0 (map view l.items)))
+    ≡ first_answer f (enumerate_from 0 (map view l.items))

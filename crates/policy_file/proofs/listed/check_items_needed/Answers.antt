@@ -35,4 +35,5 @@ pub returns : goal.returns
 returns c =
     let xs = map view c.args.items.now in
     ended (in_item missing c.args.kind) (enumerate_from 0 xs) c.loop-number.number
-    (omega (arith, length-enumerate_from 0 xs, as_many_mapped view c.args.items.now, c.loop-number-test.false)) c.loop-number.invariant
+    (omega (arith, length-enumerate_from 0 xs, as_many_mapped view c.args.items.now, c.loop-number-test.false))
+    c.loop-number.invariant

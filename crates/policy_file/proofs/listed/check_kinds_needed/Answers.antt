@@ -13,12 +13,17 @@ pub returns-in_err-check_kind_needed : goal.returns-in_err-check_kind_needed
 returns-in_err-check_kind_needed c =
     let p = err_from_is_err_and c.from_residual.result c.from_residual.ensures.1 in
     let i = c.loop-kind.kind-index in
-    rw (p.1, p.2) (stopped_at Memory (in_items missing (table_view c.args.file.now)) item_kinds i (get_or item_kinds i Switch) _ (drop_more item_kinds i Switch c.loop-kind-test.true) c.in_err-check_kind_needed.ensures c.loop-kind.invariant)
+    rw (p.1, p.2) (stopped_at Memory (in_items missing (table_view c.args.file.now)) item_kinds i
+    (get_or item_kinds i Switch) _ (drop_more item_kinds i Switch c.loop-kind-test.true)
+    c.in_err-check_kind_needed.ensures c.loop-kind.invariant)
 
 pub loop-kind-preserved : goal.loop-kind-preserved
 loop-kind-preserved c =
     let i = c.loop-kind.kind-index in
-    passed_on (in_items missing (table_view c.args.file.now)) item_kinds i (get_or item_kinds i Switch) c.loop-kind-test.true (drop_more item_kinds i Switch c.loop-kind-test.true) c.in_ok-check_kind_needed.ensures c.loop-kind.invariant
+    passed_on (in_items missing (table_view c.args.file.now)) item_kinds i (get_or item_kinds i Switch)
+    c.loop-kind-test.true (drop_more item_kinds i Switch c.loop-kind-test.true) c.in_ok-check_kind_needed.ensures
+    c.loop-kind.invariant
 
 pub returns : goal.returns
-returns c = ended (in_items missing (table_view c.args.file.now)) item_kinds c.loop-kind.kind-index c.loop-kind-test.false c.loop-kind.invariant
+returns c = ended (in_items missing (table_view c.args.file.now)) item_kinds c.loop-kind.kind-index
+    c.loop-kind-test.false c.loop-kind.invariant

@@ -5,4 +5,5 @@ use Rattle.policy_file.specs.Shown.{shown_row}
 use Rattle.policy_file.proofs.listed.is_listed.Given as goal
 
 abbrev pub invariant-loop-row : goal.invariant-loop-row
-invariant-loop-row l = list_any (is_row l.version l.key) (map shown_row (drop l.row-index l.rows)) ≡ list_any (is_row l.version l.key) (map shown_row l.rows)
+invariant-loop-row l = list_any (is_row l.version l.key) (map shown_row (drop l.row-index l.rows))
+    ≡ list_any (is_row l.version l.key) (map shown_row l.rows)

@@ -10,6 +10,10 @@ pub returns : goal.returns
 returns c =
     let d = c.args.draft.now in
     let exprs = map expr.policy_of c.in_ok-exprs.exprs in
-    let read : exprs_of d.plan.virtuals d.members ≡ Ok exprs = (λ i. exprs_of (sym c.as_slice.ensures i) (sym c.as_slice-members.ensures i)) ∙ c.in_ok-exprs.ensures.read in
-    step_gives (exprs_of d.plan.virtuals d.members) exprs (λ es. fits_made d.plan d.members es d.head.hops) c.check_made.result read
-    (subst (λ out. Gives out c.check_made.result) (λ i. fits_made d.plan d.members (map expr.policy_of (c.as_slice-2.ensures i)) d.head.hops) c.check_made.ensures)
+    let read : exprs_of d.plan.virtuals d.members ≡ Ok exprs =
+    (λ i. exprs_of (sym c.as_slice.ensures i) (sym c.as_slice-members.ensures i)) ∙ c.in_ok-exprs.ensures.read in
+    step_gives (exprs_of d.plan.virtuals d.members) exprs (λ es. fits_made d.plan d.members es d.head.hops)
+    c.check_made.result read
+    (subst (λ out. Gives out c.check_made.result)
+    (λ i. fits_made d.plan d.members (map expr.policy_of (c.as_slice-2.ensures i)) d.head.hops)
+    c.check_made.ensures)

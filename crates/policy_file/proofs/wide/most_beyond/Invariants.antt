@@ -7,5 +7,6 @@ invariant-loop-port l =
     let f = beyond l.topology (number_at l.needed) l.v in
     record {
       some : 1 ≤ l.most;
-      left : max l.most (greatest (map (λ p. f p.port) (drop l.port-index l.item.ports))) ≡ greatest (map (λ p. f p.port) l.item.ports);
+      left : max l.most (greatest (map (λ p. f p.port) (drop l.port-index l.item.ports)))
+          ≡ greatest (map (λ p. f p.port) l.item.ports);
     }

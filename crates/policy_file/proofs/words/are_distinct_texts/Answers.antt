@@ -8,4 +8,6 @@ use Rattle.policy_file.proofs.words.are_distinct_texts.Goals as goal
 
 pub returns : goal.returns
 returns c =
-    IfOk-weaker c.are_distinct.result _ _ (λ d h. h ∙ distinct_shown (λ w. w.now) (eq_by_cmp (λ a b. slice_cmp nat_cmp a.now b.now)) same_key (λ x y. refl) c.args.words.now) c.are_distinct.ensures
+    IfOk-weaker c.are_distinct.result _ _ (λ d h. h
+    ∙ distinct_shown (λ w. w.now) (eq_by_cmp (λ a b. slice_cmp nat_cmp a.now b.now)) same_key (λ x y. refl)
+    c.args.words.now) c.are_distinct.ensures

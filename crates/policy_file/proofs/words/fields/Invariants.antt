@@ -6,4 +6,5 @@ use Rattle.policy_file.proofs.words.fields.Given as goal
 
 abbrev pub invariant-loop-item : goal.invariant-loop-item
 invariant-loop-item l =
-    all_after with_named l.nameable (map view (drop l.item-index l.items)) ≡ all_after with_named nothing (map view l.items)
+    all_after with_named l.nameable (map view (drop l.item-index l.items))
+    ≡ all_after with_named nothing (map view l.items)

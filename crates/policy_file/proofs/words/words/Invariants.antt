@@ -7,4 +7,5 @@ use Rattle.policy_file.proofs.words.words.Given as goal
 
 abbrev pub invariant-loop-item : goal.invariant-loop-item
 invariant-loop-item l =
-    option_map (λ ys. map (λ w. w.now) l.words.items ++ ys) (each_of as_str (map view (drop l.item-index l.items))) ≡ each_of as_str (map view l.items)
+    option_map (λ ys. map (λ w. w.now) l.words.items ++ ys) (each_of as_str (map view (drop l.item-index l.items)))
+    ≡ each_of as_str (map view l.items)

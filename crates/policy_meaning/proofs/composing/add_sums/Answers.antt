@@ -4,5 +4,6 @@ use Rattle.policy_meaning.proofs.composing.add_sums.Goals as goal
 
 pub loop-b-preserved : goal.loop-b-preserved
 loop-b-preserved c =
-    pushed_some (sum_rule c.args.a.now) c.as_slice-b-items.result.now c.loop-b.b-index c.b-item.result c.args.rules.now c.loop-b.rules c.push_some.new.self c.in_ok-sum_rule.field-0
+    pushed_some (sum_rule c.args.a.now) c.as_slice-b-items.result.now c.loop-b.b-index c.b-item.result c.args.rules.now
+    c.loop-b.rules c.push_some.new.self c.in_ok-sum_rule.field-0
     c.loop-b-test.true c.b-item.is c.loop-b.invariant c.in_ok-sum_rule.ensures c.in_ok-push_some.ensures.pushed

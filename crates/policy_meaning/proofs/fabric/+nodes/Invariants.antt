@@ -13,4 +13,6 @@ decreases-node_rules l = 2 * l.hops
 
 abbrev pub invariant-node_rules-loop-rule : goal.invariant-node_rules-loop-rule
 invariant-node_rules-loop-rule l =
-    l.rules ≡ flat_map (λ (a : Rule). hops_on (leads a.tail l.switch-inside.links l.port) (node (fabric_of l.network) (l.hops - 1)) l.size (at_node l.v l.port a)) (take l.rule-index l.rule-items)
+    l.rules
+    ≡ flat_map (λ (a : Rule). hops_on (leads a.tail l.switch-inside.links l.port)
+    (node (fabric_of l.network) (l.hops - 1)) l.size (at_node l.v l.port a)) (take l.rule-index l.rule-items)

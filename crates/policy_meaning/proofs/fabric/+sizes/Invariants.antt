@@ -15,4 +15,5 @@ decreases-peers_size l = 2 * l.hops + 1
 abbrev pub invariant-peers_size-loop-link : goal.invariant-peers_size-loop-link
 invariant-peers_size-loop-link l =
     (1 ≤ l.greatest)
-    × (max l.greatest (capped (peers_size (hop_size (fabric_of l.network) l.hops) (drop l.link-index l.link-items))) ≡ capped (peers_size (hop_size (fabric_of l.network) l.hops) l.link-items))
+    × (max l.greatest (capped (peers_size (hop_size (fabric_of l.network) l.hops) (drop l.link-index l.link-items)))
+    ≡ capped (peers_size (hop_size (fabric_of l.network) l.hops) l.link-items))

@@ -5,4 +5,6 @@ use Rattle.policy_meaning.specs.Networks.{fabric_of}
 use Rattle.policy_meaning.proofs.fabric.at_each_port.Given as goal
 
 abbrev pub invariant-loop-port : goal.invariant-loop-port
-invariant-loop-port l = l.entering ≡ map (λ p. record { port = Some p; rules = node (fabric_of l.network) l.hops l.v p }) (take l.port-index l.port-items)
+invariant-loop-port l = l.entering
+    ≡ map (λ p. record { port = Some p; rules = node (fabric_of l.network) l.hops l.v p })
+    (take l.port-index l.port-items)

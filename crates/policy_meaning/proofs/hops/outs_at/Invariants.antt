@@ -5,4 +5,5 @@ use Rattle.policy_meaning.specs.Hops.{out_at}
 use Rattle.policy_meaning.proofs.hops.outs_at.Given as goal
 
 abbrev pub invariant-loop-out : goal.invariant-loop-out
-invariant-loop-out l = l.kept ≡ filter_map (λ (out : Out). out_at l.v l.port out.rewrite out.dest) (take l.out-index l.out-items)
+invariant-loop-out l = l.kept ≡ filter_map (λ (out : Out). out_at l.v l.port out.rewrite out.dest)
+    (take l.out-index l.out-items)

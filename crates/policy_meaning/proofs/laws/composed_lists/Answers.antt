@@ -1,4 +1,5 @@
-use Rattle.policy_meaning.proofs.WrittenRules.{nodes-are-written, nodes-have-leaves, rules-are-written, rules-have-leaves}
+use Rattle.policy_meaning.proofs.WrittenRules.{nodes-are-written, nodes-have-leaves, rules-are-written}
+use Rattle.policy_meaning.proofs.WrittenRules.{rules-have-leaves}
 use Rattle.policy_meaning.proofs.laws.composed_lists.Goals as goal
 
 pub returns-clause-rules : goal.returns-clause-rules

@@ -5,4 +5,5 @@ use Rattle.policy_meaning.specs.declared.walking.PortOut.{PortOut}
 use Rattle.policy_meaning.proofs.walking.append_outs.Given as goal
 
 abbrev pub invariant-loop-out : goal.invariant-loop-out
-invariant-loop-out l = l.outs ≡ l.fn.outs ++ map (λ (out : PortOut). record out { rewrite = and_then l.rewrite out.rewrite }) (take l.out-index l.more)
+invariant-loop-out l = l.outs ≡ l.fn.outs
+    ++ map (λ (out : PortOut). record out { rewrite = and_then l.rewrite out.rewrite }) (take l.out-index l.more)

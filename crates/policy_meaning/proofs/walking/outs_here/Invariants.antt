@@ -5,4 +5,5 @@ use Rattle.policy_meaning.specs.Walk.{port_out as port_out_of}
 use Rattle.policy_meaning.proofs.walking.outs_here.Given as goal
 
 abbrev pub invariant-loop-out : goal.invariant-loop-out
-invariant-loop-out l = l.left ≡ filter_map (λ (out : Out). port_out_of l.v l.in_port out.rewrite out.dest) (take l.out-index l.out-items)
+invariant-loop-out l = l.left ≡ filter_map (λ (out : Out). port_out_of l.v l.in_port out.rewrite out.dest)
+    (take l.out-index l.out-items)

@@ -5,4 +5,5 @@ use Rattle.policy_meaning.specs.Walk.{telling as telling_of}
 use Rattle.policy_meaning.proofs.walking.told_here.Given as goal
 
 abbrev pub invariant-loop-out : goal.invariant-loop-out
-invariant-loop-out l = l.told ≡ filter_map (λ (out : Out). telling_of l.in_port out.rewrite out.dest) (take l.out-index l.out-items)
+invariant-loop-out l = l.told ≡ filter_map (λ (out : Out). telling_of l.in_port out.rewrite out.dest)
+    (take l.out-index l.out-items)

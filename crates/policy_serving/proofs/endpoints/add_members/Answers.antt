@@ -12,11 +12,13 @@ loop-n-preserved c =
     let x = c.index-members-n.result in
     let n = c.loop-n.n in
     let rounds = c.args.rounds in
-    let item = λ (text : List ℕ). let y : Place = record { end = ends.Member n text rounds; side = sides.Member n } in y in
+    let item = λ (text : List ℕ). let y : Place = record { end = ends.Member n text rounds; side = sides.Member n } in
+    y in
     c.in_ok-push.ensures.pushed
     ∙ (ap (λ text. c.loop-n.places ++ item text ∷ []) c.in_ok-copy.ensures
     ∙ (ap (λ places. places ++ item x.address ∷ []) c.loop-n.invariant
-    ∙ (append_assoc c.args.places.now (map (member_place rounds) (take n (enumerate_from 0 c.args.members.now))) (item x.address ∷ [])
+    ∙ (append_assoc c.args.places.now (map (member_place rounds) (take n (enumerate_from 0 c.args.members.now)))
+    (item x.address ∷ [])
     ∙ ap (λ places. c.args.places.now ++ places)
     (sym (numbered_mapped (member_place rounds) c.args.members.now n x c.loop-n-test.true c.index-members-n.is)))))
 

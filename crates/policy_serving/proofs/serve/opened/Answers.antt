@@ -1,6 +1,6 @@
 use Rattle.std.proofs.Common.{◌≡◌, ◌∙◌, ◌<◌, ◌+◌, ◌*◌, ◌^◌, All, List, ap, length, subst, sym}
 use Rattle.endpoint_works.specs.Sides.{IsServedSide}
-use Rattle.hyper_core.specs.Meanings.{data_in}
+use Rattle.event_composes.specs.Meanings.{data_in}
 use Rattle.policy_serving.specs.Proxies.{HasOne}
 use Rattle.machine_meaning.specs.States.{opening}
 use Rattle.policy_file.specs.Policies.{PolicyOf}
@@ -20,7 +20,8 @@ returns-clause-served g c =
     let same = c.in_ok-machine.ensures.plan in
     let places : c.in_ok-places.places ≡ places_of machine.plan = c.in_ok-places.ensures ∙ ap places_of (sym same) in
     subst (All (λ (place : Place). IsServedSide (HasOne (data_in machine)) place.side)) (sym places)
-    (c.places_are_served.ensures machine (subst IsSound (sym same) c.is_sound.ensures) (c.in_ok-machine.ensures.opening ∙ ap opening (sym same)))
+    (c.places_are_served.ensures machine (subst IsSound (sym same) c.is_sound.ensures)
+    (c.in_ok-machine.ensures.opening ∙ ap opening (sym same)))
 
 pub returns-clause-few : goal.returns-clause-few
 returns-clause-few g c =

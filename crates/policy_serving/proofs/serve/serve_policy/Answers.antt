@@ -1,7 +1,7 @@
 use denote.Param.Send.{sendable}
 use Rattle.std.proofs.Common.{[], List, inl, refl, subst}
 use Rattle.hyper_core.specs.contracts.machine.HyperMachine.TheImpl.{ghosts as hyper}
-use Rattle.hyper_core.specs.Meanings.{data_in, data_of}
+use Rattle.event_composes.specs.Meanings.{data_in, data_of}
 use Rattle.policy_serving.proofs.Crossing.{hyper as crossing}
 use Rattle.machine_meaning.specs.States.{opening}
 use Rattle.serving.specs.Histories.{lines_taken}
@@ -25,14 +25,21 @@ returns-in-Ok-clause-serves g c =
     let faults = g.L.Links.faults c.args.links.now in
     let risen = g.L.Links.faults c.serve.new.links in
     let here = c.in-Ok.ensures.opening in
-    let serves = subst (λ (places : List Place). Serves hyper start told reliable lines_taken places held written faults risen c.serve.result)
+    let serves =
+    subst (λ (places : List Place). Serves hyper start told reliable lines_taken places held written faults risen
+    c.serve.result)
     c.in-Ok.ensures.places c.serve.ensures.serves in
     record {
       start = start;
       opening = here;
-      serves = made hyper c.audit_is_kept.ensures start (none_waits c.args.policy start here) refl told reliable (places_of c.args.policy) held written faults risen c.serve.result serves;
+      serves = made hyper c.audit_is_kept.ensures start (none_waits c.args.policy start here) refl told reliable
+          (places_of c.args.policy) held written faults risen c.serve.result serves;
     }
 
 pub returns-in-Err-clause-serves : goal.returns-in-Err-clause-serves
 returns-in-Err-clause-serves g c =
-    record { start = data_of c.args.policy (opening c.args.policy) []; opening = opens c.args.policy; serves = inl refl }
+    record {
+      start = data_of c.args.policy (opening c.args.policy) [];
+      opening = opens c.args.policy;
+      serves = inl refl;
+    }

@@ -8,5 +8,6 @@ use Rattle.policy_setting.proofs.wires.hops.Goals as goal
 pub loop-from-preserved : goal.loop-from-preserved
 loop-from-preserved c =
     c.in_ok-push_hops.ensures
-    ∙ (ap (λ hs. hs ++ filter_map (hop c.args.paths.now c.loop-from.from) (range_with_len 0 c.args.count)) c.loop-from.invariant
+    ∙ (ap (λ hs. hs ++ filter_map (hop c.args.paths.now c.loop-from.from) (range_with_len 0 c.args.count))
+    c.loop-from.invariant
     ∙ sym (flat_next (λ from. filter_map (hop c.args.paths.now from) (range_with_len 0 c.args.count)) c.loop-from.from))

@@ -12,4 +12,5 @@ loop-to-preserved c =
     c.in_ok-push_some.ensures.pushed
     ∙ (ap (λ hs. hs ++ option_to_list c.hop_between.result) c.loop-to.invariant
     ∙ (append_assoc c.args.hops.now before (option_to_list c.hop_between.result)
-    ∙ ap (λ hs. c.args.hops.now ++ hs) (ap (λ o. before ++ option_to_list o) c.hop_between.ensures ∙ sym (filter_next f c.loop-to.to))))
+    ∙ ap (λ hs. c.args.hops.now ++ hs) (ap (λ o. before ++ option_to_list o) c.hop_between.ensures
+    ∙ sym (filter_next f c.loop-to.to))))

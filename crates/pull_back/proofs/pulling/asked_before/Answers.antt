@@ -6,8 +6,10 @@ use Rattle.pull_back.proofs.pulling.asked_before.Goals as goal
 pub invariant_of-result : goal.invariant_of-result
 invariant_of-result c = record {
   in_port = c.m.invariant.in_port;
-  dl_src = rw c.unset.ensures (kept (λ v. v < 2 ^ 48) true c.rewrite.inside.dl_src c.m.inside.dl_src c.m.invariant.dl_src);
-  dl_dst = rw c.unset-2.ensures (kept (λ v. v < 2 ^ 48) true c.rewrite.inside.dl_dst c.m.inside.dl_dst c.m.invariant.dl_dst);
+  dl_src =
+      rw c.unset.ensures (kept (λ v. v < 2 ^ 48) true c.rewrite.inside.dl_src c.m.inside.dl_src c.m.invariant.dl_src);
+  dl_dst =
+      rw c.unset-2.ensures (kept (λ v. v < 2 ^ 48) true c.rewrite.inside.dl_dst c.m.inside.dl_dst c.m.invariant.dl_dst);
   dl_vlan = c.m.invariant.dl_vlan;
   dl_vlan_pcp = c.m.invariant.dl_vlan_pcp;
   dl_type = c.m.invariant.dl_type;

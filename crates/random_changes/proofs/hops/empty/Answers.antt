@@ -22,4 +22,5 @@ new-requires-clause-fits c = two-fit c.args.topology c.in_ok-sizes.sizes c.in_ok
 pub returns : goal.returns
 returns c =
     IfOk-weaker c.new.result _ _
-    (λ t h. none-held c.args.topology c.in_ok-sizes.sizes c.in_ok-whole.whole t c.in_ok-sizes.ensures c.in_ok-whole.ensures h) c.new.ensures
+    (λ t h. none-held c.args.topology c.in_ok-sizes.sizes c.in_ok-whole.whole t c.in_ok-sizes.ensures
+    c.in_ok-whole.ensures h) c.new.ensures

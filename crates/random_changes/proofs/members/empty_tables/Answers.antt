@@ -10,4 +10,5 @@ loop-member-init c = subst (AllByRecursion IsSoundTable) (sym c.new-tables.ensur
 pub loop-member-preserved : goal.loop-member-preserved
 loop-member-preserved c =
     subst (AllByRecursion IsSoundTable) (sym c.in_ok-push.ensures.pushed)
-    (all-append IsSoundTable c.loop-member.tables (c.in_ok-table.table ∷ []) c.loop-member.invariant (c.in_ok-table.ensures, tt))
+    (all-append IsSoundTable c.loop-member.tables (c.in_ok-table.table ∷ []) c.loop-member.invariant
+    (c.in_ok-table.ensures, tt))

@@ -8,15 +8,19 @@ use Rattle.replay_report.proofs.hearing.send_frames.Given as goal
 abbrev pub invariant-loop-frame : goal.invariant-loop-frame
 invariant-loop-frame g l = record {
   report : l.stage.report ++ (sends l.stage.machine.plan l.who (frames_of l.framer) (state_of l.stage.machine)).text
-      ≡ l.initial.stage.report ++ (sends l.initial.stage.machine.plan l.who (frames_of l.initial.framer) (state_of l.initial.stage.machine)).text;
+      ≡ l.initial.stage.report
+      ++ (sends l.initial.stage.machine.plan l.who (frames_of l.initial.framer)
+      (state_of l.initial.stage.machine)).text;
   state : (sends l.stage.machine.plan l.who (frames_of l.framer) (state_of l.stage.machine)).state
-      ≡ (sends l.initial.stage.machine.plan l.who (frames_of l.initial.framer) (state_of l.initial.stage.machine)).state;
+      ≡ (sends l.initial.stage.machine.plan l.who (frames_of l.initial.framer)
+      (state_of l.initial.stage.machine)).state;
   plan : l.stage.machine.plan ≡ l.initial.stage.machine.plan;
   names : l.stage.names ≡ l.initial.stage.names;
   rest : rest_of l.framer ≡ rest_of l.initial.framer;
   compiled : l.stage.machine.compiled ≡ true;
   steps : l.steps + (sends l.stage.machine.plan l.who (frames_of l.framer) (state_of l.stage.machine)).steps
-      ≤ l.initial.steps + (sends l.initial.stage.machine.plan l.who (frames_of l.initial.framer) (state_of l.initial.stage.machine)).steps;
+      ≤ l.initial.steps + (sends l.initial.stage.machine.plan l.who (frames_of l.initial.framer)
+      (state_of l.initial.stage.machine)).steps;
 }
 
 abbrev pub decreases-loop-frame : goal.decreases-loop-frame

@@ -53,19 +53,24 @@ pub returns-in_err-refused-clause-steps : goal.returns-in_err-refused-clause-ste
 returns-in_err-refused-clause-steps g c = c.do_line.ensures.steps
 
 pub returns-in_err-count_line-clause-tally : goal.returns-in_err-count_line-clause-tally
-returns-in_err-count_line-clause-tally g c = unowed c.from_residual-in_err-count_line.result _ c.from_residual-in_err-count_line.ensures.0
+returns-in_err-count_line-clause-tally g c =
+    unowed c.from_residual-in_err-count_line.result _ c.from_residual-in_err-count_line.ensures.0
 
 pub returns-in_err-count_line-clause-form : goal.returns-in_err-count_line-clause-form
-returns-in_err-count_line-clause-form g c = unowed c.from_residual-in_err-count_line.result _ c.from_residual-in_err-count_line.ensures.0
+returns-in_err-count_line-clause-form g c =
+    unowed c.from_residual-in_err-count_line.result _ c.from_residual-in_err-count_line.ensures.0
 
 pub returns-in_err-count_line-clause-plan : goal.returns-in_err-count_line-clause-plan
-returns-in_err-count_line-clause-plan g c = unowed c.from_residual-in_err-count_line.result _ c.from_residual-in_err-count_line.ensures.0
+returns-in_err-count_line-clause-plan g c =
+    unowed c.from_residual-in_err-count_line.result _ c.from_residual-in_err-count_line.ensures.0
 
 pub returns-in_err-count_line-clause-report : goal.returns-in_err-count_line-clause-report
-returns-in_err-count_line-clause-report g c = unowed c.from_residual-in_err-count_line.result _ c.from_residual-in_err-count_line.ensures.0
+returns-in_err-count_line-clause-report g c =
+    unowed c.from_residual-in_err-count_line.result _ c.from_residual-in_err-count_line.ensures.0
 
 pub returns-in_err-count_line-clause-ready : goal.returns-in_err-count_line-clause-ready
-returns-in_err-count_line-clause-ready g c = unowed c.from_residual-in_err-count_line.result _ c.from_residual-in_err-count_line.ensures.0
+returns-in_err-count_line-clause-ready g c =
+    unowed c.from_residual-in_err-count_line.result _ c.from_residual-in_err-count_line.ensures.0
 
 pub returns-in_err-count_line-clause-steps : goal.returns-in_err-count_line-clause-steps
 returns-in_err-count_line-clause-steps g c = c.do_line.ensures.steps

@@ -16,9 +16,11 @@ loop-n-preserved c =
     ∙ (ap (λ text. c.loop-n.names ++ item text ∷ []) c.in_ok-member_name.ensures
     ∙ (ap (λ names. names ++ item (member_name x) ∷ []) c.loop-n.invariant
     ∙ (append_assoc front (map named_member (take n (enumerate_from 0 c.args.members.now))) (item (member_name x) ∷ [])
-    ∙ ap (λ names. front ++ names) (sym (numbered_mapped named_member c.args.members.now n x c.loop-n-test.true c.index-members-n.is)))))
+    ∙ ap (λ names. front ++ names)
+    (sym (numbered_mapped named_member c.args.members.now n x c.loop-n-test.true c.index-members-n.is)))))
 
 pub returns : goal.returns
 returns c =
     c.loop-n.invariant
-    ∙ ap (λ xs. c.args.names.now ++ map named_member xs) (numbered_all c.args.members.now c.loop-n.n (omega (arith, c.loop-n-test.false)))
+    ∙ ap (λ xs. c.args.names.now ++ map named_member xs)
+    (numbered_all c.args.members.now c.loop-n.n (omega (arith, c.loop-n-test.false)))

@@ -16,9 +16,11 @@ loop-n-preserved c =
     ∙ (ap (λ text. c.loop-n.names ++ item text ∷ []) c.in_ok-copy.ensures
     ∙ (ap (λ names. names ++ item x.name ∷ []) c.loop-n.invariant
     ∙ (append_assoc front (map named_switch (take n (enumerate_from 0 c.args.switches.now))) (item x.name ∷ [])
-    ∙ ap (λ names. front ++ names) (sym (numbered_mapped named_switch c.args.switches.now n x c.loop-n-test.true c.index-switches-n.is)))))
+    ∙ ap (λ names. front ++ names)
+    (sym (numbered_mapped named_switch c.args.switches.now n x c.loop-n-test.true c.index-switches-n.is)))))
 
 pub returns : goal.returns
 returns c =
     c.loop-n.invariant
-    ∙ ap (λ xs. c.args.names.now ++ map named_switch xs) (numbered_all c.args.switches.now c.loop-n.n (omega (arith, c.loop-n-test.false)))
+    ∙ ap (λ xs. c.args.names.now ++ map named_switch xs)
+    (numbered_all c.args.switches.now c.loop-n.n (omega (arith, c.loop-n-test.false)))

@@ -12,7 +12,8 @@ returns-clause-taken g c =
     let p = c.args.machine.now.plan in
     let s = state_of c.args.machine.now in
     let who = c.args.who in
-    let stepped = c.in_ok-reply.ensures.step ∙ ap (λ (n : ℕ). step_of p s (Take (record { who = who; round = n }))) c.round.ensures in
+    let stepped = c.in_ok-reply.ensures.step
+    ∙ ap (λ (n : ℕ). step_of p s (Take (record { who = who; round = n }))) c.round.ensures in
     subst (λ (o : Option (List ℕ)). TakesFirst o who s (state_of c.step.new.machine)) (sym c.message_in.ensures)
     (takes_first p who s (state_of c.step.new.machine) c.in_ok-reply.reply stepped)
 

@@ -6,7 +6,8 @@ use Rattle.replay_report.proofs.telling.tell_audit.Given as goal
 
 abbrev pub invariant-loop-line : goal.invariant-loop-line
 invariant-loop-line g l = record {
-  report : l.report ++ audit_lines (waits_for (state_of l.machine) Audit) ≡ l.initial.report ++ audit_lines (waits_for (state_of l.initial.machine) Audit);
+  report : l.report ++ audit_lines (waits_for (state_of l.machine) Audit)
+      ≡ l.initial.report ++ audit_lines (waits_for (state_of l.initial.machine) Audit);
   state : emptied Audit (state_of l.machine) ≡ emptied Audit (state_of l.initial.machine);
   plan : l.machine.plan ≡ l.initial.machine.plan;
   compiled : l.machine.compiled ≡ true;

@@ -6,7 +6,16 @@ use Rattle.script_text.proofs.laws.worked_examples.Goals as goal
 
 pub returns-clause-lines : goal.returns-clause-lines
 unfolding number_in hex_on_literals digits
-returns-clause-lines c = record { empty = refl; comment = refl; up = refl; noarp = refl; from = refl; gone = refl; tick = refl; expr = refl }
+returns-clause-lines c = record {
+  empty = refl;
+  comment = refl;
+  up = refl;
+  noarp = refl;
+  from = refl;
+  gone = refl;
+  tick = refl;
+  expr = refl;
+}
 
 pub returns-clause-faults : goal.returns-clause-faults
 unfolding number_in hex_on_literals digits

@@ -20,7 +20,9 @@ returns c =
     let line = c.args.line.now in
     let at = c.in-Some.at in
     let cut = first_piece line at (sym c.in-Some.ensures.place) in
-    let rest : c.split_at-2.result.1.now ≡ drop (at + 1) line = c.split_at-2.ensures.back ∙ (ap (drop 1) c.split_at.ensures.back ∙ drop-drop 1 at line) in
+    let rest : c.split_at-2.result.1.now ≡ drop (at + 1) line = c.split_at-2.ensures.back
+    ∙ (ap (drop 1) c.split_at.ensures.back ∙ drop-drop 1 at line) in
     let pieces = (λ i. c.split_at.ensures.front i ∷ words (rest i)) ∙ sym cut in
     let says = if_false (is_blank line) (Ok Blank) (said c.args.form (words line)) (sym c.if-is_blank.ensures) in
-    subst (λ (x : Result Line LineFault). Gives c.read_words.result x) (ap (said c.args.form) pieces ∙ sym says) c.read_words.ensures
+    subst (λ (x : Result Line LineFault). Gives c.read_words.result x) (ap (said c.args.form) pieces ∙ sym says)
+    c.read_words.ensures

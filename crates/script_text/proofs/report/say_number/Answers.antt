@@ -7,4 +7,5 @@ use Rattle.script_text.proofs.report.say_number.Goals as goal
 
 pub say-requires : goal.say-requires
 say-requires c =
-    ap (list_all is_ascii) (c.as_str.ensures.value ∙ c.in_ok-digits.ensures.ok) ∙ all_ascii _ (IsAscii-decimal c.args.number (omega (arith, c.ranges.number)))
+    ap (list_all is_ascii) (c.as_str.ensures.value ∙ c.in_ok-digits.ensures.ok)
+    ∙ all_ascii _ (IsAscii-decimal c.args.number (omega (arith, c.ranges.number)))

@@ -8,7 +8,8 @@ loop-place-preserved g c =
     let i = c.loop-place.invariant in
     let d = c.dial_one.ensures in
     record {
-      lines = lines-less (g.L.Links.told c.args.links.now) (g.L.Links.is_reliable c.args.links.now) g.L.Dial.Dial.left g.L.Dial.Dial.is_reliable
+      lines = lines-less (g.L.Links.told c.args.links.now) (g.L.Links.is_reliable c.args.links.now) g.L.Dial.Dial.left
+          g.L.Dial.Dial.is_reliable
           c.loop-place.failed c.loop-place.yielded c.loop-place.lines c.in-Some.place i.lines;
       told = λ end. d.told end ∙ i.told end;
       reliable = λ end. d.reliable end ∙ i.reliable end;
@@ -21,13 +22,18 @@ loop-place-preserved-in-Continue-branch-2 g c =
     let i = c.loop-place.invariant in
     let d = c.dial_one.ensures in
     record {
-      lines = subst (AreLinesOf (g.L.Links.told c.args.links.now) (g.L.Links.is_reliable c.args.links.now) g.L.Dial.Dial.left
+      lines =
+          subst (AreLinesOf (g.L.Links.told c.args.links.now) (g.L.Links.is_reliable c.args.links.now)
+          g.L.Dial.Dial.left
           g.L.Dial.Dial.is_reliable c.loop-place.failed (c.loop-place.yielded ++ c.in-Some.place ∷ []))
           (sym c.in_ok-push-in-Some-dial_one.ensures.pushed)
-          (lines-more (g.L.Links.told c.args.links.now) (g.L.Links.is_reliable c.args.links.now) g.L.Dial.Dial.left g.L.Dial.Dial.is_reliable
+          (lines-more (g.L.Links.told c.args.links.now) (g.L.Links.is_reliable c.args.links.now) g.L.Dial.Dial.left
+          g.L.Dial.Dial.is_reliable
           c.loop-place.failed c.loop-place.yielded c.loop-place.lines c.in-Some.place c.in-Some-dial_one.line i.lines
-          (line-same (g.L.Links.told c.args.links.now) (g.L.Links.told c.loop-place.links) (g.L.Links.is_reliable c.args.links.now)
-          (g.L.Links.is_reliable c.loop-place.links) g.L.Dial.Dial.left g.L.Dial.Dial.is_reliable c.in-Some.place c.in-Some-dial_one.line
+          (line-same (g.L.Links.told c.args.links.now) (g.L.Links.told c.loop-place.links)
+          (g.L.Links.is_reliable c.args.links.now)
+          (g.L.Links.is_reliable c.loop-place.links) g.L.Dial.Dial.left g.L.Dial.Dial.is_reliable c.in-Some.place
+          c.in-Some-dial_one.line
           (i.told c.in-Some.place.end) (i.reliable c.in-Some.place.end) c.in-Some-dial_one.ensures.line));
       told = λ end. d.told end ∙ i.told end;
       reliable = λ end. d.reliable end ∙ i.reliable end;

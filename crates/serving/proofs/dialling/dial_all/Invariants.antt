@@ -6,7 +6,8 @@ use Rattle.serving.proofs.dialling.dial_all.Given as goal
 
 abbrev pub invariant-loop-place : goal.invariant-loop-place
 invariant-loop-place g l = record {
-  lines : AreLinesOf (g.L.Links.told l.fn.links) (g.L.Links.is_reliable l.fn.links) g.L.Dial.Dial.left g.L.Dial.Dial.is_reliable
+  lines : AreLinesOf (g.L.Links.told l.fn.links) (g.L.Links.is_reliable l.fn.links) g.L.Dial.Dial.left
+      g.L.Dial.Dial.is_reliable
       l.failed l.yielded l.lines;
   told : (end : Endpoint) → g.L.Links.told l.links end ≡ g.L.Links.told l.fn.links end;
   reliable : (end : Endpoint) → g.L.Links.is_reliable l.links end ≡ g.L.Links.is_reliable l.fn.links end;

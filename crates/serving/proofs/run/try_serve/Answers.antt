@@ -14,25 +14,29 @@ use Rattle.serving.proofs.run.try_serve.Goals as goal
 
 pub overflow_cast-count : goal.overflow_cast-count
 overflow_cast-count g c =
-    let l = lines-within (g.L.Links.told c.args.links.now) (g.L.Links.is_reliable c.args.links.now) g.L.Dial.Dial.left g.L.Dial.Dial.is_reliable
+    let l = lines-within (g.L.Links.told c.args.links.now) (g.L.Links.is_reliable c.args.links.now) g.L.Dial.Dial.left
+    g.L.Dial.Dial.is_reliable
     c.in_ok-lines.lines.failed c.args.places c.in_ok-lines.lines.lines c.in_ok-lines.ensures.lines in
     let n = c.len-count.ensures in let few = c.requires.few in omega arith
 
 pub overflow_mul-count-2 : goal.overflow_mul-count-2
 overflow_mul-count-2 g c =
-    let l = lines-within (g.L.Links.told c.args.links.now) (g.L.Links.is_reliable c.args.links.now) g.L.Dial.Dial.left g.L.Dial.Dial.is_reliable
+    let l = lines-within (g.L.Links.told c.args.links.now) (g.L.Links.is_reliable c.args.links.now) g.L.Dial.Dial.left
+    g.L.Dial.Dial.is_reliable
     c.in_ok-lines.lines.failed c.args.places c.in_ok-lines.lines.lines c.in_ok-lines.ensures.lines in
     let n = c.len-count.ensures in let few = c.requires.few in omega arith
 
 pub overflow_add-count-2 : goal.overflow_add-count-2
 overflow_add-count-2 g c =
-    let l = lines-within (g.L.Links.told c.args.links.now) (g.L.Links.is_reliable c.args.links.now) g.L.Dial.Dial.left g.L.Dial.Dial.is_reliable
+    let l = lines-within (g.L.Links.told c.args.links.now) (g.L.Links.is_reliable c.args.links.now) g.L.Dial.Dial.left
+    g.L.Dial.Dial.is_reliable
     c.in_ok-lines.lines.failed c.args.places c.in_ok-lines.lines.lines c.in_ok-lines.ensures.lines in
     let n = c.len-count.ensures in let few = c.requires.few in omega arith
 
 pub attend-requires-clause-few : goal.attend-requires-clause-few
 attend-requires-clause-few g c κs within =
-    let l = lines-within (g.L.Links.told c.args.links.now) (g.L.Links.is_reliable c.args.links.now) g.L.Dial.Dial.left g.L.Dial.Dial.is_reliable
+    let l = lines-within (g.L.Links.told c.args.links.now) (g.L.Links.is_reliable c.args.links.now) g.L.Dial.Dial.left
+    g.L.Dial.Dial.is_reliable
     c.in_ok-lines.lines.failed c.args.places c.in_ok-lines.lines.lines c.in_ok-lines.ensures.lines in
     let few = c.requires.few in omega arith
 
@@ -51,28 +55,35 @@ attend-requires-clause-all g c κs within = c.in_ok-lock.ensures.all
 
 pub attend-requires-clause-silent : goal.attend-requires-clause-silent
 attend-requires-clause-silent g c κs within =
-    subst (All IsSilent) (sym c.in_ok-lock.ensures.seats) (opening-silent c.in_ok-lock.lock (2 * c.len-count.result + 1))
+    subst (All IsSilent) (sym c.in_ok-lock.ensures.seats)
+    (opening-silent c.in_ok-lock.lock (2 * c.len-count.result + 1))
 
 pub attend-requires-clause-sides : goal.attend-requires-clause-sides
 attend-requires-clause-sides g c κs within =
-    lines-served (g.L.Links.told c.args.links.now) (g.L.Links.is_reliable c.args.links.now) g.L.Dial.Dial.left g.L.Dial.Dial.is_reliable
-    (g.H.Host.knows c.in_ok-lock.lock.start) c.in_ok-lines.lines.failed c.args.places c.in_ok-lines.lines.lines c.in_ok-lines.ensures.lines
-    (subst (λ s. All (λ (p : Place). IsServedSide (g.H.Host.knows s) p.side) c.args.places) (sym c.in_ok-lock.ensures.start) c.requires.served)
+    lines-served (g.L.Links.told c.args.links.now) (g.L.Links.is_reliable c.args.links.now) g.L.Dial.Dial.left
+    g.L.Dial.Dial.is_reliable
+    (g.H.Host.knows c.in_ok-lock.lock.start) c.in_ok-lines.lines.failed c.args.places c.in_ok-lines.lines.lines
+    c.in_ok-lines.ensures.lines
+    (subst (λ s. All (λ (p : Place). IsServedSide (g.H.Host.knows s) p.side) c.args.places)
+    (sym c.in_ok-lock.ensures.start) c.requires.served)
 
 pub attend-requires-clause-room : goal.attend-requires-clause-room
 attend-requires-clause-room g c κs within =
     let n = c.len-count.ensures in let room = c.in_ok-room.ensures.capacity in omega arith
 
 pub returns-then-is_err-clause-spawn : goal.returns-then-is_err-clause-spawn
-returns-then-is_err-clause-spawn g c = λ _. after-err c.admit.result (sym c.if-is_err.ensures.value) c.admit.ensures.fault
+returns-then-is_err-clause-spawn g c = λ _. after-err c.admit.result (sym c.if-is_err.ensures.value)
+    c.admit.ensures.fault
 
 pub returns-clause-serves : goal.returns-clause-serves
 returns-clause-serves g c =
     IfOk-weaker c.attend.result _ _
-    (λ served h. subst (λ s. Serves g.H.Machine.Machine s (g.L.Links.told c.args.links.now) (g.L.Links.is_reliable c.args.links.now)
+    (λ served h. subst (λ s. Serves g.H.Machine.Machine s (g.L.Links.told c.args.links.now)
+    (g.L.Links.is_reliable c.args.links.now)
     lines_taken c.args.places (g.K.Sink.held c.args.out.now) (g.K.Sink.held c.attend.new.out)
     (g.L.Links.faults c.args.links.now) (g.L.Links.faults c.dial_all.new.links) served) c.in_ok-lock.ensures.start
-    (h (g.L.Links.told c.args.links.now) (g.L.Links.is_reliable c.args.links.now) c.args.places (g.L.Links.faults c.args.links.now)
+    (h (g.L.Links.told c.args.links.now) (g.L.Links.is_reliable c.args.links.now) c.args.places
+    (g.L.Links.faults c.args.links.now)
     (g.L.Links.faults c.dial_all.new.links) c.in_ok-lines.ensures.fault c.in_ok-lines.ensures.lines))
     c.attend.ensures.serves
 
@@ -81,7 +92,8 @@ returns-clause-link g c =
     IfOk-weaker c.attend.result _ _
     (λ served h is all. link-cause c.in_ok-lines.lines.failed c.in_ok-lines.ensures.fault
     (λ none. h is none
-    (lines-reliable (g.L.Links.told c.args.links.now) (g.L.Links.is_reliable c.args.links.now) g.L.Dial.Dial.left g.L.Dial.Dial.is_reliable
+    (lines-reliable (g.L.Links.told c.args.links.now) (g.L.Links.is_reliable c.args.links.now) g.L.Dial.Dial.left
+    g.L.Dial.Dial.is_reliable
     c.in_ok-lines.lines.failed c.args.places c.in_ok-lines.lines.lines c.in_ok-lines.ensures.lines all)))
     c.attend.ensures.link
 

@@ -35,22 +35,32 @@ loop-line-preserved g c =
     record {
       done = i.done ++ line ∷ [];
       used = i.used ++ first ∷ second ∷ [];
-      lines = i.lines ∙ (ap (λ l. i.done ++ l) lines ∙ sym (append_assoc i.done (line ∷ []) c.pop_front.new.self.items));
-      seats = i.seats ∙ (ap (λ l. i.used ++ l) seats ∙ sym (append_assoc i.used (first ∷ second ∷ []) c.pop_front-in-Some-2.new.self.items));
+      lines = i.lines
+          ∙ (ap (λ l. i.done ++ l) lines ∙ sym (append_assoc i.done (line ∷ []) c.pop_front.new.self.items));
+      seats = i.seats
+          ∙ (ap (λ l. i.used ++ l) seats
+          ∙ sym (append_assoc i.used (first ∷ second ∷ []) c.pop_front-in-Some-2.new.self.items));
       handovers = let l = ap length lines in let h = i.handovers in grind arith;
       even = let l = ap length lines in let s = ap length seats in let h = i.even in grind arith;
       teams = subst (AreTeams _ _ (i.done ++ line ∷ []) (i.used ++ first ∷ second ∷ [])) (sym tasks)
           (teams-more _ _ i.done i.used c.loop-line.tasks line first second
-          (works.Reader c.reader.result) (works.Writer c.writer.result) i.teams
-          (c.reader.ensures.pass, c.reader.ensures.lock, c.reader.ensures.since, c.reader.ensures.side, c.reader.ensures.dial)
+          (works.Reader c.reader.result) (works.Writer c.writer.result) i.teams (
+            c.reader.ensures.pass,
+            c.reader.ensures.lock,
+            c.reader.ensures.since,
+            c.reader.ensures.side,
+            c.reader.ensures.dial,
+          )
           (c.writer.ensures.pass, c.writer.ensures.lock, c.writer.ensures.since));
     }
 
 pub returns : goal.returns
 returns g c =
     let i = c.loop-line.invariant in
-    let none : c.loop-line.lines.items ≡ [] = nothing-left c.loop-line.lines.items (c.in_default.ensures.items ∙ c.in_default.ensures.rest) in
+    let none : c.loop-line.lines.items ≡ [] =
+    nothing-left c.loop-line.lines.items (c.in_default.ensures.items ∙ c.in_default.ensures.rest) in
     let no-seats : c.loop-line.seats.items ≡ [] =
     nothing-long c.loop-line.seats.items (let e = i.even in let l = ap length none in grind arith) in
     teams-at _ _ i.done c.args.lines i.used c.args.seats c.loop-line.tasks i.teams
-    (i.lines ∙ (ap (λ l. i.done ++ l) none ∙ append-nil i.done)) (i.seats ∙ (ap (λ l. i.used ++ l) no-seats ∙ append-nil i.used))
+    (i.lines ∙ (ap (λ l. i.done ++ l) none ∙ append-nil i.done))
+    (i.seats ∙ (ap (λ l. i.used ++ l) no-seats ∙ append-nil i.used))

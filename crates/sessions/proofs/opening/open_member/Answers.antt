@@ -9,6 +9,11 @@ returns-in_err-place-clause-part g c =
 
 pub returns-clause-part : goal.returns-clause-part
 returns-clause-part g c =
-    MatchResult-weaker c.first_hello.result c.first_hello.ensures.end (λ x t. t) (λ end h. not-greeted (g.S.Source.remaining c.args.source.now) (g.S.Source.remaining c.first_hello.new.source) c.args.framer.now c.first_hello.new.framer
-    (g.K.Sink.held c.args.sink.now) (g.K.Sink.held c.send.new.sink) c.in_ok-send.ensures.written (g.S.Source.faults c.args.source.now) (g.S.Source.faults c.first_hello.new.source) (g.S.Source.is_reliable c.args.source.now)
-    (g.K.Sink.faults c.args.sink.now) (g.K.Sink.faults c.send.new.sink) (g.K.Sink.wants c.args.sink.now) (g.K.Sink.wants c.send.new.sink) (g.K.Sink.is_reliable c.args.sink.now) end h)
+    MatchResult-weaker c.first_hello.result c.first_hello.ensures.end (λ x t. t)
+    (λ end h. not-greeted (g.S.Source.remaining c.args.source.now) (g.S.Source.remaining c.first_hello.new.source)
+    c.args.framer.now c.first_hello.new.framer
+    (g.K.Sink.held c.args.sink.now) (g.K.Sink.held c.send.new.sink) c.in_ok-send.ensures.written
+    (g.S.Source.faults c.args.source.now) (g.S.Source.faults c.first_hello.new.source)
+    (g.S.Source.is_reliable c.args.source.now)
+    (g.K.Sink.faults c.args.sink.now) (g.K.Sink.faults c.send.new.sink) (g.K.Sink.wants c.args.sink.now)
+    (g.K.Sink.wants c.send.new.sink) (g.K.Sink.is_reliable c.args.sink.now) end h)

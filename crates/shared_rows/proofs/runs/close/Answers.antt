@@ -8,7 +8,8 @@ use Rattle.shared_rows.proofs.runs.close.Goals as goal
 pub returns-then-is_empty-clause-rows : goal.returns-then-is_empty-clause-rows
 returns-then-is_empty-clause-rows c =
     let none : c.args.rows ≡ [] =
-    nil_from_length c.args.rows ((Decides-eqb (length c.args.rows) 0).0 (sym c.is_empty.ensures ∙ c.if-is_empty.true)) in
+    nil_from_length c.args.rows ((Decides-eqb (length c.args.rows) 0).0 (sym c.is_empty.ensures ∙ c.if-is_empty.true))
+    in
     joined_split c.args.place c.args.runs.now
     ∙ ap (λ ws. joined (take c.args.place c.args.runs.now) ++ (ws ++ joined (drop c.args.place c.args.runs.now)))
     (sym none)

@@ -8,9 +8,11 @@ use Rattle.stats_map.proofs.changes.make_in.Goals as goal
 pub returns-clause-live : goal.returns-clause-live
 returns-clause-live c =
     c.fill.ensures
-    ∙ laid-else place_total place_exact c.args.live.now.entries c.len-places.ensures.ordered c.args.changes.live.entries c.add_all_rooms.new.live.entries c.len-more_places.ensures.ordered c.add_all_rooms.ensures.live_else
+    ∙ laid-else place_total place_exact c.args.live.now.entries c.len-places.ensures.ordered c.args.changes.live.entries
+    c.add_all_rooms.new.live.entries c.len-more_places.ensures.ordered c.add_all_rooms.ensures.live_else
 
 pub returns-clause-sums : goal.returns-clause-sums
 returns-clause-sums c =
     c.fill-2.ensures
-    ∙ laid-else leaf_total leaf_exact c.args.sums.now.entries c.len-leaves.ensures.ordered c.args.changes.sums.entries c.add_all_rooms.new.sums.entries c.len-more_leaves.ensures.ordered c.add_all_rooms.ensures.sums_else
+    ∙ laid-else leaf_total leaf_exact c.args.sums.now.entries c.len-leaves.ensures.ordered c.args.changes.sums.entries
+    c.add_all_rooms.new.sums.entries c.len-more_leaves.ensures.ordered c.add_all_rooms.ensures.sums_else

@@ -7,7 +7,8 @@ use Rattle.stats_map.proofs.cookies.end_all.Given as goal
 abbrev pub invariant-loop-place : goal.invariant-loop-place
 invariant-loop-place l =
     AreSums (values_of l.live.entries) l.sums.entries
-    × (all_ended (of_switch l.switch l.live.entries) (seen l.live.entries l.sums.entries) ≡ downed l.switch (seen l.initial.live.entries l.initial.sums.entries))
+    × (all_ended (of_switch l.switch l.live.entries) (seen l.live.entries l.sums.entries)
+    ≡ downed l.switch (seen l.initial.live.entries l.initial.sums.entries))
 
 abbrev pub decreases-loop-place : goal.decreases-loop-place
 decreases-loop-place l = length l.live.entries

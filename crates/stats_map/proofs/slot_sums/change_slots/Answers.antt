@@ -17,7 +17,9 @@ change_slot-requires c =
     let i = c.loop-place.place in
     let x = get_or xs i no_leaf in
     let none = not-true (list_any (same_leaf x) (take i xs)) (sym (c.is_first.ensures no_leaf) ∙ c.if-is_first.true) in
-    is-allowed c.args.event.now xs i x c.loop-place-test.true (get_or_default xs i no_leaf x c.loop-place-test.true) (slot_sums c.args.slots.now.entries) (slot_sums c.loop-place.slots.entries) c.loop-place.invariant.0 c.requires none
+    is-allowed c.args.event.now xs i x c.loop-place-test.true (get_or_default xs i no_leaf x c.loop-place-test.true)
+    (slot_sums c.args.slots.now.entries) (slot_sums c.loop-place.slots.entries) c.loop-place.invariant.0 c.requires
+    none
 
 pub loop-place-preserved : goal.loop-place-preserved
 loop-place-preserved c =
@@ -27,9 +29,22 @@ loop-place-preserved c =
     let is = get_or_default xs i no_leaf x c.loop-place-test.true in
     elim c.if-is_first.branch [
       | then-is_first w ↦
-          (let none = not-true (list_any (same_leaf x) (take i xs)) (sym (c.is_first.ensures no_leaf) ∙ w.if-is_first.true) in
-          rw w.slots-is (happened-first c.args.event.now xs i x c.loop-place-test.true is (slot_sums c.args.slots.now.entries) (slot_sums c.loop-place.slots.entries) c.loop-place.invariant.0 (slot_sums w.change_slot.new.slots.entries) none w.change_slot.ensures.sums, w.change_slot.ensures.keys ∙ c.loop-place.invariant.1))
+          (let none = not-true (list_any (same_leaf x) (take i xs))
+          (sym (c.is_first.ensures no_leaf) ∙ w.if-is_first.true) in
+          rw w.slots-is (
+            happened-first c.args.event.now xs i x c.loop-place-test.true is
+                (slot_sums c.args.slots.now.entries) (slot_sums c.loop-place.slots.entries) c.loop-place.invariant.0
+                (slot_sums w.change_slot.new.slots.entries) none w.change_slot.ensures.sums,
+            w.change_slot.ensures.keys
+                ∙ c.loop-place.invariant.1,
+          ))
       | else-is_first w ↦
-          (let some = not-false (list_any (same_leaf x) (take i xs)) (sym (c.is_first.ensures no_leaf) ∙ w.if-is_first.false) in
-          rw w.slots-is (happened-again c.args.event.now xs i x c.loop-place-test.true is (slot_sums c.args.slots.now.entries) (slot_sums c.loop-place.slots.entries) c.loop-place.invariant.0 some, c.loop-place.invariant.1))
+          (let some = not-false (list_any (same_leaf x) (take i xs))
+          (sym (c.is_first.ensures no_leaf) ∙ w.if-is_first.false) in
+          rw w.slots-is (
+            happened-again c.args.event.now xs i x c.loop-place-test.true is
+                (slot_sums c.args.slots.now.entries) (slot_sums c.loop-place.slots.entries) c.loop-place.invariant.0
+                some,
+            c.loop-place.invariant.1,
+          ))
     ]

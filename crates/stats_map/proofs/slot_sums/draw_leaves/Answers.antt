@@ -19,9 +19,12 @@ loop-leaf-preserved c =
     let now = c.loop-leaf.slots.entries in
     let new = c.draw.new.slots.entries in (
       more-drawn leaf_total base c.args.slots.now.entries now new c.loop-leaf.invariant.0 c.draw.ensures.drawn,
-      one-more-have xs i x (λ q. HasKey leaf_cmp q now) (λ q. HasKey leaf_cmp q new) c.loop-leaf-test.true (get_or_default xs i none x c.loop-leaf-test.true) (drawn-has base now new c.draw.ensures.drawn) c.in_ok-draw.ensures.there c.loop-leaf.invariant.1,
+      one-more-have xs i x (λ q. HasKey leaf_cmp q now) (λ q. HasKey leaf_cmp q new) c.loop-leaf-test.true
+          (get_or_default xs i none x c.loop-leaf-test.true) (drawn-has base now new c.draw.ensures.drawn)
+          c.in_ok-draw.ensures.there c.loop-leaf.invariant.1,
     )
 
 pub returns-in_err-draw-clause-drawn : goal.returns-in_err-draw-clause-drawn
 returns-in_err-draw-clause-drawn c =
-    more-drawn leaf_total c.args.base.now.entries c.args.slots.now.entries c.loop-leaf.slots.entries c.draw.new.slots.entries c.loop-leaf.invariant.0 c.draw.ensures.drawn
+    more-drawn leaf_total c.args.base.now.entries c.args.slots.now.entries c.loop-leaf.slots.entries
+    c.draw.new.slots.entries c.loop-leaf.invariant.0 c.draw.ensures.drawn

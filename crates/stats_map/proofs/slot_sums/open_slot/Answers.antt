@@ -20,7 +20,8 @@ returns-then-is_none-clause-more c =
     let w = Some c.new.result in
     let new = (c.get_mut.follows.lender w).entries in
     let is : new ≡ set_value (is_at (leaf_cmp c.args.leaf.now)) old w = search rules in
-    opened-at c.args.leaf.now c.in-Some.slot.now w old new (sym c.in-Some.ensures.value) is c.new.result (none-of c.in-Some.slot.now c.is_none.result c.is_none.ensures c.if-is_none.true) refl c.new.ensures
+    opened-at c.args.leaf.now c.in-Some.slot.now w old new (sym c.in-Some.ensures.value) is c.new.result
+    (none-of c.in-Some.slot.now c.is_none.result c.is_none.ensures c.if-is_none.true) refl c.new.ensures
 
 pub returns-then-is_none-clause-there : goal.returns-then-is_none-clause-there
 returns-then-is_none-clause-there c has =
@@ -35,7 +36,8 @@ returns-else-is_none-clause-more c =
     let old = c.args.slots.now.entries in
     let new = (c.get_mut.follows.lender c.in-Some.slot.now).entries in
     let is : new ≡ set_value (is_at (leaf_cmp c.args.leaf.now)) old c.in-Some.slot.now = search rules in
-    let same = written-same c.args.leaf.now c.in-Some.slot.now c.in-Some.slot.now old new (sym c.in-Some.ensures.value) is refl in
+    let same = written-same c.args.leaf.now c.in-Some.slot.now c.in-Some.slot.now old new (sym c.in-Some.ensures.value)
+    is refl in
     subst (λ (slots : LeafSlots). HaveMore (slot_sums old) (slot_sums slots)) (sym same) (more-none (slot_sums old))
 
 pub returns-else-is_none-clause-there : goal.returns-else-is_none-clause-there
@@ -43,6 +45,8 @@ returns-else-is_none-clause-there c has =
     let old = c.args.slots.now.entries in
     let new = (c.get_mut.follows.lender c.in-Some.slot.now).entries in
     let is : new ≡ set_value (is_at (leaf_cmp c.args.leaf.now)) old c.in-Some.slot.now = search rules in
-    let same = written-same c.args.leaf.now c.in-Some.slot.now c.in-Some.slot.now old new (sym c.in-Some.ensures.value) is refl in
-    ap is_some (ap (λ (slots : LeafSlots). sum_at c.args.leaf.now (slot_sums slots)) same ∙ slot-is old c.args.leaf.now c.in-Some.slot.now (sym c.in-Some.ensures.value))
+    let same = written-same c.args.leaf.now c.in-Some.slot.now c.in-Some.slot.now old new (sym c.in-Some.ensures.value)
+    is refl in
+    ap is_some (ap (λ (slots : LeafSlots). sum_at c.args.leaf.now (slot_sums slots)) same
+    ∙ slot-is old c.args.leaf.now c.in-Some.slot.now (sym c.in-Some.ensures.value))
     ∙ (c.is_none.ensures ∙ ap not c.if-is_none.false)

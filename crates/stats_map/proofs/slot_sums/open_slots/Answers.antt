@@ -18,8 +18,11 @@ loop-leaf-preserved c =
     let is = get_or_default xs i none x c.loop-leaf-test.true in
     let now = slot_sums c.loop-leaf.slots.entries in
     let new = slot_sums c.open_slot.new.slots.entries in
-    let has = slots-kept xs c.args.slots.now.entries c.loop-leaf.slots.entries c.loop-leaf.invariant.1 c.requires x (any-at xs i x c.loop-leaf-test.true is) in (
+    let has = slots-kept xs c.args.slots.now.entries c.loop-leaf.slots.entries c.loop-leaf.invariant.1 c.requires x
+    (any-at xs i x c.loop-leaf-test.true is) in (
       more-more (slot_sums c.args.slots.now.entries) now new c.loop-leaf.invariant.0 c.open_slot.ensures.more,
       c.open_slot.ensures.keys ∙ c.loop-leaf.invariant.1,
-      one-more-have xs i x (λ q. IsSome (sum_at q now)) (λ q. IsSome (sum_at q new)) c.loop-leaf-test.true is (λ q t. still-some now new q c.open_slot.ensures.more t) (c.open_slot.ensures.there has) c.loop-leaf.invariant.2,
+      one-more-have xs i x (λ q. IsSome (sum_at q now)) (λ q. IsSome (sum_at q new)) c.loop-leaf-test.true is
+          (λ q t. still-some now new q c.open_slot.ensures.more t) (c.open_slot.ensures.there has)
+          c.loop-leaf.invariant.2,
     )

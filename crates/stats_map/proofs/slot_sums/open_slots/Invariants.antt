@@ -12,4 +12,5 @@ abbrev pub invariant-loop-leaf : goal.invariant-loop-leaf
 invariant-loop-leaf l =
     HaveMore (slot_sums l.fn.slots.entries) (slot_sums l.slots.entries)
     × (keys_of l.slots.entries ≡ keys_of l.fn.slots.entries)
-    × ((leaf : Leaf) → list_any (same_leaf leaf) (take l.leaf-index l.leaves) ≡ true → IsSome (sum_at leaf (slot_sums l.slots.entries)))
+    × ((leaf : Leaf) → list_any (same_leaf leaf) (take l.leaf-index l.leaves) ≡ true
+    → IsSome (sum_at leaf (slot_sums l.slots.entries)))

@@ -10,6 +10,9 @@ loop-leaf-preserved c =
     let xs = c.as_slice-leaf-items.result.now in
     let i = c.loop-leaf.leaf-index in
     let x = get_or xs i none in (
-      more-more c.args.sums.now.entries c.loop-leaf.sums.entries c.add_leaf.new.sums.entries c.loop-leaf.invariant.0 c.add_leaf.ensures.more,
-      one-more-there xs i x c.loop-leaf.sums.entries c.add_leaf.new.sums.entries c.loop-leaf-test.true (get_or_default xs i none x c.loop-leaf-test.true) c.add_leaf.ensures.more c.in_ok-add_leaf.ensures.there c.loop-leaf.invariant.1,
+      more-more c.args.sums.now.entries c.loop-leaf.sums.entries c.add_leaf.new.sums.entries c.loop-leaf.invariant.0
+          c.add_leaf.ensures.more,
+      one-more-there xs i x c.loop-leaf.sums.entries c.add_leaf.new.sums.entries c.loop-leaf-test.true
+          (get_or_default xs i none x c.loop-leaf-test.true) c.add_leaf.ensures.more c.in_ok-add_leaf.ensures.there
+          c.loop-leaf.invariant.1,
     )

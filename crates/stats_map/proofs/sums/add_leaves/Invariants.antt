@@ -9,4 +9,5 @@ use Rattle.stats_map.proofs.sums.add_leaves.Given as goal
 abbrev pub invariant-loop-leaf : goal.invariant-loop-leaf
 invariant-loop-leaf l =
     HaveMore l.fn.sums.entries l.sums.entries
-    × ((leaf : Leaf) → list_any (same_leaf leaf) (take l.leaf-index l.leaf-items) ≡ true → IsSome (sum_at leaf l.sums.entries))
+    × ((leaf : Leaf) → list_any (same_leaf leaf) (take l.leaf-index l.leaf-items) ≡ true
+    → IsSome (sum_at leaf l.sums.entries))

@@ -16,7 +16,8 @@ change_one-requires c =
     let i = c.loop-place.place in
     let x = get_or xs i no_leaf in
     let none = not-true (list_any (same_leaf x) (take i xs)) (sym (c.is_first.ensures no_leaf) ∙ c.if-is_first.true) in
-    is-allowed c.args.event.now xs i x c.loop-place-test.true (get_or_default xs i no_leaf x c.loop-place-test.true) c.args.sums.now.entries c.loop-place.sums.entries c.loop-place.invariant c.requires none
+    is-allowed c.args.event.now xs i x c.loop-place-test.true (get_or_default xs i no_leaf x c.loop-place-test.true)
+    c.args.sums.now.entries c.loop-place.sums.entries c.loop-place.invariant c.requires none
 
 pub loop-place-preserved : goal.loop-place-preserved
 loop-place-preserved c =
@@ -26,9 +27,13 @@ loop-place-preserved c =
     let is = get_or_default xs i no_leaf x c.loop-place-test.true in
     elim c.if-is_first.branch [
       | then-is_first w ↦
-          (let none = not-true (list_any (same_leaf x) (take i xs)) (sym (c.is_first.ensures no_leaf) ∙ w.if-is_first.true) in
-          rw w.sums-is (happened-first c.args.event.now xs i x c.loop-place-test.true is c.args.sums.now.entries c.loop-place.sums.entries c.loop-place.invariant w.change_one.new.sums.entries none w.change_one.ensures))
+          (let none = not-true (list_any (same_leaf x) (take i xs))
+          (sym (c.is_first.ensures no_leaf) ∙ w.if-is_first.true) in
+          rw w.sums-is (happened-first c.args.event.now xs i x c.loop-place-test.true is c.args.sums.now.entries
+          c.loop-place.sums.entries c.loop-place.invariant w.change_one.new.sums.entries none w.change_one.ensures))
       | else-is_first w ↦
-          (let some = not-false (list_any (same_leaf x) (take i xs)) (sym (c.is_first.ensures no_leaf) ∙ w.if-is_first.false) in
-          rw w.sums-is (happened-again c.args.event.now xs i x c.loop-place-test.true is c.args.sums.now.entries c.loop-place.sums.entries c.loop-place.invariant some))
+          (let some = not-false (list_any (same_leaf x) (take i xs))
+          (sym (c.is_first.ensures no_leaf) ∙ w.if-is_first.false) in
+          rw w.sums-is (happened-again c.args.event.now xs i x c.loop-place-test.true is c.args.sums.now.entries
+          c.loop-place.sums.entries c.loop-place.invariant some))
     ]

@@ -7,4 +7,6 @@ use Rattle.switch_meaning.proofs.keys.one_per_key.Given as goal
 
 -- what was kept, and then what is kept of the entries that are left
 abbrev pub invariant-loop-entry : goal.invariant-loop-entry
-invariant-loop-entry l = l.kept ++ filter (λ (e : PhysEntry). not (list_any (λ (d : PhysEntry). displaces d e) l.entries)) (drop l.entry-index l.entry-items) ≡ one_per_key l.entries
+invariant-loop-entry l =
+    l.kept ++ filter (λ (e : PhysEntry). not (list_any (λ (d : PhysEntry). displaces d e) l.entries))
+    (drop l.entry-index l.entry-items) ≡ one_per_key l.entries

@@ -14,8 +14,11 @@ loop-entry-preserved c =
     let x = c.entry-item.result in
     elim c.if-not-is_passed.branch [
       | then-not-is_passed+in_ok-copy+in_ok-push w ↦
-          more_kept found xs i x c.loop-entry.kept c.if-not-is_passed.kept _ c.is_passed.result c.loop-entry-test.true c.entry-item.is c.is_passed.ensures w.if-not-is_passed.true
-          (w.kept-is ∙ (w.in_ok-push.ensures.pushed ∙ ap (λ y. c.loop-entry.kept ++ y ∷ []) w.in_ok-copy.ensures)) c.loop-entry.invariant
+          more_kept found xs i x c.loop-entry.kept c.if-not-is_passed.kept _ c.is_passed.result c.loop-entry-test.true
+          c.entry-item.is c.is_passed.ensures w.if-not-is_passed.true
+          (w.kept-is ∙ (w.in_ok-push.ensures.pushed ∙ ap (λ y. c.loop-entry.kept ++ y ∷ []) w.in_ok-copy.ensures))
+          c.loop-entry.invariant
       | else-not-is_passed w ↦
-          none_kept found xs i x c.loop-entry.kept c.if-not-is_passed.kept _ c.is_passed.result c.loop-entry-test.true c.entry-item.is c.is_passed.ensures w.if-not-is_passed.false w.kept-is c.loop-entry.invariant
+          none_kept found xs i x c.loop-entry.kept c.if-not-is_passed.kept _ c.is_passed.result c.loop-entry-test.true
+          c.entry-item.is c.is_passed.ensures w.if-not-is_passed.false w.kept-is c.loop-entry.invariant
     ]

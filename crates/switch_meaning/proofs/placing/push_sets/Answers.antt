@@ -6,4 +6,5 @@ pub loop-field-preserved : goal.loop-field-preserved
 loop-field-preserved c =
     let done = ap length c.field_sets-done.ensures in
     let set = ap length c.field_sets-set.ensures in
-    set_more c.field_sets-done.result c.field_sets-set.result c.loop-field.field c.loop-field.actions c.push_set.new.actions _ (omega arith) (omega arith) c.in_ok-push_set.ensures c.loop-field.invariant
+    set_more c.field_sets-done.result c.field_sets-set.result c.loop-field.field c.loop-field.actions
+    c.push_set.new.actions _ (omega arith) (omega arith) c.in_ok-push_set.ensures c.loop-field.invariant

@@ -13,8 +13,10 @@ loop-out-preserved c =
     let x = c.out-item.result in
     elim c.if-not-is_silent.branch [
       | then-not-is_silent+in_ok-push w ↦
-          more_kept found xs i x c.loop-out.kept c.if-not-is_silent.kept _ c.is_silent.result c.loop-out-test.true c.out-item.is c.is_silent.ensures w.if-not-is_silent.true
+          more_kept found xs i x c.loop-out.kept c.if-not-is_silent.kept _ c.is_silent.result c.loop-out-test.true
+          c.out-item.is c.is_silent.ensures w.if-not-is_silent.true
           (w.kept-is ∙ w.in_ok-push.ensures.pushed) c.loop-out.invariant
       | else-not-is_silent w ↦
-          none_kept found xs i x c.loop-out.kept c.if-not-is_silent.kept _ c.is_silent.result c.loop-out-test.true c.out-item.is c.is_silent.ensures w.if-not-is_silent.false w.kept-is c.loop-out.invariant
+          none_kept found xs i x c.loop-out.kept c.if-not-is_silent.kept _ c.is_silent.result c.loop-out-test.true
+          c.out-item.is c.is_silent.ensures w.if-not-is_silent.false w.kept-is c.loop-out.invariant
     ]

@@ -9,4 +9,6 @@ pub returns : goal.returns
 returns c =
     let kept : c.retain.new.self.items ≡ filter (λ e. not (takes_out c.args.change e)) c.into_vec-entries.result.items =
     filter_same _ (λ e. not (takes_out c.args.change e)) _ (λ x b f' k. search rules) _ _ c.retain.ensures.filtered in
-    c.from_vec.ensures ∙ (c.in_ok-put_in.ensures ∙ ap (λ (xs : List FlowEntry). xs ++ put_in c.args.change) (kept ∙ ap (filter (λ e. not (takes_out c.args.change e))) c.into_vec-entries.ensures))
+    c.from_vec.ensures
+    ∙ (c.in_ok-put_in.ensures ∙ ap (λ (xs : List FlowEntry). xs ++ put_in c.args.change)
+    (kept ∙ ap (filter (λ e. not (takes_out c.args.change e))) c.into_vec-entries.ensures))

@@ -3,7 +3,8 @@ use Rattle.std.proofs.lemmas.Option.{slice_get_read}
 use Rattle.switch_tables.specs.Tables.{CanGoBack}
 use Rattle.switch_tables.specs.Turning.{AreTurned, IsTurnedAt}
 use Rattle.switch_tables.specs.declared.tables.SwitchBatch.{SwitchBatch}
-use Rattle.switch_tables.proofs.Each.{count-more, each-more, rest-more, row-more, same-kept-at, turned-back, turned-more, ups-more}
+use Rattle.switch_tables.proofs.Each.{count-more, each-more, rest-more, row-more, same-kept-at, turned-back}
+use Rattle.switch_tables.proofs.Each.{turned-more, ups-more}
 use Rattle.switch_tables.proofs.Outcomes.{on-err}
 use Rattle.switch_tables.proofs.tables.change_each.Goals as goal
 
@@ -43,7 +44,8 @@ loop-n-preserved c =
       long = e.long ∙ i.long;
       far = refl;
       count = count-more old rows _ n pushed i.count;
-      cookie_is = row-more next c.loop-n.cookie c.after_batch-cookie.result old rows _ pushed c.after_batch-cookie.ensures i.cookie_is;
+      cookie_is = row-more next c.loop-n.cookie c.after_batch-cookie.result old rows _ pushed
+          c.after_batch-cookie.ensures i.cookie_is;
       ups_are = ups-more c.args.ups.now old rows n _ c.in_ok-batch.batch pushed i.ups_are (omega arith);
       turned = subst (λ (z : List SwitchBatch). AreTurned (n + 1) c.args.deltas.now next base new z) (sym pushed)
           (turned-more old _ c.args.deltas.now next base cur new n i.count e.others i.rest d at

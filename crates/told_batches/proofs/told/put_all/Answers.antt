@@ -28,4 +28,5 @@ loop-row-preserved c rise =
 pub returns : goal.returns
 returns c rise =
     let last = c.loop-row in
-    last.invariant rise ∙ ap (λ xs. by_key (c.args.rows ++ xs)) (take_all last.row-index c.args.come.now c.loop-row-test.false)
+    last.invariant rise ∙ ap (λ xs. by_key (c.args.rows ++ xs))
+    (take_all last.row-index c.args.come.now c.loop-row-test.false)

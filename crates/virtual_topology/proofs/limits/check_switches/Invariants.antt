@@ -4,4 +4,5 @@ use Rattle.virtual_topology.specs.Faults.{first_answer, too_many_at}
 use Rattle.virtual_topology.proofs.limits.check_switches.Given as goal
 
 abbrev pub invariant-loop-number : goal.invariant-loop-number
-invariant-loop-number l = first_answer (too_many_at) (drop l.number (enumerate_from 0 l.switches)) ≡ first_answer (too_many_at) (enumerate_from 0 l.switches)
+invariant-loop-number l = first_answer (too_many_at) (drop l.number (enumerate_from 0 l.switches))
+    ≡ first_answer (too_many_at) (enumerate_from 0 l.switches)

@@ -11,16 +11,22 @@ use Rattle.virtual_topology.proofs.limits.check_virtuals.Goals as goal
 pub returns-in_err-check_switch : goal.returns-in_err-check_switch
 returns-in_err-check_switch c =
     let p = err_from_is_err_and c.from_residual.result c.from_residual.ensures.1 in
-    rw (p.1, p.2) (stopped_at Memory too_many_of (enumerate_from 0 c.args.virtuals.now) c.loop-number.number (c.loop-number.number, c.index-virtuals-number.result) _
-    (numbered_at c.args.virtuals.now c.loop-number.number c.index-virtuals-number.result c.loop-number-test.true c.index-virtuals-number.is)
+    rw (p.1, p.2) (stopped_at Memory too_many_of (enumerate_from 0 c.args.virtuals.now) c.loop-number.number
+    (c.loop-number.number, c.index-virtuals-number.result) _
+    (numbered_at c.args.virtuals.now c.loop-number.number c.index-virtuals-number.result c.loop-number-test.true
+    c.index-virtuals-number.is)
     (rw (← c.len.ensures) c.in_err-check_switch.ensures) c.loop-number.invariant)
 
 pub loop-number-preserved : goal.loop-number-preserved
 loop-number-preserved c =
-    let lt : c.loop-number.number < length (enumerate_from 0 c.args.virtuals.now) = omega (arith, length-enumerate_from 0 c.args.virtuals.now, c.loop-number-test.true) in
-    passed_on too_many_of (enumerate_from 0 c.args.virtuals.now) c.loop-number.number (c.loop-number.number, c.index-virtuals-number.result) lt
-    (numbered_at c.args.virtuals.now c.loop-number.number c.index-virtuals-number.result c.loop-number-test.true c.index-virtuals-number.is)
+    let lt : c.loop-number.number < length (enumerate_from 0 c.args.virtuals.now) =
+    omega (arith, length-enumerate_from 0 c.args.virtuals.now, c.loop-number-test.true) in
+    passed_on too_many_of (enumerate_from 0 c.args.virtuals.now) c.loop-number.number
+    (c.loop-number.number, c.index-virtuals-number.result) lt
+    (numbered_at c.args.virtuals.now c.loop-number.number c.index-virtuals-number.result c.loop-number-test.true
+    c.index-virtuals-number.is)
     (rw (← c.len.ensures) c.in_ok-check_switch.ensures) c.loop-number.invariant
 
 pub returns : goal.returns
-returns c = ended too_many_of (enumerate_from 0 c.args.virtuals.now) c.loop-number.number (omega (arith, length-enumerate_from 0 c.args.virtuals.now, c.loop-number-test.false)) c.loop-number.invariant
+returns c = ended too_many_of (enumerate_from 0 c.args.virtuals.now) c.loop-number.number
+    (omega (arith, length-enumerate_from 0 c.args.virtuals.now, c.loop-number-test.false)) c.loop-number.invariant

@@ -9,4 +9,5 @@ use Rattle.virtual_topology.proofs.used.set_of.Given as goal
 abbrev pub invariant-loop-place : goal.invariant-loop-place
 invariant-loop-place l =
     ((u : _) → contains same_shown l.set u ≡ list_any (same_use (shown u)) (take l.place-index (map shown l.list)))
-    × (first_again same_use (take l.place-index (map shown l.list)) (drop l.place-index (map shown l.list)) ≡ first_again same_use [] (map shown l.list))
+    × (first_again same_use (take l.place-index (map shown l.list)) (drop l.place-index (map shown l.list))
+    ≡ first_again same_use [] (map shown l.list))

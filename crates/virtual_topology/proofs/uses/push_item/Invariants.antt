@@ -5,4 +5,5 @@ use Rattle.virtual_topology.specs.Shown.{shown}
 use Rattle.virtual_topology.proofs.uses.push_item.Given as goal
 
 abbrev pub invariant-loop-port : goal.invariant-loop-port
-invariant-loop-port l = map shown l.uses.items ≡ map shown l.initial.uses.items ++ flat_map (port_uses l.item.name) (take l.port-index l.port-items)
+invariant-loop-port l = map shown l.uses.items ≡ map shown l.initial.uses.items
+    ++ flat_map (port_uses l.item.name) (take l.port-index l.port-items)

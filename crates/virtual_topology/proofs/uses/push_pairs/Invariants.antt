@@ -4,4 +4,5 @@ use Rattle.virtual_topology.specs.Shown.{shown}
 use Rattle.virtual_topology.proofs.uses.push_pairs.Given as goal
 
 abbrev pub invariant-loop-pair : goal.invariant-loop-pair
-invariant-loop-pair l = map shown l.uses.items ≡ map shown l.initial.uses.items ++ pair_uses l.role (take l.pair-index l.pairs)
+invariant-loop-pair l = map shown l.uses.items ≡ map shown l.initial.uses.items
+    ++ pair_uses l.role (take l.pair-index l.pairs)

@@ -31,31 +31,50 @@ pub returns-in_err-batches-clause-memory : goal.returns-in_err-batches-clause-me
 returns-in_err-batches-clause-memory g c before of =
     let i = c.self.inside in
     let old : ComposedOf = record { wiring = i.wiring; switches = i.switches; rules = i.rules; tables = i.tables } in
-    let new : ComposedOf = record { wiring = i.wiring; switches = i.switches; rules = c.turn_some.new.rules; tables = c.turn_some.new.tables } in
+    let new : ComposedOf = record {
+      wiring = i.wiring;
+      switches = i.switches;
+      rules = c.turn_some.new.rules;
+      tables = c.turn_some.new.tables;
+    } in
     on-err c.from_residual.result _
-    (of-kept before old new (subst (IsOf before) (sym c.self.view_is) of) refl refl c.in_err-batches.ensures.none c.in_err-batches.ensures.long c.in_err-batches.ensures.memory)
+    (of-kept before old new (subst (IsOf before) (sym c.self.view_is) of) refl refl c.in_err-batches.ensures.none
+    c.in_err-batches.ensures.long c.in_err-batches.ensures.memory)
 
 pub returns-in_err-batches-clause-memory_standing : goal.returns-in_err-batches-clause-memory_standing
 returns-in_err-batches-clause-memory_standing g c =
     let i = c.self.inside in
     on-err c.from_residual.result _
-    (subst (λ (z : List SwitchTableOf). StandAsBefore z c.turn_some.new.tables) (ap (λ (z : ComposedOf). z.tables) c.self.view_is)
+    (subst (λ (z : List SwitchTableOf). StandAsBefore z c.turn_some.new.tables)
+    (ap (λ (z : ComposedOf). z.tables) c.self.view_is)
     (kept-stands i.tables c.turn_some.new.tables c.in_err-batches.ensures.memory))
 
 pub returns-clause-of : goal.returns-clause-of
 returns-clause-of g c before after good good' of ch =
     let i = c.self.inside in
     let old : ComposedOf = record { wiring = i.wiring; switches = i.switches; rules = i.rules; tables = i.tables } in
-    let new : ComposedOf = record { wiring = i.wiring; switches = i.switches; rules = c.turn_some.new.rules; tables = c.turn_some.new.tables } in
-    of-moved c.args.v c.args.delta c.args.next old new c.in_ok-batches.batches refl refl c.in_ok-batches.ensures.long c.in_ok-batches.ensures.moved
+    let new : ComposedOf = record {
+      wiring = i.wiring;
+      switches = i.switches;
+      rules = c.turn_some.new.rules;
+      tables = c.turn_some.new.tables;
+    } in
+    of-moved c.args.v c.args.delta c.args.next old new c.in_ok-batches.batches refl refl c.in_ok-batches.ensures.long
+    c.in_ok-batches.ensures.moved
     before after good good' (subst (IsOf before) (sym c.self.view_is) of) ch
 
 pub returns-clause-was : goal.returns-clause-was
 returns-clause-was g c before of =
     let i = c.self.inside in
     let old : ComposedOf = record { wiring = i.wiring; switches = i.switches; rules = i.rules; tables = i.tables } in
-    let new : ComposedOf = record { wiring = i.wiring; switches = i.switches; rules = c.turn_some.new.rules; tables = c.turn_some.new.tables } in
-    was-moved c.args.v c.args.delta c.args.next old new c.in_ok-batches.batches refl refl c.in_ok-batches.ensures.long c.in_ok-batches.ensures.moved
+    let new : ComposedOf = record {
+      wiring = i.wiring;
+      switches = i.switches;
+      rules = c.turn_some.new.rules;
+      tables = c.turn_some.new.tables;
+    } in
+    was-moved c.args.v c.args.delta c.args.next old new c.in_ok-batches.batches refl refl c.in_ok-batches.ensures.long
+    c.in_ok-batches.ensures.moved
     before (subst (IsOf before) (sym c.self.view_is) of)
 
 pub returns-clause-compiled : goal.returns-clause-compiled
@@ -65,12 +84,20 @@ pub returns-clause-batches : goal.returns-clause-batches
 returns-clause-batches g c =
     let i = c.self.inside in
     let old : ComposedOf = record { wiring = i.wiring; switches = i.switches; rules = i.rules; tables = i.tables } in
-    let new : ComposedOf = record { wiring = i.wiring; switches = i.switches; rules = c.turn_some.new.rules; tables = c.turn_some.new.tables } in
-    subst (λ (z : List SwitchTableOf). AreBatches c.args.next z c.turn_some.new.tables c.in_ok-batches.batches) (ap (λ (z : ComposedOf). z.tables) c.self.view_is)
-    (batches-moved c.args.v c.args.delta c.args.next old new c.in_ok-batches.batches refl refl c.in_ok-batches.ensures.long c.in_ok-batches.ensures.moved)
+    let new : ComposedOf = record {
+      wiring = i.wiring;
+      switches = i.switches;
+      rules = c.turn_some.new.rules;
+      tables = c.turn_some.new.tables;
+    } in
+    subst (λ (z : List SwitchTableOf). AreBatches c.args.next z c.turn_some.new.tables c.in_ok-batches.batches)
+    (ap (λ (z : ComposedOf). z.tables) c.self.view_is)
+    (batches-moved c.args.v c.args.delta c.args.next old new c.in_ok-batches.batches refl refl
+    c.in_ok-batches.ensures.long c.in_ok-batches.ensures.moved)
 
 pub returns-in_err-batches-clause-plan : goal.returns-in_err-batches-clause-plan
-returns-in_err-batches-clause-plan g c r s was is = let none : None ≡ Some s = sym c.in_err-batches.ensures.none ∙ is in cc
+returns-in_err-batches-clause-plan g c r s was is = let none : None ≡ Some s = sym c.in_err-batches.ensures.none
+    ∙ is in cc
 
 pub returns-clause-plan : goal.returns-clause-plan
 returns-clause-plan g c r s was is =

@@ -9,7 +9,10 @@ use Rattle.composed_tables.specs.Rules.{AreRulesOf, AreTied, RulesOf}
 use Rattle.composed_tables.proofs.composed.Composed.restore.Goals as goal
 
 pub invariant_of-self : goal.invariant_of-self
-invariant_of-self g c = (subst (λ (z : Option RulesOf). IfSome z AreTied) (sym c.put_rules.ensures) c.in_ok-rules.ensures.tied, c.self.invariant.1)
+invariant_of-self g c = (
+  subst (λ (z : Option RulesOf). IfSome z AreTied) (sym c.put_rules.ensures) c.in_ok-rules.ensures.tied,
+  c.self.invariant.1,
+)
 
 pub returns-clause-of : goal.returns-clause-of
 returns-clause-of g c =
@@ -24,7 +27,8 @@ returns-clause-of g c =
     }
 
 pub returns-clause-plan : goal.returns-clause-plan
-returns-clause-plan g c r e = ap (λ (z : RulesOf). z.hops.plan) (sym (some_injective (sym c.put_rules.ensures ∙ e))) ∙ c.in_ok-rules.ensures.plan
+returns-clause-plan g c r e = ap (λ (z : RulesOf). z.hops.plan) (sym (some_injective (sym c.put_rules.ensures ∙ e)))
+    ∙ c.in_ok-rules.ensures.plan
 
 pub returns-in_err-rules-clause-memory : goal.returns-in_err-rules-clause-memory
 returns-in_err-rules-clause-memory g c = on-err c.from_residual.result _ refl

@@ -8,7 +8,8 @@ use Rattle.composed_tables.proofs.composed.Composed.standing.Goals as goal
 
 pub bounds-slots-n : goal.bounds-slots-n
 bounds-slots-n c =
-    subst (λ (z : List SwitchTableOf). c.args.n < length z) (sym (c.as_slice-slots.ensures ∙ ap (λ (z : ComposedOf). z.tables) c.self.view_is)) c.requires
+    subst (λ (z : List SwitchTableOf). c.args.n < length z)
+    (sym (c.as_slice-slots.ensures ∙ ap (λ (z : ComposedOf). z.tables) c.self.view_is)) c.requires
 
 pub returns : goal.returns
 returns c s good of =
@@ -18,4 +19,5 @@ returns c s good of =
     let lt : n < length slots = subst (λ (z : List SwitchTableOf). n < length z) (sym same) c.requires in
     let at = slice_get_read slots (length slots) n c.index-slots-n.result refl lt c.index-slots-n.is in
     standing-of s c.args.self.now n c.index-slots-n.result c.in_ok-standing.standing good of
-    (ap (λ (z : List SwitchTableOf). slice_get z n) (sym same) ∙ at) c.in_ok-standing.ensures.table (sym c.in_ok-standing.ensures.standing)
+    (ap (λ (z : List SwitchTableOf). slice_get z n) (sym same) ∙ at) c.in_ok-standing.ensures.table
+    (sym c.in_ok-standing.ensures.standing)

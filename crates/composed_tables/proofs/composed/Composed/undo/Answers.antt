@@ -15,5 +15,12 @@ pub returns-clause-of : goal.returns-clause-of
 returns-clause-of c s was =
     let i = c.self.inside in
     let old : ComposedOf = record { wiring = i.wiring; switches = i.switches; rules = i.rules; tables = i.tables } in
-    undone-of s old (record { wiring = i.wiring; switches = i.switches; rules = c.give_up.new.rules; tables = c.undo_tables.new.tables })
-    (subst (WasOf s) (sym c.self.view_is) was) c.undo_tables.ensures.long c.undo_tables.ensures.undone refl refl c.give_up.ensures
+    undone-of s old
+    (record {
+      wiring = i.wiring;
+      switches = i.switches;
+      rules = c.give_up.new.rules;
+      tables = c.undo_tables.new.tables;
+    })
+    (subst (WasOf s) (sym c.self.view_is) was) c.undo_tables.ensures.long c.undo_tables.ensures.undone refl refl
+    c.give_up.ensures

@@ -26,7 +26,8 @@ empty_hops-requires-clause-wholes g c =
 
 pub empty_hops-requires-clause-fits : goal.empty_hops-requires-clause-fits
 empty_hops-requires-clause-fits g c =
-    few-over-hops c.args.setting.now c.args.topology.now c.requires.ready c.in_ok-sizes.sizes c.in_ok-whole.whole c.in_ok-sizes.ensures c.in_ok-whole.ensures
+    few-over-hops c.args.setting.now c.args.topology.now c.requires.ready c.in_ok-sizes.sizes c.in_ok-whole.whole
+    c.in_ok-sizes.ensures c.in_ok-whole.ensures
     c.requires.fits
 
 pub hand_over_all-requires-clause-few : goal.hand_over_all-requires-clause-few
@@ -55,16 +56,22 @@ hand_over_all-requires-clause-wholes g c =
 
 pub returns-in-Ok-clause-tied : goal.returns-in-Ok-clause-tied
 returns-in-Ok-clause-tied g c =
-    let over = subst (λ (z : List Tree). AreHandedOver z c.in_ok-hops.hops c.hand_over_all.new.hops) c.as_slice.ensures c.in-Ok.ensures.handed in
-    made-tied c.args.setting.now c.args.topology.now c.requires.ready c.in_ok-sizes.sizes c.in_ok-whole.whole c.in_ok-sizes.ensures c.in_ok-whole.ensures
-    c.in_ok-trees.trees c.in_ok-hops.hops c.hand_over_all.new.hops c.in_ok-hops.ensures.empty c.in_ok-hops.ensures.plan c.in_ok-hops.ensures.hops over.rest
+    let over = subst (λ (z : List Tree). AreHandedOver z c.in_ok-hops.hops c.hand_over_all.new.hops) c.as_slice.ensures
+    c.in-Ok.ensures.handed in
+    made-tied c.args.setting.now c.args.topology.now c.requires.ready c.in_ok-sizes.sizes c.in_ok-whole.whole
+    c.in_ok-sizes.ensures c.in_ok-whole.ensures
+    c.in_ok-trees.trees c.in_ok-hops.hops c.hand_over_all.new.hops c.in_ok-hops.ensures.empty c.in_ok-hops.ensures.plan
+    c.in_ok-hops.ensures.hops over.rest
     c.in_ok-trees.ensures.count c.in_ok-trees.ensures.trees c.in_ok-trees.ensures.sound over
 
 pub returns-in-Ok-clause-rules : goal.returns-in-Ok-clause-rules
 returns-in-Ok-clause-rules g c =
-    let over = subst (λ (z : List Tree). AreHandedOver z c.in_ok-hops.hops c.hand_over_all.new.hops) c.as_slice.ensures c.in-Ok.ensures.handed in
-    made-of c.args.setting.now c.args.topology.now c.requires.ready c.in_ok-sizes.sizes c.in_ok-whole.whole c.in_ok-sizes.ensures c.in_ok-whole.ensures
-    c.in_ok-trees.trees c.in_ok-hops.hops c.hand_over_all.new.hops c.in_ok-hops.ensures.empty c.in_ok-hops.ensures.plan c.in_ok-hops.ensures.hops over.rest
+    let over = subst (λ (z : List Tree). AreHandedOver z c.in_ok-hops.hops c.hand_over_all.new.hops) c.as_slice.ensures
+    c.in-Ok.ensures.handed in
+    made-of c.args.setting.now c.args.topology.now c.requires.ready c.in_ok-sizes.sizes c.in_ok-whole.whole
+    c.in_ok-sizes.ensures c.in_ok-whole.ensures
+    c.in_ok-trees.trees c.in_ok-hops.hops c.hand_over_all.new.hops c.in_ok-hops.ensures.empty c.in_ok-hops.ensures.plan
+    c.in_ok-hops.ensures.hops over.rest
     c.in_ok-trees.ensures.count c.in_ok-trees.ensures.trees c.in_ok-trees.ensures.sound
 
 pub returns-in-Ok-clause-plan : goal.returns-in-Ok-clause-plan
@@ -84,12 +91,18 @@ returns-in_err-hops-clause-steps g c = let le = c.compile_all.ensures.steps in o
 
 pub returns-in-Err-clause-steps : goal.returns-in-Err-clause-steps
 returns-in-Err-clause-steps g c =
-    made-steps c.args.setting.now c.args.topology.now c.requires.ready c.in_ok-sizes.sizes c.in_ok-whole.whole c.in_ok-sizes.ensures c.in_ok-whole.ensures c.in_ok-trees.trees
-    c.in_ok-hops.hops c.in_ok-hops.ensures.empty c.in_ok-hops.ensures.plan c.in_ok-hops.ensures.hops c.in_ok-trees.ensures.count c.in_ok-trees.ensures.trees c.in_ok-trees.ensures.sound
-    c.as_slice.result.now c.as_slice.ensures c.args.steps.now c.compile_all.new.steps c.hand_over_all.new.steps c.compile_all.ensures.steps c.hand_over_all.ensures.steps
+    made-steps c.args.setting.now c.args.topology.now c.requires.ready c.in_ok-sizes.sizes c.in_ok-whole.whole
+    c.in_ok-sizes.ensures c.in_ok-whole.ensures c.in_ok-trees.trees
+    c.in_ok-hops.hops c.in_ok-hops.ensures.empty c.in_ok-hops.ensures.plan c.in_ok-hops.ensures.hops
+    c.in_ok-trees.ensures.count c.in_ok-trees.ensures.trees c.in_ok-trees.ensures.sound
+    c.as_slice.result.now c.as_slice.ensures c.args.steps.now c.compile_all.new.steps c.hand_over_all.new.steps
+    c.compile_all.ensures.steps c.hand_over_all.ensures.steps
 
 pub returns-in-Ok-clause-steps : goal.returns-in-Ok-clause-steps
 returns-in-Ok-clause-steps g c =
-    made-steps c.args.setting.now c.args.topology.now c.requires.ready c.in_ok-sizes.sizes c.in_ok-whole.whole c.in_ok-sizes.ensures c.in_ok-whole.ensures c.in_ok-trees.trees
-    c.in_ok-hops.hops c.in_ok-hops.ensures.empty c.in_ok-hops.ensures.plan c.in_ok-hops.ensures.hops c.in_ok-trees.ensures.count c.in_ok-trees.ensures.trees c.in_ok-trees.ensures.sound
-    c.as_slice.result.now c.as_slice.ensures c.args.steps.now c.compile_all.new.steps c.hand_over_all.new.steps c.compile_all.ensures.steps c.hand_over_all.ensures.steps
+    made-steps c.args.setting.now c.args.topology.now c.requires.ready c.in_ok-sizes.sizes c.in_ok-whole.whole
+    c.in_ok-sizes.ensures c.in_ok-whole.ensures c.in_ok-trees.trees
+    c.in_ok-hops.hops c.in_ok-hops.ensures.empty c.in_ok-hops.ensures.plan c.in_ok-hops.ensures.hops
+    c.in_ok-trees.ensures.count c.in_ok-trees.ensures.trees c.in_ok-trees.ensures.sound
+    c.as_slice.result.now c.as_slice.ensures c.args.steps.now c.compile_all.new.steps c.hand_over_all.new.steps
+    c.compile_all.ensures.steps c.hand_over_all.ensures.steps

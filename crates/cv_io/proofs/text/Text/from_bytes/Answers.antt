@@ -12,7 +12,8 @@ pub loop-at-preserved : goal.loop-at-preserved
 loop-at-preserved c = All-more (λ b. b < 128) _ _ 0 c.loop-at-test.true c.loop-at.invariant c.if-byte-ge128.false
 
 pub invariant_of-result : goal.invariant_of-result
-invariant_of-result c = subst IsAsciiText c.as_slice-byte-items.ensures (whole c.loop-at.at _ (omega (arith, c.loop-at-test.false)) c.loop-at.invariant)
+invariant_of-result c = subst IsAsciiText c.as_slice-byte-items.ensures
+    (whole c.loop-at.at _ (omega (arith, c.loop-at-test.false)) c.loop-at.invariant)
 
 pub returns-clause-ascii : goal.returns-clause-ascii
 returns-clause-ascii c = (λ _. invariant_of-result c, λ _. refl)

@@ -7,4 +7,5 @@ use Rattle.exact_gate.proofs.finder.Finder.insert.Goals as goal
 pub put-requires-clause-new_id : goal.put-requires-clause-new_id
 put-requires-clause-new_id c =
     ap (list_any (has_id c.args.id)) c.reserve.ensures.items
-    ∙ exact-in c.self.inside.all.items c.self.inside.exact.items (has_id c.args.id) c.self.invariant (ap (list_any (has_id c.args.id)) c.self.view_is ∙ c.requires)
+    ∙ exact-in c.self.inside.all.items c.self.inside.exact.items (has_id c.args.id) c.self.invariant
+    (ap (list_any (has_id c.args.id)) c.self.view_is ∙ c.requires)

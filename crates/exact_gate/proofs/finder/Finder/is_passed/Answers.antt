@@ -33,7 +33,9 @@ returns-in-None-best c =
     let k = c.args.key.now in
     let n = named (is_one_header k.m) (header_of k.m) c.in-Some.header c.in-Some.ensures in
     let P : HeaderOf → List Item → Type 0 = λ h xs. list_any (is_holding h) xs ≡ false in
-    sym (none-over k c.args.self.now (subst (λ xs. P (header_of k.m) xs) c.self.view_is (subst (λ h. P h c.self.inside.all.items) n.is c.in-None-best.ensures)))
+    sym (none-over k c.args.self.now
+    (subst (λ xs. P (header_of k.m) xs) c.self.view_is
+    (subst (λ h. P h c.self.inside.all.items) n.is c.in-None-best.ensures)))
 
 pub returns-in-Some-best : goal.returns-in-Some-best
 returns-in-Some-best c =
@@ -42,4 +44,5 @@ returns-in-Some-best c =
     let P : HeaderOf → List Item → Type 0 = λ h xs. IsFirst (is_holding h) xs c.in-Some-best.item in
     ap (λ n. nat_lt n c.in-Some-best.item.rank) c.from.ensures
     ∙ first-over k c.args.self.now c.in-Some-best.item n.exact
-    (subst (λ xs. P (header_of k.m) xs) c.self.view_is (subst (λ h. P h c.self.inside.all.items) n.is c.in-Some-best.ensures))
+    (subst (λ xs. P (header_of k.m) xs) c.self.view_is
+    (subst (λ h. P h c.self.inside.all.items) n.is c.in-Some-best.ensures))

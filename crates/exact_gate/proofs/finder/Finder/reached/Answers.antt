@@ -11,6 +11,8 @@ returns c =
     let k = c.args.key.now in
     let exact = c.self.inside.exact.items in
     let found = flat_map (keys_found exact k.priority) c.in_ok-ids.ids in
-    let all = reaches k c.self.inside.all.items exact c.in_ok-ids.ids c.self.invariant c.len.ensures.once c.in_ok-ids.ensures.ids in
+    let all = reaches k c.self.inside.all.items exact c.in_ok-ids.ids c.self.invariant c.len.ensures.once
+    c.in_ok-ids.ensures.ids in
     IfOk-weaker c.keys_of.result (λ keys. keys ≡ found) (Reaches k c.args.self.now)
-    (λ keys e. subst (Reaches k c.args.self.now) (sym e) (subst (λ (xs : List Item). Reaches k xs found) c.self.view_is all)) c.keys_of.ensures
+    (λ keys e. subst (Reaches k c.args.self.now) (sym e)
+    (subst (λ (xs : List Item). Reaches k xs found) c.self.view_is all)) c.keys_of.ensures

@@ -16,7 +16,8 @@ pub insert-requires : goal.insert-requires
 insert-requires c = new_id c.self.inside.finder c.self.inside.next (c.self.invariant.1).below
 
 pub put-requires-clause-absent : goal.put-requires-clause-absent
-put-requires-clause-absent c = ap (λ (bs : List (Key × BucketOf)). lookup (one_key c.of-key.result) bs) c.reserve.ensures.entries ∙ none_from _ c.in-None.ensures.found
+put-requires-clause-absent c = ap (λ (bs : List (Key × BucketOf)). lookup (one_key c.of-key.result) bs)
+    c.reserve.ensures.entries ∙ none_from _ c.in-None.ensures.found
 
 pub invariant_of-self-in-None : goal.invariant_of-self-in-None
 invariant_of-self-in-None c =
@@ -25,11 +26,15 @@ invariant_of-self-in-None c =
     let x = c.args.entry.now in
     let k = c.of-key.result in
     let is : c.put.new.buckets.entries ≡ bs ++ (k, record { id = next; entries = x ∷ [] }) ∷ [] =
-    c.put.ensures.entries ∙ ap₂ (λ (cs : List (Key × BucketOf)) (b : BucketOf). cs ++ (k, b) ∷ []) c.reserve.ensures.entries c.in_ok-bucket-in-None.ensures in
+    c.put.ensures.entries ∙ ap₂ (λ (cs : List (Key × BucketOf)) (b : BucketOf). cs ++ (k, b) ∷ [])
+    c.reserve.ensures.entries c.in_ok-bucket-in-None.ensures in
     let D : List (Key × BucketOf) → Type 0 = λ cs. IsDistinct one_key (keys_of cs) in
     let K : List (Key × BucketOf) → List Item → Type 0 = λ cs items. AreKnown cs items (next + 1) in (
-      subst AreBuckets (sym is) (buckets_pushed bs k next x c.self.invariant.0 (sym c.of-key.ensures) (subst D is c.put.ensures.unique)),
-      subst₂ K (sym is) (sym c.in_ok-insert-in-None.ensures.added) (known_pushed bs c.self.inside.finder next (k, record { id = next; entries = x ∷ [] }) c.self.invariant.1 refl),
+      subst AreBuckets (sym is)
+          (buckets_pushed bs k next x c.self.invariant.0 (sym c.of-key.ensures) (subst D is c.put.ensures.unique)),
+      subst₂ K (sym is) (sym c.in_ok-insert-in-None.ensures.added)
+          (known_pushed bs c.self.inside.finder next (k, record { id = next; entries = x ∷ [] }) c.self.invariant.1
+          refl),
     )
 
 pub returns-in_ok-insert-in-None-clause-entries : goal.returns-in_ok-insert-in-None-clause-entries
@@ -38,6 +43,8 @@ returns-in_ok-insert-in-None-clause-entries c e =
     let x = c.args.entry.now in
     let k = c.of-key.result in
     let is : c.put.new.buckets.entries ≡ bs ++ (k, record { id = c.self.inside.next; entries = x ∷ [] }) ∷ [] =
-    c.put.ensures.entries ∙ ap₂ (λ (cs : List (Key × BucketOf)) (b : BucketOf). cs ++ (k, b) ∷ []) c.reserve.ensures.entries c.in_ok-bucket-in-None.ensures in
+    c.put.ensures.entries ∙ ap₂ (λ (cs : List (Key × BucketOf)) (b : BucketOf). cs ++ (k, b) ∷ [])
+    c.reserve.ensures.entries c.in_ok-bucket-in-None.ensures in
     ap (λ (cs : List (Key × BucketOf)). stands_in (in_buckets cs) e) is
-    ∙ (stands_pushed bs k c.self.inside.next x e ∙ ap (λ (xs : List PhysEntry). stands_in xs e || same_entry e x) c.self.view_is)
+    ∙ (stands_pushed bs k c.self.inside.next x e
+    ∙ ap (λ (xs : List PhysEntry). stands_in xs e || same_entry e x) c.self.view_is)

@@ -7,7 +7,8 @@ use Rattle.incr_compile.specs.Trees.{tree_of}
 use Rattle.fitting_changes.proofs.composer.Composer.rules.Goals as goal
 
 pub returns-clause-listed : goal.returns-clause-listed
-returns-clause-listed c = subst (λ z. IfOk c.rules.result (IsListing (rules_at (tree_of z)))) c.self.view_is c.rules.ensures.listed
+returns-clause-listed c = subst (λ z. IfOk c.rules.result (IsListing (rules_at (tree_of z)))) c.self.view_is
+    c.rules.ensures.listed
 
 pub returns-clause-scratch : goal.returns-clause-scratch
 returns-clause-scratch c sizes rules o =

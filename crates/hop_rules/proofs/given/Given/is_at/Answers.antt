@@ -3,7 +3,8 @@ use Rattle.made_rules.proofs.SameRules.{rule_decides}
 use Rattle.hop_rules.proofs.given.Given.is_at.Goals as goal
 
 pub returns-in-Some-clause-yes : goal.returns-in-Some-clause-yes
-returns-in-Some-clause-yes c e = sym c.in-Some.ensures.rule ∙ ap Some ((rule_decides c.in-Some.found.now c.args.rule.now).0 (sym c.eq.ensures ∙ e))
+returns-in-Some-clause-yes c e = sym c.in-Some.ensures.rule
+    ∙ ap Some ((rule_decides c.in-Some.found.now c.args.rule.now).0 (sym c.eq.ensures ∙ e))
 
 pub returns-in-Some-clause-no : goal.returns-in-Some-clause-no
 returns-in-Some-clause-no c e s =

@@ -12,5 +12,6 @@ returns c =
     let test = is_meeting c.args.m.now in
     IfOk-weaker c.numbers.result _ _
     (λ ids e. subst (λ its. IsPermutation ids.items (ids_of test its)) (ap (λ (g : GivenOf). g.items) c.self.view_is)
-    (subst (λ z. IsPermutation z (ids_of test c.self.inside.index.items)) (sym (e ∙ c.as_slice.ensures)) (IsPermutation-sym _ _ c.in_ok-found.ensures.ids)))
+    (subst (λ z. IsPermutation z (ids_of test c.self.inside.index.items)) (sym (e ∙ c.as_slice.ensures))
+    (IsPermutation-sym _ _ c.in_ok-found.ensures.ids)))
     c.numbers.ensures

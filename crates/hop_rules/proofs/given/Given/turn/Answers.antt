@@ -20,9 +20,14 @@ returns-clause-turned c =
     let kept : List (Held Rule) = filter (is_outside ids) store in
     let f = subst (λ (g : GivenOf). AreFoundAt g.rules ids c.args.gone.now) (sym c.self.view_is) c.in_ok-ids.ensures in
     let all = subst (λ (g : GivenOf). AreListed g g.rules) (sym c.self.view_is) c.requires in
-    let left : filter (is_outside ids) c.add_all.new.self ≡ c.remove_all.new.self = sym (c.remove_all.ensures ∙ ap (λ z. filter (is_outside z) c.add_all.new.self) c.deref-2.ensures.value) in
-    let over = handed store c.add_all.new.self ids c.args.gone.now f coming c.len-both.ensures.rising (IsPermutation-sym _ _ c.in_ok-new.ensures.added) in
-    subst (λ (g : GivenOf). Hands g (record { exits = exits; rules = c.remove_all.new.self; items = c.hide.new.index.items }) c.args.gone.now c.args.come.now (record { gone = c.from_vec.result; come = c.from_vec-2.result })) c.self.view_is (record {
+    let left : filter (is_outside ids) c.add_all.new.self ≡ c.remove_all.new.self =
+    sym (c.remove_all.ensures ∙ ap (λ z. filter (is_outside z) c.add_all.new.self) c.deref-2.ensures.value) in
+    let over = handed store c.add_all.new.self ids c.args.gone.now f coming c.len-both.ensures.rising
+    (IsPermutation-sym _ _ c.in_ok-new.ensures.added) in
+    subst
+    (λ (g : GivenOf). Hands g
+    (record { exits = exits; rules = c.remove_all.new.self; items = c.hide.new.index.items }) c.args.gone.now
+    c.args.come.now (record { gone = c.from_vec.result; come = c.from_vec-2.result })) c.self.view_is (record {
       own = record {
         turned = record {
           going = f.going;
@@ -35,7 +40,9 @@ returns-clause-turned c =
         };
         rising = c.len-first.ensures.rising;
         risen = c.len-last.ensures.rising;
-        listed = subst (λ z. IsPermutation c.hide.new.index.items (filter_map (listed exits) (filter (is_outside z) store))) c.deref.ensures.value
+        listed =
+            subst (λ z. IsPermutation c.hide.new.index.items (filter_map (listed exits) (filter (is_outside z) store)))
+            c.deref.ensures.value
             (c.hide.ensures.items (listed exits) (listed-numbered exits) store all);
       };
       gone_are = f.rules_are;

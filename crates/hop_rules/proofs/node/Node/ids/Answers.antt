@@ -15,4 +15,6 @@ returns-clause-ids c =
     c.ids.ensures
 
 pub returns-clause-rising : goal.returns-clause-rising
-returns-clause-rising c = subst (IsStrictlySortedBy nat_cmp) (same-ids c.self.inside.store ∙ ap (λ (n : NodeOf). map id_of (rules_in n.held)) c.self.view_is) c.len-count.ensures.rising
+returns-clause-rising c = subst (IsStrictlySortedBy nat_cmp)
+    (same-ids c.self.inside.store ∙ ap (λ (n : NodeOf). map id_of (rules_in n.held)) c.self.view_is)
+    c.len-count.ensures.rising

@@ -14,7 +14,9 @@ pub invariant_of-result : goal.invariant_of-result
 invariant_of-result c e =
     let one : Held Made = record { id = c.in_ok-id.id; item = c.args.made } in
     let held : c.add.new.self ≡ one ∷ [] =
-    single one c.add.new.self (subst (λ (z : List (Held Made)). IsPermutation (one ∷ z) c.add.new.self) c.new-store.ensures c.in_ok-id.ensures.added) in
+    single one c.add.new.self
+    (subst (λ (z : List (Held Made)). IsPermutation (one ∷ z) c.add.new.self) c.new-store.ensures
+    c.in_ok-id.ensures.added) in
     by-equation _ _ (
     c.in_ok-insert.ensures.items
     ∙ ap (λ (i : IndexOf). i.items ++ item_for c.in_ok-id.id c.match_of-m.result ∷ []) c.new-index.ensures
@@ -24,4 +26,7 @@ invariant_of-result c e =
 pub returns-clause-held : goal.returns-clause-held
 returns-clause-held c =
     let one : Held Made = record { id = c.in_ok-id.id; item = c.args.made } in
-    ap (map item_of) (single one c.add.new.self (subst (λ (z : List (Held Made)). IsPermutation (one ∷ z) c.add.new.self) c.new-store.ensures c.in_ok-id.ensures.added))
+    ap (map item_of)
+    (single one c.add.new.self
+    (subst (λ (z : List (Held Made)). IsPermutation (one ∷ z) c.add.new.self) c.new-store.ensures
+    c.in_ok-id.ensures.added))

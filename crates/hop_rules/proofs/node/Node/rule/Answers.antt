@@ -15,7 +15,8 @@ returns-in-Some-clause-rule c =
 
 pub returns-in-Some-clause-rising : goal.returns-in-Some-clause-rising
 returns-in-Some-clause-rising c =
-    subst (IsStrictlySortedBy nat_cmp) (same-ids c.self.inside.store ∙ ap (λ (n : NodeOf). map id_of (rules_in n.held)) c.self.view_is) c.len-count.ensures.rising
+    subst (IsStrictlySortedBy nat_cmp) (same-ids c.self.inside.store
+    ∙ ap (λ (n : NodeOf). map id_of (rules_in n.held)) c.self.view_is) c.len-count.ensures.rising
 
 pub returns-in-None-clause-rule : goal.returns-in-None-clause-rule
 returns-in-None-clause-rule c =
@@ -24,4 +25,5 @@ returns-in-None-clause-rule c =
 
 pub returns-in-None-clause-rising : goal.returns-in-None-clause-rising
 returns-in-None-clause-rising c =
-    subst (IsStrictlySortedBy nat_cmp) (same-ids c.self.inside.store ∙ ap (λ (n : NodeOf). map id_of (rules_in n.held)) c.self.view_is) c.len-count.ensures.rising
+    subst (IsStrictlySortedBy nat_cmp) (same-ids c.self.inside.store
+    ∙ ap (λ (n : NodeOf). map id_of (rules_in n.held)) c.self.view_is) c.len-count.ensures.rising

@@ -1,4 +1,4 @@
-use Rattle.hyper_core.proofs.Meanings.{copied_means}
+use Rattle.event_composes.proofs.Meanings.{copied_means}
 use Rattle.hyper_core.proofs.machine.HyperMachine.copy.Goals as goal
 
 pub returns : goal.returns

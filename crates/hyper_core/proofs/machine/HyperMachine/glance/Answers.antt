@@ -1,4 +1,4 @@
-use Rattle.hyper_core.proofs.Meanings.{glance_is}
+use Rattle.event_composes.proofs.Meanings.{glance_is}
 use Rattle.hyper_core.proofs.machine.HyperMachine.glance.Goals as goal
 
 pub returns : goal.returns

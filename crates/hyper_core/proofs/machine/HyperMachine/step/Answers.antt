@@ -1,7 +1,7 @@
 use denote.Param.Send.{sendable}
 use Rattle.std.proofs.Common.{◌+◌, ◌≤◌, ℕ, subst}
-use Rattle.hyper_core.proofs.Bounds.{cost_is, most_is}
-use Rattle.hyper_core.proofs.Meanings.{step_is}
+use Rattle.event_composes.proofs.Bounds.{cost_is, most_is}
+use Rattle.event_composes.proofs.Meanings.{step_is}
 use Rattle.hyper_core.proofs.machine.HyperMachine.step.Goals as goal
 
 pub returns-clause-stepped : goal.returns-clause-stepped

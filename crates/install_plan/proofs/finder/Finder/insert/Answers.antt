@@ -20,10 +20,14 @@ invariant_of-self-2 c =
     let i : Item = record { id = c.self.inside.next; rank = c.rank.result; normal = c.args.m.now } in
     let key : key_in i ≡ k = λ j. record { priority = c.rank.ensures.value j; bytes = sym c.requires.key j } in
     let is = c.put.ensures.items ∙ ap (λ (xs : List Item). xs ++ i ∷ []) c.reserve.ensures.items in
-    let more = indexed-more c.self.inside.numbers.entries c.insert.new.self.entries c.self.inside.index.items c.self.inside.next k i c.self.invariant c.in_ok-insert.ensures.updates.0 key refl c.requires.in_range c.rank.ensures.small in
+    let more = indexed-more c.self.inside.numbers.entries c.insert.new.self.entries c.self.inside.index.items
+    c.self.inside.next k i c.self.invariant c.in_ok-insert.ensures.updates.0 key refl c.requires.in_range
+    c.rank.ensures.small in
     subst (λ (xs : List Item). AreIndexed c.insert.new.self.entries xs (c.self.inside.next + 1)) (sym is) more
 
 pub returns-clause-still : goal.returns-clause-still
 returns-clause-still c = λ q t.
     let had = subst (λ (ns : Numbers). IsSome (number_at q ns)) (sym c.self.view_is) t in
-    subst IsSome (sym (c.in_ok-insert.ensures.updates.0 q)) (still-numbered (is_at (order c.args.key.now) q) c.self.inside.next (number_at q c.self.inside.numbers.entries) had)
+    subst IsSome (sym (c.in_ok-insert.ensures.updates.0 q))
+    (still-numbered (is_at (order c.args.key.now) q) c.self.inside.next (number_at q c.self.inside.numbers.entries)
+    had)

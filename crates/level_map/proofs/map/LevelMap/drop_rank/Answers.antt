@@ -13,21 +13,28 @@ pub invariant_of-self : goal.invariant_of-self
 invariant_of-self c = record {
   size_from = c.self.invariant.size_from;
   size_to = c.self.invariant.size_to;
-  rising = rw c.remove.ensures.items (removed_rising c.self.inside.size c.args.rank c.in-Ok.at _ c.self.invariant.rising (rw c.deref.ensures.value at c.in-Ok.ensures.found));
+  rising = rw c.remove.ensures.items
+      (removed_rising c.self.inside.size c.args.rank c.in-Ok.at _ c.self.invariant.rising
+      (rw c.deref.ensures.value at c.in-Ok.ensures.found));
 }
 
 pub returns-in-Ok-clause-dropped : goal.returns-in-Ok-clause-dropped
 returns-in-Ok-clause-dropped c =
-    rw (c.remove.ensures.items, removed c.args.rank c.in-Ok.at _ (rw c.deref.ensures.value at c.in-Ok.ensures.found)) (ap (λ (m : Levels). dropping m c.args.rank) c.self.view_is)
+    rw (c.remove.ensures.items, removed c.args.rank c.in-Ok.at _ (rw c.deref.ensures.value at c.in-Ok.ensures.found))
+    (ap (λ (m : Levels). dropping m c.args.rank) c.self.view_is)
 
 pub returns-in-Ok-clause-absent : goal.returns-in-Ok-clause-absent
-returns-in-Ok-clause-absent c = ap (λ (m : Levels). level_of m c.args.rank) (returns-in-Ok-clause-dropped c) ∙ dropped_absent c.args.self.now c.args.rank
+returns-in-Ok-clause-absent c = ap (λ (m : Levels). level_of m c.args.rank) (returns-in-Ok-clause-dropped c)
+    ∙ dropped_absent c.args.self.now c.args.rank
 
 pub returns-in-Ok-clause-others : goal.returns-in-Ok-clause-others
-returns-in-Ok-clause-others c q other = ap (λ (m : Levels). level_of m q) (returns-in-Ok-clause-dropped c) ∙ dropped_others c.args.self.now c.args.rank q other
+returns-in-Ok-clause-others c q other = ap (λ (m : Levels). level_of m q) (returns-in-Ok-clause-dropped c)
+    ∙ dropped_others c.args.self.now c.args.rank q other
 
 pub returns-in-Ok-clause-orderly : goal.returns-in-Ok-clause-orderly
-returns-in-Ok-clause-orderly c = follows (record { size = c.self.inside.size; ranked = c.remove.new.self.items }) (invariant_of-self c).rising
+returns-in-Ok-clause-orderly c = follows (record { size = c.self.inside.size; ranked = c.remove.new.self.items })
+    (invariant_of-self c).rising
 
 pub returns-in_default-clause-orderly : goal.returns-in_default-clause-orderly
-returns-in_default-clause-orderly c = subst FollowsRanks c.self.view_is (follows (record { size = c.self.inside.size; ranked = c.self.inside.ranked.items }) c.self.invariant.rising)
+returns-in_default-clause-orderly c = subst FollowsRanks c.self.view_is
+    (follows (record { size = c.self.inside.size; ranked = c.self.inside.ranked.items }) c.self.invariant.rising)

@@ -22,13 +22,15 @@ returns-clause-closed g c =
 pub returns-in_err-receipt-clause-pass : goal.returns-in_err-receipt-clause-pass
 returns-in_err-receipt-clause-pass g c =
     let a =
-    admitted c.args.self.now.lock.now c.args.self.now.since.value c.args.seat.now c.post.new.seat c.requires.1 c.requires.2
+    admitted c.args.self.now.lock.now c.args.self.now.since.value c.args.seat.now c.post.new.seat c.requires.1
+    c.requires.2
     c.post.ensures.seat c.post.ensures.seen in
     (c.requires.0, a.0, a.1)
 
 pub returns-clause-pass : goal.returns-clause-pass
 returns-clause-pass g c =
     let a =
-    admitted c.args.self.now.lock.now c.args.self.now.since.value c.args.seat.now c.post.new.seat c.requires.1 c.requires.2
+    admitted c.args.self.now.lock.now c.args.self.now.since.value c.args.seat.now c.post.new.seat c.requires.1
+    c.requires.2
     c.post.ensures.seat c.post.ensures.seen in
     (c.requires.0, a.0, a.1)

@@ -10,7 +10,8 @@ unreachable-requires g c =
     let o = opened_by g.H.Machine.Machine _ _ _ _ _ _ _ _ p c.post.ensures.seat.2
     (c.post.ensures.seat.1 ∙ c.requires.pass.1.1) c.args.who c.args.arp refl
     (g.met.H.Host.opens _ c.args.who c.args.arp
-    (known_after g.H.Machine.Machine g.H.Host.knows g.met.H.Host.stays_known c.args.who c.args.self.now.lock.now.start p.before
+    (known_after g.H.Machine.Machine g.H.Host.knows g.met.H.Host.stays_known c.args.who c.args.self.now.lock.now.start
+    p.before
     c.requires.served)) in
     c.in_default.not-Opened o.0 o.1
 
@@ -20,7 +21,8 @@ returns-clause-posted g c =
     let o = opened_by g.H.Machine.Machine _ _ _ _ _ _ _ _ p c.post.ensures.seat.2
     (c.post.ensures.seat.1 ∙ c.requires.pass.1.1) c.args.who c.args.arp refl
     (g.met.H.Host.opens _ c.args.who c.args.arp
-    (known_after g.H.Machine.Machine g.H.Host.knows g.met.H.Host.stays_known c.args.who c.args.self.now.lock.now.start p.before
+    (known_after g.H.Machine.Machine g.H.Host.knows g.met.H.Host.stays_known c.args.who c.args.self.now.lock.now.start
+    p.before
     c.requires.served)) in
     o.2
     ∙ ap (λ q. own_posts c.args.seat.now.pass ++ answered (Up c.args.who c.args.arp) q ∷ []) (sym o.1 ∙ c.in-Opened.is)
@@ -28,13 +30,15 @@ returns-clause-posted g c =
 pub returns-in_err-receipt-clause-pass : goal.returns-in_err-receipt-clause-pass
 returns-in_err-receipt-clause-pass g c =
     let a =
-    admitted c.args.self.now.lock.now c.args.self.now.since.value c.args.seat.now c.post.new.seat c.requires.pass.1 c.requires.pass.2
+    admitted c.args.self.now.lock.now c.args.self.now.since.value c.args.seat.now c.post.new.seat c.requires.pass.1
+    c.requires.pass.2
     c.post.ensures.seat c.post.ensures.seen in
     (c.requires.pass.0, a.0, a.1)
 
 pub returns-clause-pass : goal.returns-clause-pass
 returns-clause-pass g c =
     let a =
-    admitted c.args.self.now.lock.now c.args.self.now.since.value c.args.seat.now c.post.new.seat c.requires.pass.1 c.requires.pass.2
+    admitted c.args.self.now.lock.now c.args.self.now.since.value c.args.seat.now c.post.new.seat c.requires.pass.1
+    c.requires.pass.2
     c.post.ensures.seat c.post.ensures.seen in
     (c.requires.pass.0, a.0, a.1)

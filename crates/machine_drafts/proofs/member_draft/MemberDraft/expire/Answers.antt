@@ -1,7 +1,5 @@
-use Rattle.std.proofs.Common.{◌∙◌, List, ap, sym}
-use Rattle.std.specs.Prelude.{filter}
-use Rattle.member_state.specs.Changes.{entries_of, is_told}
-use Rattle.machine_drafts.proofs.NoneDue.{draft_expires, draft_stays, due_told}
+use Rattle.std.proofs.Common.{◌∙◌, ap, sym}
+use Rattle.machine_drafts.proofs.NoneDue.{draft_stays}
 use Rattle.machine_drafts.specs.MemberDrafts.{MemberDraftOf}
 use Rattle.machine_drafts.proofs.member_draft.MemberDraft.expire.Goals as goal
 

@@ -7,6 +7,7 @@ pub returns-clause-line : goal.returns-clause-line
 returns-clause-line c =
     let a = c.self.inside in
     let y = c.after-x.result in
-    let stepped = next_message a.opened a.done a.count a.x y (omega arith) (omega arith) (omega arith) c.after-x.ensures.value in
+    let stepped = next_message a.opened a.done a.count a.x y (omega arith) (omega arith) (omega arith)
+    c.after-x.ensures.value in
     let rest : List (List ℕ) = drop a.opened opening ++ lines_behind (a.done + 1) y (a.count - (a.done + 1)) in
     sym c.self.view_is ∙ stepped ∙ ap (λ (line : List ℕ). line ∷ rest) (sym c.in_ok-line.ensures)

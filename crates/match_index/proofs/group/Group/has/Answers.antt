@@ -11,10 +11,12 @@ returns-in-Some c =
     let p : Item → Bool = same_item c.args.item.now in
     c.has.ensures
     ∙ (ap (λ o. list_any p (bucket_items o)) c.in-Some.ensures.value
-    ∙ (sym (has_in c.self.inside.shape c.args.item.now c.self.inside.buckets.entries c.self.invariant) ∙ ap (λ g. list_any p g.items) c.self.view_is))
+    ∙ (sym (has_in c.self.inside.shape c.args.item.now c.self.inside.buckets.entries c.self.invariant)
+    ∙ ap (λ g. list_any p g.items) c.self.view_is))
 
 pub returns-in-None : goal.returns-in-None
 returns-in-None c =
     let p : Item → Bool = same_item c.args.item.now in
     ap (λ o. list_any p (bucket_items o)) c.in-None.ensures.value
-    ∙ (sym (has_in c.self.inside.shape c.args.item.now c.self.inside.buckets.entries c.self.invariant) ∙ ap (λ g. list_any p g.items) c.self.view_is)
+    ∙ (sym (has_in c.self.inside.shape c.args.item.now c.self.inside.buckets.entries c.self.invariant)
+    ∙ ap (λ g. list_any p g.items) c.self.view_is)

@@ -11,4 +11,5 @@ returns c =
     c.is_some.ensures
     ∙ (c.get_index_of.ensures.found
     ∙ (ap is_some (held_find c.args.id held c.self.invariant.0.ids)
-    ∙ (sym (any_find (has_id c.args.id) (values_of held)) ∙ ap (λ i. list_any (has_id c.args.id) i.items) c.self.view_is)))
+    ∙ (sym (any_find (has_id c.args.id) (values_of held))
+    ∙ ap (λ i. list_any (has_id c.args.id) i.items) c.self.view_is)))

@@ -7,4 +7,5 @@ use Rattle.match_index.proofs.index.Index.len.Goals as goal
 pub returns-clause-once : goal.returns-clause-once
 returns-clause-once c =
     let P : List ℕ → Type 0 = IsDistinct ◌==◌ in
-    subst P (held_ids c.self.inside.held.entries c.self.invariant.0.ids ∙ ap (λ x. map (λ (e : Item). e.id) x.items) c.self.view_is) c.self.invariant.0.once
+    subst P (held_ids c.self.inside.held.entries c.self.invariant.0.ids
+    ∙ ap (λ x. map (λ (e : Item). e.id) x.items) c.self.view_is) c.self.invariant.0.once

@@ -15,8 +15,11 @@ returns-clause-ids c =
     let groups = c.self.inside.groups.items in
     let held = values_of c.self.inside.held.entries in
     let asked : c.list_of.new.ids.items ≡ ids_of p (late ++ in_groups groups) =
-    c.in_ok-list_of.ensures ∙ ap₂ (λ s l. s ++ ids_of p l) c.new-ids.ensures.items (ap₂ (λ l g. l ++ in_groups g) c.deref.ensures.value c.deref-2.ensures.value) in
+    c.in_ok-list_of.ensures ∙ ap₂ (λ s l. s ++ ids_of p l) c.new-ids.ensures.items
+    (ap₂ (λ l g. l ++ in_groups g) c.deref.ensures.value c.deref-2.ensures.value) in
     let From : List ℕ → Type 0 = λ ns. IsPermutation ns c.sort.new.self.items in
     let Both : List ℕ → List ℕ → Type 0 = λ ns ms. IsPermutation ns ms in
     subst₂ Both (ap (λ i. ids_of p i.items) c.self.view_is) (sym c.from_vec.ensures)
-    (IsPermutation-trans (ids_of p held) (ids_of p (late ++ in_groups groups)) c.sort.new.self.items (ids_same p held (late ++ in_groups groups) c.self.invariant.0.same) (subst From asked c.in_ok-sort.ensures.permutation))
+    (IsPermutation-trans (ids_of p held) (ids_of p (late ++ in_groups groups)) c.sort.new.self.items
+    (ids_same p held (late ++ in_groups groups) c.self.invariant.0.same)
+    (subst From asked c.in_ok-sort.ensures.permutation))

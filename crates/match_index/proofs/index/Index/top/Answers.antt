@@ -15,4 +15,5 @@ returns c =
     let P : List Item → List GroupOf → Type 0 = λ l g. IsTop p (l ++ in_groups g) c.top_of.result in
     let Q : IndexOf → Type 0 = λ i. IsTop p i.items c.top_of.result in
     subst Q c.self.view_is
-    (top_same p (values_of c.self.inside.held.entries) (late ++ in_groups groups) c.top_of.result c.self.invariant.0.same (subst₂ P c.deref.ensures.value c.deref-2.ensures.value c.top_of.ensures))
+    (top_same p (values_of c.self.inside.held.entries) (late ++ in_groups groups) c.top_of.result
+    c.self.invariant.0.same (subst₂ P c.deref.ensures.value c.deref-2.ensures.value c.top_of.ensures))

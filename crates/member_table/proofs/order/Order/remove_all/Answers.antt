@@ -6,11 +6,16 @@ use Rattle.member_table.specs.InsideOrders.{IsInStep, listed}
 use Rattle.member_table.proofs.Staying.{in_step_filter}
 use Rattle.member_table.proofs.order.Order.remove_all.Goals as goal
 
-kept : (c : goal.After-keep_known) → IsInStep c.keep_known.new.serials.items (get nat_eq c.take_all.new.entries) (get same_identity c.take_all.new.numbers)
-    × (listed (get nat_eq c.take_all.new.entries) c.keep_known.new.serials.items ≡ filter (stays c.args.serials c.args.place) (listed (get nat_eq c.self.inside.entries) c.self.inside.serials.items))
+kept : (c : goal.After-keep_known)
+    → IsInStep c.keep_known.new.serials.items (get nat_eq c.take_all.new.entries)
+    (get same_identity c.take_all.new.numbers)
+    × (listed (get nat_eq c.take_all.new.entries) c.keep_known.new.serials.items
+    ≡ filter (stays c.args.serials c.args.place)
+    (listed (get nat_eq c.self.inside.entries) c.self.inside.serials.items))
 kept c =
     let es = listed (get nat_eq c.self.inside.entries) c.self.inside.serials.items in
-    in_step_filter c.self.inside.serials.items _ (get nat_eq c.self.inside.entries) _ (get same_identity c.self.inside.numbers) _ (stays c.args.serials c.args.place) c.self.invariant
+    in_step_filter c.self.inside.serials.items _ (get nat_eq c.self.inside.entries) _
+    (get same_identity c.self.inside.numbers) _ (stays c.args.serials c.args.place) c.self.invariant
     (c.take_all.ensures.indexed es c.self.invariant.indexed) c.keep_known.ensures.numbers
 
 pub invariant_of-self : goal.invariant_of-self

@@ -11,8 +11,12 @@ use Rattle.member_table.proofs.order.Order.wanted.Goals as goal
 pub returns : goal.returns
 returns c =
     let test = is_wanted c.args.wanted.now in
-    let among : List Entry → List ℕ → List ℕ = λ es ns. filter (λ s. option_map_or test (find (has_serial s) es) false) ns in
-    let same = ap (λ ns. among c.args.self.now.entries ns) c.deref.ensures.value ∙ (ap (λ o. among o.entries c.self.inside.serials.items) (sym c.self.view_is)
-    ∙ (wanted_numbers c.self.inside.serials.items (get nat_eq c.self.inside.entries) (get same_identity c.self.inside.numbers) test c.self.invariant ∙ ap (λ o. serials_of test o.entries) c.self.view_is)) in
+    let among : List Entry → List ℕ
+    → List ℕ = λ es ns. filter (λ s. option_map_or test (find (has_serial s) es) false) ns in
+    let same = ap (λ ns. among c.args.self.now.entries ns) c.deref.ensures.value
+    ∙ (ap (λ o. among o.entries c.self.inside.serials.items) (sym c.self.view_is)
+    ∙ (wanted_numbers c.self.inside.serials.items (get nat_eq c.self.inside.entries)
+    (get same_identity c.self.inside.numbers) test c.self.invariant
+    ∙ ap (λ o. serials_of test o.entries) c.self.view_is)) in
     let P : List ℕ → Type 0 = λ ns. IfOk c.wanted_among.result (λ v. v.items ≡ ns) in
     subst P same c.wanted_among.ensures

@@ -16,6 +16,7 @@ insert-requires-clause-new_id c =
     elim c.match-replaced.branch [
       | in-Some w ↦
           let g : Item → Bool = λ r. not (has_id w.in-Some.old.serial r) in
-          subst Q (sym w.self-is) (sym (same_any (filter g items) w.remove.new.self.items w.remove.ensures.items q) ∙ none_left q g items c.requires.new_id)
+          subst Q (sym w.self-is) (sym (same_any (filter g items) w.remove.new.self.items w.remove.ensures.items q)
+          ∙ none_left q g items c.requires.new_id)
       | in_default w ↦ subst Q (sym w.self-is) c.requires.new_id
     ]

@@ -7,4 +7,5 @@ use Rattle.member_table.proofs.ranks.Ranks.has.Goals as goal
 pub returns : goal.returns
 returns c =
     c.has.ensures ∙ (ap (nat_lt 0) (c.self.invariant c.args.rank)
-    ∙ (sym (any_count (λ (r : Item). c.args.rank == r.rank) c.self.inside.index.items) ∙ ap (λ o. list_any (λ (r : Item). c.args.rank == r.rank) o.items) c.self.view_is))
+    ∙ (sym (any_count (λ (r : Item). c.args.rank == r.rank) c.self.inside.index.items)
+    ∙ ap (λ o. list_any (λ (r : Item). c.args.rank == r.rank) o.items) c.self.view_is))

@@ -18,4 +18,6 @@ add-requires-clause-bound c =
 pub invariant_of-self : goal.invariant_of-self
 invariant_of-self c =
     let P : List Item → Type 0 = λ xs. AreCounted (get nat_eq c.add.new.counts) xs in
-    subst P (sym c.put.ensures.items) (counted_more (get nat_eq c.self.inside.counts) (get nat_eq c.add.new.counts) c.self.inside.index.items c.args.item.now c.self.invariant c.add.ensures.counted)
+    subst P (sym c.put.ensures.items)
+    (counted_more (get nat_eq c.self.inside.counts) (get nat_eq c.add.new.counts) c.self.inside.index.items
+    c.args.item.now c.self.invariant c.add.ensures.counted)

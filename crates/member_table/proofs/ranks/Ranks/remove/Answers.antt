@@ -13,17 +13,22 @@ pub invariant_of-self : goal.invariant_of-self
 invariant_of-self c =
     let items = c.self.inside.index.items in
     let q = has_id c.args.serial in
-    let found = c.in-Some.ensures ∙ ap (λ (o : RanksOf). option_map (λ (e : Item). e.rank) (find q o.items)) (sym c.self.view_is) in
-    counted_less q c.in-Some.rank (get nat_eq c.self.inside.counts) (get nat_eq c.forget.new.counts) items c.remove.new.self.items c.self.invariant c.forget.ensures.counted found c.remove.ensures.items
+    let found = c.in-Some.ensures ∙ ap (λ (o : RanksOf). option_map (λ (e : Item). e.rank) (find q o.items))
+    (sym c.self.view_is) in
+    counted_less q c.in-Some.rank (get nat_eq c.self.inside.counts) (get nat_eq c.forget.new.counts) items
+    c.remove.new.self.items c.self.invariant c.forget.ensures.counted found c.remove.ensures.items
 
 pub returns-in-Some-clause-items : goal.returns-in-Some-clause-items
 returns-in-Some-clause-items c =
     let items = c.self.inside.index.items in
     let q = has_id c.args.serial in
     let S : RanksOf → Type 0 = λ o. SameItems (filter (λ r. not (q r)) o.items) c.remove.new.self.items in
-    subst S c.self.view_is (left_by_id q items c.remove.new.self.items (once_id c.args.serial items c.len.ensures.once) c.remove.ensures.items)
+    subst S c.self.view_is (left_by_id q items c.remove.new.self.items (once_id c.args.serial items c.len.ensures.once)
+    c.remove.ensures.items)
 
 pub returns-in_default-clause-items : goal.returns-in_default-clause-items
 returns-in_default-clause-items c =
     let q = has_id c.args.serial in
-    λ p. ap (count_by p) (filter-none q c.args.self.now.items (none_mapped (λ (e : Item). e.rank) q c.args.self.now.items c.in_default.ensures))
+    λ p. ap (count_by p)
+    (filter-none q c.args.self.now.items
+    (none_mapped (λ (e : Item). e.rank) q c.args.self.now.items c.in_default.ensures))

@@ -1,4 +1,5 @@
-use Rattle.std.proofs.Common.{◌≡◌, ◌∙◌, ℕ, ◌≤◌, ◌<◌, ◌&&◌, Bool, true, false, not, sym, ap, refl, length, is_some, Some, None, if◌then◌else◌, nat_le, le-leb, leb-true, arith}
+use Rattle.std.proofs.Common.{◌≡◌, ◌∙◌, ℕ, ◌≤◌, ◌<◌, ◌&&◌, Bool, true, false, not, sym, ap, refl, length, is_some, Some}
+use Rattle.std.proofs.Common.{None, if◌then◌else◌, nat_le, le-leb, leb-true, arith}
 use Rattle.std.specs.List.{list_any}
 use Rattle.member_table.specs.Entries.{is_at}
 use Rattle.member_table.specs.Refusals.{overlapped, refusal_by, refusal_of}
@@ -11,14 +12,17 @@ use Rattle.member_table.proofs.Lists.{any_find}
 use Rattle.member_table.proofs.Plans.{in_way_is}
 use Rattle.member_table.proofs.table.Table.admit.Goals as goal
 
-by_parts : (k : Identity) (t : TableOf) (b : Bool) → overlapped k t.entries ≡ None → list_any (is_at k) t.entries ≡ b → refusal_of k t ≡ (if nat_le t.limit (length t.entries) && not b then Some (Entries t.limit) else None)
-by_parts k t b e f = ap (λ o. refusal_by o k t) e ∙ ap (λ c. if nat_le t.limit (length t.entries) && not c then Some (Entries t.limit) else None) f
+by_parts : (k : Identity) (t : TableOf) (b : Bool) → overlapped k t.entries ≡ None → list_any (is_at k) t.entries ≡ b
+    → refusal_of k t ≡ (if nat_le t.limit (length t.entries) && not b then Some (Entries t.limit) else None)
+by_parts k t b e f = ap (λ o. refusal_by o k t) e
+    ∙ ap (λ c. if nat_le t.limit (length t.entries) && not c then Some (Entries t.limit) else None) f
 
 replaces : (a : Bool) (t : TableOf) → (if a && false then Some (Entries t.limit) else None) ≡ None
 replaces true t = refl
 replaces false t = refl
 
-filled : (a : Bool) (t : TableOf) → a ≡ true → (if a && true then Some (Entries t.limit) else None) ≡ Some (Entries t.limit)
+filled : (a : Bool) (t : TableOf) → a ≡ true
+    → (if a && true then Some (Entries t.limit) else None) ≡ Some (Entries t.limit)
 filled a t e = ap (λ b. if b && true then Some (Entries t.limit) else None) e
 
 unfilled : (a : Bool) (t : TableOf) → a ≡ false → (if a && true then Some (Entries t.limit) else None) ≡ None
@@ -35,31 +39,40 @@ pub returns-in-Some-clause-refused : goal.returns-in-Some-clause-refused
 returns-in-Some-clause-refused c =
     let k = c.args.asked.now in
     let t = table_of c.self.inside.order.entries c.self.inside.next c.self.inside.limit in
-    let over = in_way_is k t.entries c.self.inside.ranks.items (same_any _ _ c.self.invariant.ranked) c.in_way.result c.in_way.ensures ∙ c.in-Some.is in
+    let over = in_way_is k t.entries c.self.inside.ranks.items (same_any _ _ c.self.invariant.ranked) c.in_way.result
+    c.in_way.ensures ∙ c.in-Some.is in
     ap (λ h. refusal_of k h.table) (sym c.self.view_is) ∙ ap (λ o. refusal_by o k t) over
 
 pub returns-in-Some-identical-clause-admitted : goal.returns-in-Some-identical-clause-admitted
 returns-in-Some-identical-clause-admitted c =
     let k = c.args.asked.now in
     let t = table_of c.self.inside.order.entries c.self.inside.next c.self.inside.limit in
-    let over = in_way_is k t.entries c.self.inside.ranks.items (same_any _ _ c.self.invariant.ranked) c.in_way.result c.in_way.ensures ∙ c.in_default.is in
+    let over = in_way_is k t.entries c.self.inside.ranks.items (same_any _ _ c.self.invariant.ranked) c.in_way.result
+    c.in_way.ensures ∙ c.in_default.is in
     let there = any_find (is_at k) t.entries ∙ ap is_some (sym c.in-Some-identical.ensures) in
-    ap (λ h. refusal_of k h.table) (sym c.self.view_is) ∙ (by_parts k t true over there ∙ replaces (nat_le t.limit (length t.entries)) t)
+    ap (λ h. refusal_of k h.table) (sym c.self.view_is)
+    ∙ (by_parts k t true over there ∙ replaces (nat_le t.limit (length t.entries)) t)
 
 pub returns-in-None-clause-refused : goal.returns-in-None-clause-refused
 returns-in-None-clause-refused c =
     let k = c.args.asked.now in
     let t = table_of c.self.inside.order.entries c.self.inside.next c.self.inside.limit in
-    let over = in_way_is k t.entries c.self.inside.ranks.items (same_any _ _ c.self.invariant.ranked) c.in_way.result c.in_way.ensures ∙ c.in_default.is in
+    let over = in_way_is k t.entries c.self.inside.ranks.items (same_any _ _ c.self.invariant.ranked) c.in_way.result
+    c.in_way.ensures ∙ c.in_default.is in
     let there = any_find (is_at k) t.entries ∙ ap is_some (sym c.in-None.ensures) in
     let most : t.limit ≤ length t.entries = omega arith in
-    ap (λ h. refusal_of k h.table) (sym c.self.view_is) ∙ (by_parts k t false over there ∙ filled (nat_le t.limit (length t.entries)) t (le-leb t.limit (length t.entries) most))
+    ap (λ h. refusal_of k h.table) (sym c.self.view_is)
+    ∙ (by_parts k t false over there
+    ∙ filled (nat_le t.limit (length t.entries)) t (le-leb t.limit (length t.entries) most))
 
 pub returns-in-None-2-clause-admitted : goal.returns-in-None-2-clause-admitted
 returns-in-None-2-clause-admitted c =
     let k = c.args.asked.now in
     let t = table_of c.self.inside.order.entries c.self.inside.next c.self.inside.limit in
-    let over = in_way_is k t.entries c.self.inside.ranks.items (same_any _ _ c.self.invariant.ranked) c.in_way.result c.in_way.ensures ∙ c.in_default.is in
+    let over = in_way_is k t.entries c.self.inside.ranks.items (same_any _ _ c.self.invariant.ranked) c.in_way.result
+    c.in_way.ensures ∙ c.in_default.is in
     let there = any_find (is_at k) t.entries ∙ ap is_some (sym c.in-None.ensures) in
     let fewer : length t.entries < t.limit = omega arith in
-    ap (λ h. refusal_of k h.table) (sym c.self.view_is) ∙ (by_parts k t false over there ∙ unfilled (nat_le t.limit (length t.entries)) t (lt-leb t.limit (length t.entries) fewer))
+    ap (λ h. refusal_of k h.table) (sym c.self.view_is)
+    ∙ (by_parts k t false over there
+    ∙ unfilled (nat_le t.limit (length t.entries)) t (lt-leb t.limit (length t.entries) fewer))

@@ -1,4 +1,5 @@
-use Rattle.std.proofs.Common.{◌≡◌, ◌∙◌, ℕ, ◌<◌, ◌++◌, ◌∷◌, [], List, Bool, true, false, not, refl, sym, ap, length, length-append, arith, true≢false}
+use Rattle.std.proofs.Common.{◌≡◌, ◌∙◌, ℕ, ◌<◌, ◌++◌, ◌∷◌, [], List, Bool, true, false, not, refl, sym, ap, length}
+use Rattle.std.proofs.Common.{length-append, arith, true≢false}
 use Rattle.member_table.proofs.Changing.{emptied, all_stay, stays_dropped, stays_kept}
 use Rattle.member_table.proofs.table.Table.drop_each.Goals as goal
 
@@ -26,8 +27,12 @@ loop-serial-smaller-then-ne c = shorter c.loop-serial.serials c.pop.new.self c.i
 pub loop-serial-preserved-then-ne : goal.loop-serial-preserved-then-ne
 loop-serial-preserved-then-ne c = record {
   table =
-      (let step = stays_dropped c.pop.new.self c.in-Some.serial c.args.place c.loop-serial.self.table.entries (not_true _ c.if-ne.ensures) in
-      ap (emptied c.pop.new.self c.args.place) c.drop_serial.ensures.table ∙ (ap (λ es. record c.loop-serial.self.table { entries = es }) step ∙ (ap (λ ss. emptied ss c.args.place c.loop-serial.self.table) (sym c.in-Some.ensures.items) ∙ c.loop-serial.invariant.table)));
+      (let step = stays_dropped c.pop.new.self c.in-Some.serial c.args.place c.loop-serial.self.table.entries
+      (not_true _ c.if-ne.ensures) in
+      ap (emptied c.pop.new.self c.args.place) c.drop_serial.ensures.table
+      ∙ (ap (λ es. record c.loop-serial.self.table { entries = es }) step
+      ∙ (ap (λ ss. emptied ss c.args.place c.loop-serial.self.table) (sym c.in-Some.ensures.items)
+      ∙ c.loop-serial.invariant.table)));
   room = c.drop_serial.ensures.room ∙ c.loop-serial.invariant.room;
 }
 
@@ -37,15 +42,20 @@ loop-serial-smaller c = shorter c.loop-serial.serials c.pop.new.self c.in-Some.s
 pub loop-serial-preserved : goal.loop-serial-preserved
 loop-serial-preserved c = record {
   table =
-      (let step = stays_kept c.pop.new.self c.in-Some.serial c.args.place c.loop-serial.self.table.entries (not_false _ c.if-ne.ensures) in
-      ap (λ es. record c.loop-serial.self.table { entries = es }) step ∙ (ap (λ ss. emptied ss c.args.place c.loop-serial.self.table) (sym c.in-Some.ensures.items) ∙ c.loop-serial.invariant.table));
+      (let step = stays_kept c.pop.new.self c.in-Some.serial c.args.place c.loop-serial.self.table.entries
+      (not_false _ c.if-ne.ensures) in
+      ap (λ es. record c.loop-serial.self.table { entries = es }) step
+      ∙ (ap (λ ss. emptied ss c.args.place c.loop-serial.self.table) (sym c.in-Some.ensures.items)
+      ∙ c.loop-serial.invariant.table));
   room = c.loop-serial.invariant.room;
 }
 
 pub returns-clause-table : goal.returns-clause-table
 returns-clause-table c =
     let none = nil_of c.loop-serial.serials (λ h. true≢false (sym (c.in_default.ensures.there.1 h))) in
-    sym (ap (λ ss. emptied ss c.args.place c.loop-serial.self.table) none ∙ ap (λ es. record c.loop-serial.self.table { entries = es }) (all_stay c.args.place c.loop-serial.self.table.entries)) ∙ c.loop-serial.invariant.table
+    sym (ap (λ ss. emptied ss c.args.place c.loop-serial.self.table) none
+    ∙ ap (λ es. record c.loop-serial.self.table { entries = es })
+    (all_stay c.args.place c.loop-serial.self.table.entries)) ∙ c.loop-serial.invariant.table
 
 pub returns-clause-room : goal.returns-clause-room
 returns-clause-room c = c.loop-serial.invariant.room

@@ -11,4 +11,5 @@ pub returns : goal.returns
 returns c =
     let es = c.self.inside.order.entries in
     let it = λ (r : Item). c.args.rank == r.rank in
-    c.has.ensures ∙ (same_any c.self.inside.ranks.items (map ranked_of es) c.self.invariant.ranked it ∙ (list_any-map it ranked_of es ∙ ap (λ h. list_any (has_rank c.args.rank) h.table.entries) c.self.view_is))
+    c.has.ensures ∙ (same_any c.self.inside.ranks.items (map ranked_of es) c.self.invariant.ranked it
+    ∙ (list_any-map it ranked_of es ∙ ap (λ h. list_any (has_rank c.args.rank) h.table.entries) c.self.view_is))

@@ -16,13 +16,17 @@ returns-in-Some c =
     let k = c.args.asked.now in
     let q = outputs_to c.args.port in
     let found = c.in-Some.ensures in
-    let all = serials_once (is_at k) q es (once_identity k es c.self.invariant.sound.apart) ∙ ap (passing q) (sym found) in
-    more_of c.alone.result _ _ (λ v h. h ∙ (ap (λ b. if b then c.in-Some.entry.now.serial ∷ [] else []) c.outputs_to.ensures ∙ (sym all ∙ ap (λ o. serials_of (λ e. is_at k e && q e) o.table.entries) c.self.view_is))) c.alone.ensures
+    let all = serials_once (is_at k) q es (once_identity k es c.self.invariant.sound.apart)
+    ∙ ap (passing q) (sym found) in
+    more_of c.alone.result _ _ (λ v h. h
+    ∙ (ap (λ b. if b then c.in-Some.entry.now.serial ∷ [] else []) c.outputs_to.ensures
+    ∙ (sym all ∙ ap (λ o. serials_of (λ e. is_at k e && q e) o.table.entries) c.self.view_is))) c.alone.ensures
 
 pub returns-in-None : goal.returns-in-None
 returns-in-None c =
     let es = c.self.inside.order.entries in
     let k = c.args.asked.now in
     let q = outputs_to c.args.port in
-    let all = serials_once (is_at k) q es (once_identity k es c.self.invariant.sound.apart) ∙ ap (passing q) (sym c.in-None.ensures) in
+    let all = serials_once (is_at k) q es (once_identity k es c.self.invariant.sound.apart)
+    ∙ ap (passing q) (sym c.in-None.ensures) in
     c.new.ensures.items ∙ (sym all ∙ ap (λ o. serials_of (λ e. is_at k e && q e) o.table.entries) c.self.view_is)

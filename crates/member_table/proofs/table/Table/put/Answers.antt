@@ -23,7 +23,9 @@ exchange-requires-clause-new_id c =
     let items = c.self.inside.ranks.items in
     let s = c.args.entry.serial in
     ap (λ (r : Item). list_any (has_id r.id) items) c.item_of-item.ensures
-    ∙ (same_any items (map ranked_of es) c.self.invariant.ranked (has_id s) ∙ (list_any-map (has_id s) ranked_of es ∙ fresh_number s c.self.inside.next es next c.self.invariant.sound.given))
+    ∙ (same_any items (map ranked_of es) c.self.invariant.ranked (has_id s)
+    ∙ (list_any-map (has_id s) ranked_of es
+    ∙ fresh_number s c.self.inside.next es next c.self.invariant.sound.given))
 
 pub invariant_of-self : goal.invariant_of-self
 invariant_of-self c =
@@ -31,8 +33,13 @@ invariant_of-self c =
     let Blocked : Held → Type 0 = λ h. list_any (is_blocked c.args.entry) h.table.entries ≡ false in
     let More : Held → Type 0 = λ h. h.table.next + 2 < 2 ^ 64 in
     let Room : Held → Type 0 = λ h. 0 < h.room in
-    let E : Item → Type 0 = λ r. Exchanges c.put-replaced.result r c.self.inside.ranks.items c.exchange.new.self.items in
-    let O : Option Entry → Type 0 = λ o. Exchanges o (ranked_of c.args.entry) c.self.inside.ranks.items c.exchange.new.self.items in
-    kept_put c.args.entry c.self.inside.next c.self.inside.limit c.self.inside.room c.self.inside.order _ c.self.inside.ranks _ c.self.invariant next (subst More (sym c.self.view_is) c.requires.more) c.requires.written
-    (subst Blocked (sym c.self.view_is) c.requires.apart) (subst Room (sym c.self.view_is) c.requires.room) c.put-replaced.ensures.entries c.put-replaced.ensures.room
-    (subst O c.put-replaced.ensures.replaced (subst E c.item_of-item.ensures c.exchange.ensures.items)) c.exchange.ensures.room
+    let E : Item → Type 0 = λ r. Exchanges c.put-replaced.result r c.self.inside.ranks.items
+    c.exchange.new.self.items in
+    let O : Option Entry
+    → Type 0 = λ o. Exchanges o (ranked_of c.args.entry) c.self.inside.ranks.items c.exchange.new.self.items in
+    kept_put c.args.entry c.self.inside.next c.self.inside.limit c.self.inside.room c.self.inside.order _
+    c.self.inside.ranks _ c.self.invariant next (subst More (sym c.self.view_is) c.requires.more) c.requires.written
+    (subst Blocked (sym c.self.view_is) c.requires.apart) (subst Room (sym c.self.view_is) c.requires.room)
+    c.put-replaced.ensures.entries c.put-replaced.ensures.room
+    (subst O c.put-replaced.ensures.replaced (subst E c.item_of-item.ensures c.exchange.ensures.items))
+    c.exchange.ensures.room

@@ -12,7 +12,8 @@ returns-then-overlaps-clause-normal c =
 
 pub returns-then-overlaps-clause-commutes : goal.returns-then-overlaps-clause-commutes
 returns-then-overlaps-clause-commutes c =
-    meet_commutes _ c.args.self.now c.args.other.now (sym c.overlaps.ensures.value ∙ c.if-overlaps.true) c.both.ensures.commutes
+    meet_commutes _ c.args.self.now c.args.other.now (sym c.overlaps.ensures.value ∙ c.if-overlaps.true)
+    c.both.ensures.commutes
 
 pub returns-else-overlaps-clause-commutes : goal.returns-else-overlaps-clause-commutes
 returns-else-overlaps-clause-commutes c =

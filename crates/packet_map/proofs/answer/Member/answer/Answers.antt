@@ -8,12 +8,14 @@ pub returns-in-None-clause-answer : goal.returns-in-None-clause-answer
 returns-in-None-clause-answer c =
     let m = c.args.self.now in (
       sym c.is_inside.ensures ∙ c.if-not-is_inside.false,
-      best-of no_levels m.number m.grant.now.ports c.args.header.now m.table.now.table.entries ∙ ap (option_map (leaf_entry no_levels m.number m.grant.now.ports)) (sym c.in-None.ensures.best),
+      best-of no_levels m.number m.grant.now.ports c.args.header.now m.table.now.table.entries
+          ∙ ap (option_map (leaf_entry no_levels m.number m.grant.now.ports)) (sym c.in-None.ensures.best),
     )
 
 pub returns-in-Some-clause-answer : goal.returns-in-Some-clause-answer
 returns-in-Some-clause-answer c =
     let m = c.args.self.now in (
       sym c.is_inside.ensures ∙ c.if-not-is_inside.false,
-      best-of no_levels m.number m.grant.now.ports c.args.header.now m.table.now.table.entries ∙ ap (option_map (leaf_entry no_levels m.number m.grant.now.ports)) (sym c.in-Some.ensures.best),
+      best-of no_levels m.number m.grant.now.ports c.args.header.now m.table.now.table.entries
+          ∙ ap (option_map (leaf_entry no_levels m.number m.grant.now.ports)) (sym c.in-Some.ensures.best),
     )

@@ -8,5 +8,7 @@ use Rattle.policy_expr.proofs.expr.Expr.size.Goals as goal
 pub returns-clause-by_member : goal.returns-clause-by_member
 returns-clause-by_member c bits_of same =
     let p = policy_of c.args.self.now in
-    let whole : c.as_slice.result.now ≡ map bits_of (members_of p) ++ [] = c.as_slice.ensures ∙ same ∙ sym (append-nil _) in
-    c.size_and_rest.ensures.size ∙ ap (λ bits. capped (size_by_leaf bits p)) whole ∙ ap capped (size_by_leaf-map bits_of p [])
+    let whole : c.as_slice.result.now ≡ map bits_of (members_of p) ++ [] = c.as_slice.ensures ∙ same
+    ∙ sym (append-nil _) in
+    c.size_and_rest.ensures.size ∙ ap (λ bits. capped (size_by_leaf bits p)) whole
+    ∙ ap capped (size_by_leaf-map bits_of p [])

@@ -6,5 +6,7 @@ use Rattle.policy_lock.proofs.Splits.{starts}
 use Rattle.policy_lock.proofs.lock.PolicyLock.new.Goals as goal
 
 pub new-requires-2 : goal.new-requires-2
-new-requires-2 g c = let mg = g.M.Machine in let start = mg.meaning c.of-about.result.value in let items : c.push_reserved.new.self.items ≡ Some c.in_ok-locked.locked ∷ [] = search rules in
-    subst (λ l. Kept mg start (opening (0 ∷ []) l (first_view start))) (sym items) (starts mg start c.in_ok-locked.locked (search rules))
+new-requires-2 g c = let mg = g.M.Machine in let start = mg.meaning c.of-about.result.value in
+    let items : c.push_reserved.new.self.items ≡ Some c.in_ok-locked.locked ∷ [] = search rules in
+    subst (λ l. Kept mg start (opening (0 ∷ []) l (first_view start))) (sym items)
+    (starts mg start c.in_ok-locked.locked (search rules))

@@ -8,4 +8,5 @@ pub load-requires : goal.load-requires
 load-requires g c = (search rules, search rules, looks g.M.Machine _ _ _ _)
 
 pub split_seat-token-requires : goal.split_seat-token-requires
-split_seat-token-requires g c = (search rules, search rules, bears g.M.Machine _ _ _ (search rules) (nothing _ (search rules)))
+split_seat-token-requires g c =
+    (search rules, search rules, bears g.M.Machine _ _ _ (search rules) (nothing _ (search rules)))

@@ -16,12 +16,16 @@ loop-entry-preserved c =
       | then-holds w ↦
           elim w.match-best.branch [
             | in-Some v ↦
-                reads-higher items i e c.args.header.now lt c.entry-item.is before after c.loop-entry.invariant c.holds.result c.holds.ensures v.in-Some.other.now v.pick.result.now
-                w.if-holds.true (ap option_copied v.in-Some.is) v.pick.ensures (ap option_copied (w.best-is ∙ ap Some v.best-is))
+                reads-higher items i e c.args.header.now lt c.entry-item.is before after c.loop-entry.invariant
+                c.holds.result c.holds.ensures v.in-Some.other.now v.pick.result.now
+                w.if-holds.true (ap option_copied v.in-Some.is) v.pick.ensures
+                (ap option_copied (w.best-is ∙ ap Some v.best-is))
             | in-None v ↦
-                reads-first items i e c.args.header.now lt c.entry-item.is before after c.loop-entry.invariant c.holds.result c.holds.ensures
+                reads-first items i e c.args.header.now lt c.entry-item.is before after c.loop-entry.invariant
+                c.holds.result c.holds.ensures
                 w.if-holds.true (ap option_copied v.in-None.is) (ap option_copied (w.best-is ∙ ap Some v.best-is))
           ]
       | else-holds w ↦
-          reads-other items i e c.args.header.now lt c.entry-item.is before after c.loop-entry.invariant c.holds.result c.holds.ensures w.if-holds.false (ap option_copied w.best-is)
+          reads-other items i e c.args.header.now lt c.entry-item.is before after c.loop-entry.invariant c.holds.result
+          c.holds.ensures w.if-holds.false (ap option_copied w.best-is)
     ]

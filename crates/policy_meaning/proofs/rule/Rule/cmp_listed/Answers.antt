@@ -22,4 +22,5 @@ returns-in_default c =
     let b = c.args.other.now in
     let leaves : c.cmp-leaves.result ≡ slice_cmp leaf_cmp a.ancestry b.ancestry = search rules in
     let ports : c.cmp-ports.result ≡ option_cmp nat_cmp a.m.in_port b.m.in_port = search rules in
-    decided (slice_cmp leaf_cmp a.ancestry b.ancestry) (option_cmp nat_cmp a.m.in_port b.m.in_port) (by_bytes a.m b.m) c.then.result (rw (← leaves, ← ports) c.then.ensures) c.in_default.not-Equal
+    decided (slice_cmp leaf_cmp a.ancestry b.ancestry) (option_cmp nat_cmp a.m.in_port b.m.in_port) (by_bytes a.m b.m)
+    c.then.result (rw (← leaves, ← ports) c.then.ensures) c.in_default.not-Equal

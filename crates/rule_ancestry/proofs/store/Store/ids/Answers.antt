@@ -9,5 +9,6 @@ use Rattle.rule_ancestry.proofs.store.Store.ids.Goals as goal
 pub returns : goal.returns
 returns g c =
     let start : c.into_iter-id-iterator.result ≡ entries c.self.inside.slab = search rules in
-    sym (append-nil c.loop-id.ids.items) ∙ ap (λ z. c.loop-id.ids.items ++ map (λ e. e.0) z) (sym c.in-None.ensures.steps.0) ∙ c.loop-id.invariant
+    sym (append-nil c.loop-id.ids.items)
+    ∙ ap (λ z. c.loop-id.ids.items ++ map (λ e. e.0) z) (sym c.in-None.ensures.steps.0) ∙ c.loop-id.invariant
     ∙ ap (map (λ e. e.0)) start ∙ entry-ids 0 c.self.inside.slab.slots ∙ ap (map id_of) c.self.view_is

@@ -7,4 +7,5 @@ use Rattle.rule_ancestry.specs.Names.{names_at}
 use Rattle.rule_ancestry.proofs.store.Store.new.Goals as goal
 
 pub invariant_of-result : goal.invariant_of-result
-invariant_of-result g c q = ap (λ ks. list_any (is_at (by_link g.R.Name.Ord.cmp q)) ks) c.new-2.ensures.empty ∙ sym (ap (λ s. names_at g.R.Name.Ord.cmp g.R.Filed.borne (at s q.id) q.name) c.new.ensures.empty)
+invariant_of-result g c q = ap (λ ks. list_any (is_at (by_link g.R.Name.Ord.cmp q)) ks) c.new-2.ensures.empty
+    ∙ sym (ap (λ s. names_at g.R.Name.Ord.cmp g.R.Filed.borne (at s q.id) q.name) c.new.ensures.empty)

@@ -10,11 +10,18 @@ index-requires g c = there-now c.args.self.now c.self.inside.slab.slots c.self.v
 
 pub invariant_of-self-2 : goal.invariant_of-self-2
 invariant_of-self-2 g c =
-    renamed-links g.R.Name.Ord.cmp g.R.Filed.borne c.self.inside.slab.slots c.exchange.new.slab.slots c.self.inside.links c.attach.new.links c.exchange.new.links c.args.id c.exchange.result c.args.item c.self.invariant c.exchange.ensures.was c.exchange.ensures.item
-    (λ q. c.in_ok-attach.ensures.linked q ∙ ap (λ ls. links_to g.R.Name.Ord.cmp ls c.args.id q || contains (by_link g.R.Name.Ord.cmp) c.self.inside.links q) c.names.ensures) c.exchange.ensures.links
+    renamed-links g.R.Name.Ord.cmp g.R.Filed.borne c.self.inside.slab.slots c.exchange.new.slab.slots
+    c.self.inside.links c.attach.new.links c.exchange.new.links c.args.id c.exchange.result c.args.item
+    c.self.invariant c.exchange.ensures.was c.exchange.ensures.item
+    (λ q. c.in_ok-attach.ensures.linked q
+    ∙ ap (λ ls. links_to g.R.Name.Ord.cmp ls c.args.id q || contains (by_link g.R.Name.Ord.cmp) c.self.inside.links
+    q) c.names.ensures) c.exchange.ensures.links
 
 pub returns-clause-was : goal.returns-clause-was
-returns-clause-was g c = sym (got c.args.self.now c.self.inside.slab.slots c.self.view_is c.args.id (Some c.exchange.result) (sym c.exchange.ensures.was))
+returns-clause-was g c =
+    sym (got c.args.self.now c.self.inside.slab.slots c.self.view_is c.args.id (Some c.exchange.result)
+    (sym c.exchange.ensures.was))
 
 pub returns-clause-renamed : goal.returns-clause-renamed
-returns-clause-renamed g c = renamed-now c.args.self.now c.self.inside.slab.slots c.self.view_is c.exchange.new.slab.slots c.args.id c.exchange.result c.args.item c.exchange.ensures.was c.exchange.ensures.item
+returns-clause-renamed g c = renamed-now c.args.self.now c.self.inside.slab.slots c.self.view_is
+    c.exchange.new.slab.slots c.args.id c.exchange.result c.args.item c.exchange.ensures.was c.exchange.ensures.item

@@ -7,4 +7,6 @@ use Rattle.rule_ancestry.specs.InsideLinks.{by_link}
 use Rattle.rule_ancestry.proofs.store.StoreDuplicate.copy.Given as goal
 
 abbrev pub invariant-loop-link : goal.invariant-loop-link
-invariant-loop-link g l = (q : Link _) → (contains (by_link g.R.Name.Ord.cmp) l.links q || list_any (is_at (by_link g.R.Name.Ord.cmp q)) l.link-iterator) ≡ list_any (is_at (by_link g.R.Name.Ord.cmp q)) l.initial.link-iterator
+invariant-loop-link g l = (q : Link _)
+    → (contains (by_link g.R.Name.Ord.cmp) l.links q || list_any (is_at (by_link g.R.Name.Ord.cmp q)) l.link-iterator)
+    ≡ list_any (is_at (by_link g.R.Name.Ord.cmp q)) l.initial.link-iterator

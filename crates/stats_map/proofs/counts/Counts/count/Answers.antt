@@ -12,5 +12,7 @@ returns-in-None c =
     let none = sym c.in-None.ensures.value in
     let live = c.self.inside.live.entries in
     let sums = c.self.inside.sums.entries in
-    subst (λ (z : HeldOf). ◌≡◌ {A = ℕ × ℕ} (0, 0) ((count (told z) c.args.leaf.now).packets, (count (told z) c.args.leaf.now).bytes)) c.self.view_is
-    (both (none-packets live sums c.args.leaf.now c.self.invariant none) (none-bytes live sums c.args.leaf.now c.self.invariant none))
+    subst (λ (z : HeldOf). ◌≡◌ {A = ℕ × ℕ} (0, 0)
+    ((count (told z) c.args.leaf.now).packets, (count (told z) c.args.leaf.now).bytes)) c.self.view_is
+    (both (none-packets live sums c.args.leaf.now c.self.invariant none)
+    (none-bytes live sums c.args.leaf.now c.self.invariant none))

@@ -7,4 +7,5 @@ use Rattle.stats_map.proofs.counts.Counts.is_named.Goals as goal
 pub returns-in-Some : goal.returns-in-Some
 returns-in-Some c =
     subst (λ (z : HeldOf). nat_lt 0 c.in-Some.sum.now.live ≡ is_named (told z) c.args.leaf.now) c.self.view_is
-    (named-some c.self.inside.live.entries c.self.inside.sums.entries c.args.leaf.now c.self.invariant c.in-Some.sum.now (sym c.in-Some.ensures.value))
+    (named-some c.self.inside.live.entries c.self.inside.sums.entries c.args.leaf.now c.self.invariant c.in-Some.sum.now
+    (sym c.in-Some.ensures.value))

@@ -15,4 +15,5 @@ returns-then-last-clause-counts c =
     let s2 = seen c.end_at.new.live.entries c.end_at.new.sums.entries in
     let found = sym c.if-not-renumber_at.false ∙ c.renumber_at.ensures.found in
     subst (λ (z : HeldOf). s2 ≡ reported place n c.args.last (told z)) c.self.view_is
-    (subst (λ (b : Bool). s2 ≡ reported place n b s) (sym c.if-last.true) (report-last place n s s1 c.renumber_at.ensures.numbers s2 found c.end_at.ensures.ended))
+    (subst (λ (b : Bool). s2 ≡ reported place n b s) (sym c.if-last.true)
+    (report-last place n s s1 c.renumber_at.ensures.numbers s2 found c.end_at.ensures.ended))

@@ -17,7 +17,8 @@ loop-place-init c =
       c.draw_switch.ensures.laid,
       refl,
       subst (λ (h : HeldOf). AreLeft c.args.switch xs (told (now_of o)) (told h)) c.draw_switch.ensures.same
-          (left-all c.args.switch o xs (c.deref-place-items.ensures.value ∙ c.in_ok-places.ensures) c.len-slots.ensures.ordered c.in_ok-draw_switch.ensures.drawn),
+          (left-all c.args.switch o xs (c.deref-place-items.ensures.value ∙ c.in_ok-places.ensures)
+          c.len-slots.ensures.ordered c.in_ok-draw_switch.ensures.drawn),
     )
 
 pub end_drawn-requires-clause-drawn : goal.end_drawn-requires-clause-drawn
@@ -28,7 +29,8 @@ end_drawn-requires-clause-drawn c =
     let x = get_or xs i none in
     let slots = c.draw_switch.new.self.live.entries in
     same-there (at x) slots c.loop-place.self.live.entries c.loop-place.invariant.2
-    ∙ listed-has c.args.switch slots xs (c.deref-place-items.ensures.value ∙ c.in_ok-places.ensures) x (listed-at xs i x c.loop-place-test.true (get_or_default xs i none x c.loop-place-test.true))
+    ∙ listed-has c.args.switch slots xs (c.deref-place-items.ensures.value ∙ c.in_ok-places.ensures) x
+    (listed-at xs i x c.loop-place-test.true (get_or_default xs i none x c.loop-place-test.true))
 
 pub loop-place-preserved : goal.loop-place-preserved
 loop-place-preserved c =
@@ -38,13 +40,17 @@ loop-place-preserved c =
     let x = get_or xs i none in
     let o = c.loop-place.self in
     let start = told (now_of c.args.self.now) in
-    let own = listed-own c.args.switch c.draw_switch.new.self.live.entries xs (c.deref-place-items.ensures.value ∙ c.in_ok-places.ensures) x (listed-at xs i x c.loop-place-test.true (get_or_default xs i none x c.loop-place-test.true)) in
+    let own = listed-own c.args.switch c.draw_switch.new.self.live.entries xs
+    (c.deref-place-items.ensures.value ∙ c.in_ok-places.ensures) x
+    (listed-at xs i x c.loop-place-test.true (get_or_default xs i none x c.loop-place-test.true)) in
     let rise = rise-laid place_total o.live.entries o.base.now.live c.loop-place.invariant.1.ordered.places in
-    let left = subst (λ (ys : List Place). AreLeft c.args.switch ys (told (now_of o)) start) (drop_more xs i none c.loop-place-test.true) c.loop-place.invariant.3 in (
+    let left = subst (λ (ys : List Place). AreLeft c.args.switch ys (told (now_of o)) start)
+    (drop_more xs i none c.loop-place-test.true) c.loop-place.invariant.3 in (
       c.end_drawn.ensures.base ∙ c.loop-place.invariant.0,
       c.end_drawn.ensures.laid,
       c.end_drawn.ensures.keys ∙ c.loop-place.invariant.2,
-      left-next c.args.switch x (drop (i + 1) xs) (told (now_of o)) (told (now_of c.end_drawn.new.self)) start rise own c.end_drawn.ensures.ended left,
+      left-next c.args.switch x (drop (i + 1) xs) (told (now_of o)) (told (now_of c.end_drawn.new.self)) start rise own
+          c.end_drawn.ensures.ended left,
     )
 
 pub returns-clause-ended : goal.returns-clause-ended
@@ -52,4 +58,6 @@ returns-clause-ended c =
     let s = told (now_of c.loop-place.self) in
     let start = told (now_of c.args.self.now) in
     left-none c.args.switch s start
-    (subst (λ (ys : List Place). AreLeft c.args.switch ys s start) (drop_all c.loop-place.place-index c.deref-place-items.result.now c.loop-place-test.false) c.loop-place.invariant.3)
+    (subst (λ (ys : List Place). AreLeft c.args.switch ys s start)
+    (drop_all c.loop-place.place-index c.deref-place-items.result.now c.loop-place-test.false)
+    c.loop-place.invariant.3)

@@ -15,15 +15,22 @@ pub returns-in-Some : goal.returns-in-Some
 returns-in-Some c =
     let o = c.self.inside.over in
     let leaf = c.args.leaf.now in
-    let found = sum-found o.base.now c.self.invariant.ordered.leaves o.sums.entries c.sums.result.now.entries leaf (Some c.in-Some.sum.now) c.sums.ensures.entries c.in-Some.ensures in
-    subst (λ (z : PendingOf). ◌≡◌ {A = ℕ × ℕ} c.count.result ((count (told z.now) leaf).packets, (count (told z.now) leaf).bytes)) c.self.view_is
-    (both (c.count.ensures.packets ∙ count-packets (now_of o).live (now_of o).sums leaf c.self.invariant.summed c.in-Some.sum.now found)
-    (c.count.ensures.bytes ∙ count-bytes (now_of o).live (now_of o).sums leaf c.self.invariant.summed c.in-Some.sum.now found))
+    let found = sum-found o.base.now c.self.invariant.ordered.leaves o.sums.entries c.sums.result.now.entries leaf
+    (Some c.in-Some.sum.now) c.sums.ensures.entries c.in-Some.ensures in
+    subst (λ (z : PendingOf). ◌≡◌ {A = ℕ × ℕ} c.count.result
+    ((count (told z.now) leaf).packets, (count (told z.now) leaf).bytes)) c.self.view_is
+    (both (c.count.ensures.packets ∙ count-packets (now_of o).live (now_of o).sums leaf c.self.invariant.summed
+    c.in-Some.sum.now found)
+    (c.count.ensures.bytes ∙ count-bytes (now_of o).live (now_of o).sums leaf c.self.invariant.summed c.in-Some.sum.now
+    found))
 
 pub returns-in-None : goal.returns-in-None
 returns-in-None c =
     let o = c.self.inside.over in
     let leaf = c.args.leaf.now in
-    let found = sum-found o.base.now c.self.invariant.ordered.leaves o.sums.entries c.sums.result.now.entries leaf None c.sums.ensures.entries c.in-None.ensures in
-    subst (λ (z : PendingOf). ◌≡◌ {A = ℕ × ℕ} (0, 0) ((count (told z.now) leaf).packets, (count (told z.now) leaf).bytes)) c.self.view_is
-    (both (none-packets (now_of o).live (now_of o).sums leaf c.self.invariant.summed found) (none-bytes (now_of o).live (now_of o).sums leaf c.self.invariant.summed found))
+    let found = sum-found o.base.now c.self.invariant.ordered.leaves o.sums.entries c.sums.result.now.entries leaf None
+    c.sums.ensures.entries c.in-None.ensures in
+    subst (λ (z : PendingOf). ◌≡◌ {A = ℕ × ℕ} (0, 0)
+    ((count (told z.now) leaf).packets, (count (told z.now) leaf).bytes)) c.self.view_is
+    (both (none-packets (now_of o).live (now_of o).sums leaf c.self.invariant.summed found)
+    (none-bytes (now_of o).live (now_of o).sums leaf c.self.invariant.summed found))

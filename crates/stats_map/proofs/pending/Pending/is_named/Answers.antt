@@ -12,7 +12,8 @@ pub returns-in-Some : goal.returns-in-Some
 returns-in-Some c =
     let o = c.self.inside.over in
     let leaf = c.args.leaf.now in
-    let found = sum-found o.base.now c.self.invariant.ordered.leaves o.sums.entries c.sums.result.now.entries leaf (Some c.in-Some.sum.now) c.sums.ensures.entries c.in-Some.ensures in
+    let found = sum-found o.base.now c.self.invariant.ordered.leaves o.sums.entries c.sums.result.now.entries leaf
+    (Some c.in-Some.sum.now) c.sums.ensures.entries c.in-Some.ensures in
     subst (λ (z : PendingOf). nat_lt 0 c.in-Some.sum.now.live ≡ is_named (told z.now) leaf) c.self.view_is
     (named-some (now_of o).live (now_of o).sums leaf c.self.invariant.summed c.in-Some.sum.now found)
 
@@ -20,5 +21,7 @@ pub returns-in-None : goal.returns-in-None
 returns-in-None c =
     let o = c.self.inside.over in
     let leaf = c.args.leaf.now in
-    let found = sum-found o.base.now c.self.invariant.ordered.leaves o.sums.entries c.sums.result.now.entries leaf None c.sums.ensures.entries c.in-None.ensures in
-    subst (λ (z : PendingOf). false ≡ is_named (told z.now) leaf) c.self.view_is (sym (named-none (now_of o).live (now_of o).sums leaf c.self.invariant.summed found))
+    let found = sum-found o.base.now c.self.invariant.ordered.leaves o.sums.entries c.sums.result.now.entries leaf None
+    c.sums.ensures.entries c.in-None.ensures in
+    subst (λ (z : PendingOf). false ≡ is_named (told z.now) leaf) c.self.view_is
+    (sym (named-none (now_of o).live (now_of o).sums leaf c.self.invariant.summed found))

@@ -13,5 +13,8 @@ decreases-take_up l = 2 * l.turns
 abbrev pub invariant-take_up-loop-out : goal.invariant-take_up-loop-out
 invariant-take_up-loop-out l =
     (way : List ℕ) →
-    both_seen l.seen (all_go l.self.wiring (follow l.self.wiring (chosen l.self.tables l.self.reading) (l.turns - 1)) way l.switch l.out-index (drop l.out-index l.out-items))
-    ≡ both_seen l.initial.seen (all_go l.self.wiring (follow l.self.wiring (chosen l.self.tables l.self.reading) (l.turns - 1)) way l.switch 0 l.out-items)
+    both_seen l.seen (all_go l.self.wiring (follow l.self.wiring (chosen l.self.tables l.self.reading) (l.turns - 1))
+    way l.switch l.out-index (drop l.out-index l.out-items))
+    ≡ both_seen l.initial.seen
+    (all_go l.self.wiring (follow l.self.wiring (chosen l.self.tables l.self.reading) (l.turns - 1)) way l.switch 0
+    l.out-items)

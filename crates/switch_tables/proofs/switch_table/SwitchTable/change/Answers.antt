@@ -10,4 +10,5 @@ returns-in-Ok-clause-turned c =
     let d = c.in_ok-delta.ensures in
     subst (λ (z : SwitchTableOf). IsTurned c.args.gone.now c.args.come.now c.args.next z y c.in-Ok.batch) c.self.view_is
     (turned c.args.gone.now c.args.come.now c.args.next x y c.in_ok-delta.delta c.in-Ok.batch
-    d.after d.before d.gone d.come d.gone_once d.come_once c.are_in_range.ensures c.in-Ok.ensures.entries c.in-Ok.ensures.batch c.in-Ok.ensures.before)
+    d.after d.before d.gone d.come d.gone_once d.come_once c.are_in_range.ensures c.in-Ok.ensures.entries
+    c.in-Ok.ensures.batch c.in-Ok.ensures.before)

@@ -6,4 +6,5 @@ use Rattle.virtual_topology.proofs.topology.Topology.entering.Goals as goal
 
 pub returns : goal.returns
 returns c =
-    c.get.ensures ∙ (ap (lookup (same_spot (c.args.switch, c.args.port))) c.self.invariant.entering_is ∙ ap (λ plan. entering_of plan c.args.switch c.args.port) c.self.view_is)
+    c.get.ensures ∙ (ap (lookup (same_spot (c.args.switch, c.args.port))) c.self.invariant.entering_is
+    ∙ ap (λ plan. entering_of plan c.args.switch c.args.port) c.self.view_is)

@@ -6,4 +6,5 @@ use Rattle.virtual_topology.proofs.topology.Topology.peer.Goals as goal
 
 pub returns : goal.returns
 returns c =
-    c.get.ensures ∙ (ap (lookup (same_spot (c.args.v, c.args.port))) c.self.invariant.peers_is ∙ ap (λ plan. peer_of plan c.args.v c.args.port) c.self.view_is)
+    c.get.ensures ∙ (ap (lookup (same_spot (c.args.v, c.args.port))) c.self.invariant.peers_is
+    ∙ ap (λ plan. peer_of plan c.args.v c.args.port) c.self.view_is)

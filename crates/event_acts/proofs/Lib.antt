@@ -1,0 +1,17 @@
+pub mod Replaced
+pub mod Bodies
+pub mod Changes
+pub mod Folds
+pub mod Exchanged
+pub mod Frames
+pub mod PacketOuts
+pub mod Served
+pub mod MemberBodies
+pub mod Doubting
+pub mod Rising
+pub mod Replies
+pub mod Sendable
+pub mod SentStays
+pub mod Acted
+pub mod WasJudged
+pub mod FaultKinds

@@ -1,0 +1,13 @@
+use Rattle.std.proofs.Common.{◌≡◌, drop}
+use Rattle.std.specs.Prelude.{fold}
+use Rattle.machine_drafts.specs.Outcomes.{bases, draft_in}
+use Rattle.machine_meaning.specs.Rounds.{close_member}
+use Rattle.event_acts.proofs.rounds.close_members.Given as goal
+
+-- those that are left, closed, give what all give
+abbrev pub invariant-loop-n : goal.invariant-loop-n
+invariant-loop-n l = record {
+  drafted : fold close_member (draft_in l.draft) (drop l.n-index l.members)
+      ≡ fold close_member (draft_in l.fn.draft) l.members;
+  based : bases l.draft ≡ bases l.fn.draft;
+}

@@ -1,0 +1,11 @@
+pub mod Addressing
+pub mod Requesting
+pub mod PortsStill
+pub mod PortsTold
+pub mod BySerial
+pub mod Deciding
+pub mod Based
+pub mod Puts
+pub mod Lines
+pub mod Absorbed
+pub mod LostEntries

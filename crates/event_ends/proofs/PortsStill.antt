@@ -1,0 +1,80 @@
+-- Where switches are still, members are told of no port.
+use Rattle.std.proofs.Common.{◌≡◌, ℕ, zero, suc, Bool, true, false, ◌||◌, not, List, [], ◌∷◌, Option, None, Some}
+use Rattle.std.proofs.Common.{refl, sym, ap, ap₂, subst}
+use Rattle.std.specs.Prelude.{flat_map, if◌then◌else◌}
+use Rattle.std.specs.List.{AllByRecursion}
+use Rattle.std.specs.Option.{option_map_or}
+use Rattle.policy_file.specs.Policies.{PolicyOf, plan}
+use Rattle.policy_file.specs.declared.policy.MemberItem.{MemberItem}
+use Rattle.switch_state.specs.Known.{KnownOf, is_dark}
+use Rattle.virtual_topology.specs.Rows.{Spot}
+use Rattle.virtual_topology.specs.Wires.{outside_of}
+use Rattle.virtual_topology.specs.declared.plan.TopologyPlan.{TopologyPlan}
+use Rattle.machine_drafts.specs.InsideSessions.{is_member_up}
+use Rattle.machine_drafts.specs.InsideSwitches.{is_dark_among, is_dark_over}
+use Rattle.event_ends.specs.InsideTelling.{has_turned, letters_on, lies_over, member_letters, port_letter}
+use Rattle.event_ends.specs.InsideTelling.{switches_before, turn_letters}
+use Rattle.machine_meaning.proofs.Numbered.{flat_none}
+use Rattle.machine_meaning.specs.Lists.{places}
+use Rattle.machine_meaning.specs.Names.{virtual_of}
+use Rattle.machine_drafts.specs.Outcomes.{switches_in}
+use Rattle.machine_meaning.specs.States.{MemberOf}
+use Rattle.machine_drafts.specs.SwitchDrafts.{IsStill, SwitchDraftOf}
+use Rattle.machine_meaning.specs.Telling.{differ}
+
+differ_same : (b : Bool) → differ b b ≡ false
+differ_same true = refl
+differ_same false = refl
+
+-- physical ports are as dark as they were
+spot_still : (xs : List SwitchDraftOf) → AllByRecursion IsStill xs → (n q : ℕ)
+    → is_dark_among (switches_before xs) (n, q) ≡ is_dark_among (switches_in xs) (n, q)
+spot_still [] h n q = refl
+spot_still (x ∷ xs) h zero q =
+    ap₂ (λ (up : Bool) (known : KnownOf). not up || is_dark known q) (sym h.0.up) (sym h.0.known)
+spot_still (x ∷ xs) h (suc n) q = spot_still xs h.1 n q
+
+module _ (t : TopologyPlan) (xs : List SwitchDraftOf) (h : AllByRecursion IsStill xs) where
+  port_still : (o : Option Spot) → option_map_or (is_dark_among (switches_before xs)) o false
+      ≡ option_map_or (is_dark_among (switches_in xs)) o false
+  port_still None = refl
+  port_still (Some spot) = spot_still xs h spot.0 spot.1
+
+  -- no outside port turned
+  none_turned : (v port : ℕ) → has_turned t (switches_before xs) (switches_in xs) v port ≡ false
+  none_turned v port =
+      subst (λ (b : Bool). differ b (is_dark_over t (switches_in xs) v port) ≡ false)
+      (sym (port_still (outside_of t v port))) (differ_same (is_dark_over t (switches_in xs) v port))
+
+  no_letter : (n v port : ℕ) → turn_letters t (switches_before xs) (switches_in xs) n v port ≡ []
+  no_letter n v port =
+      ap (λ (b : Bool). if b then port_letter t (switches_in xs) n v port ∷ [] else []) (none_turned v port)
+
+  none_on : (n v : ℕ) (ports : List ℕ) (k : ℕ)
+      → letters_on t (switches_before xs) (switches_in xs) n v ports k ≡ []
+  none_on n v ports k =
+      flat_none
+      (λ port. if lies_over t v k port then turn_letters t (switches_before xs) (switches_in xs) n v port else [])
+      (λ port. by port (lies_over t v k port)) ports
+    where
+      by : (port : ℕ) (b : Bool)
+          → (if b then turn_letters t (switches_before xs) (switches_in xs) n v port else []) ≡ []
+      by port true = no_letter n v port
+      by port false = refl
+
+-- no member is told of one
+module _ (p : PolicyOf) (members : List MemberOf) (xs : List SwitchDraftOf) (h : AllByRecursion IsStill xs) where
+  none_to : (x : ℕ × MemberItem) → member_letters p members (switches_before xs) (switches_in xs) x ≡ []
+  none_to (n, m) = by (is_member_up members n)
+    where
+      by : (b : Bool)
+          → (if b then flat_map (letters_on (plan p) (switches_before xs) (switches_in xs) n (virtual_of m)
+          m.grant.ports.outside) (places p.switches) else []) ≡ []
+      by true =
+          flat_none (letters_on (plan p) (switches_before xs) (switches_in xs) n (virtual_of m) m.grant.ports.outside)
+          (λ k. none_on (plan p) xs h n (virtual_of m) m.grant.ports.outside k) (places p.switches)
+      by false = refl
+
+  pub none_told : (ms : List (ℕ × MemberItem))
+      → flat_map (member_letters p members (switches_before xs) (switches_in xs)) ms ≡ []
+  none_told ms = flat_none (member_letters p members (switches_before xs) (switches_in xs)) none_to ms

@@ -1,6 +1,0 @@
-use Rattle.std.proofs.Common.{take}
-use Rattle.machine_drafts.specs.Serials.{StandingHaveSerials}
-use Rattle.hyper_core.proofs.keeping.have_serials.Given as goal
-
-abbrev pub invariant-loop-member : goal.invariant-loop-member
-invariant-loop-member l = StandingHaveSerials (take l.member-index l.member-items)

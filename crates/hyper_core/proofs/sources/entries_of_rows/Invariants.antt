@@ -1,6 +1,0 @@
-use Rattle.std.proofs.Common.{◌≡◌, map}
-use Rattle.install_plan.specs.Tables.{entry_of}
-use Rattle.hyper_core.proofs.sources.entries_of_rows.Given as goal
-
-abbrev pub invariant-loop-written : goal.invariant-loop-written
-invariant-loop-written l = l.entries ≡ map entry_of l.yielded
