@@ -28,7 +28,7 @@ pub struct PolicyLock<M: Machine> {
         Law<M>,
         Global,
     >,
-    /// 1 where a seat may sleep that no one wakes yet.
+    /// How many seats sleep until the machine is given back.
     pub(crate) asleep: AtomicU64,
 }
 

@@ -88,17 +88,12 @@ impl<M: Machine> PolicyLock<M> {
                 let found = shared.compare_exchange::<Take>(token, 0, word, word + 1);
                 if found == word {
                     let locked = shared.exchange(token, 0, None).unwrap();
-                    if tries > YIELDS {
-                        // Beside this seat, which was woken, others may sleep.
-                        self.asleep.store(1, Ordering::SeqCst);
-                    }
                     return (word, locked);
                 }
             } else if tries < YIELDS {
                 tries += 1;
                 thread::yield_now();
             } else {
-                tries = YIELDS + 1;
                 self.sleep(rt, word);
             }
         }
@@ -109,14 +104,16 @@ impl<M: Machine> PolicyLock<M> {
     fn sleep<R: Wait>(&self, rt: &R, word: u64) {
         // What a sleep compares is the low half of the word.
         let low = (word % (1 << 32)) as u32;
-        self.asleep.store(1, Ordering::SeqCst);
+        self.asleep.fetch_add(1, Ordering::SeqCst);
         self.table.shared.park(rt, 0, low);
+        self.asleep.fetch_sub(1, Ordering::SeqCst);
     }
 
-    // Wakes a seat, if one may sleep. The word was changed before, so none falls asleep unseen. Until that seat has had
-    // its turn no further one is woken: those that are awake need no call of the system meanwhile.
+    // Wakes a seat that sleeps. A seat counts itself before it compares the word, and the word was changed before this
+    // looks at the count, so none falls asleep unseen. It stays counted until it is awake: the word of a machine that was
+    // taken, given back and taken again is the old one, on which a seat may still fall asleep after a wake found no one.
     fn wake(&self) {
-        if self.asleep.load(Ordering::SeqCst) > 0 && self.asleep.swap(0, Ordering::SeqCst) > 0 {
+        if self.asleep.load(Ordering::SeqCst) > 0 {
             self.table.shared.wake_one(0);
         }
     }
