@@ -19,7 +19,7 @@ mod row;
 mod wires;
 
 use cv_io::{Bytes, Memory};
-use row::{Row, play};
+use row::{Played, Row, play};
 use std::io::{self, ErrorKind};
 use std::sync::Wait;
 use std::thread::Threads;
@@ -43,15 +43,8 @@ fn show_wire(rt: &HostRuntime, party: Party, written: &Bytes) -> io::Result<()> 
     }
 }
 
-/// Runs the program and prints what it writes, and its status.
-fn show<R: Wait + Threads + Sync>(
-    host: &HostRuntime,
-    rt: &R,
-    row: &Row,
-    words: &str,
-) -> io::Result<()> {
-    println!(host; "$ covisor{words}")?;
-    let played = play(rt, host.alloc(), row, words).map_err(wanted)?;
+/// Prints what a run wrote, and its status.
+fn tell(host: &HostRuntime, row: &Row, played: &Played) -> io::Result<()> {
     print!(host;
         "{}",
         str::from_utf8(played.out.as_slice()).unwrap_or("(not text)\n")
@@ -65,22 +58,43 @@ fn show<R: Wait + Threads + Sync>(
     Ok(())
 }
 
+/// Runs the program and prints what it writes, and its status.
+fn show<R: Wait + Threads + Sync>(
+    host: &HostRuntime,
+    rt: &R,
+    row: &Row,
+    words: &str,
+) -> io::Result<()> {
+    println!(host; "$ covisor{words}")?;
+    let played = play(rt, host.alloc(), row, words).map_err(wanted)?;
+    tell(host, row, &played)
+}
+
+/// Does what a line of standard input says.
+fn take_line<R: Wait + Threads + Sync>(
+    host: &HostRuntime,
+    rt: &R,
+    row: &mut Row,
+    line: &str,
+) -> io::Result<()> {
+    if line.starts_with("== ") {
+        println!(host; "{line}")?;
+        row.begin();
+    } else if let Some(words) = line.strip_prefix("$ covisor") {
+        show(host, rt, row, words)?;
+        row.pause();
+    } else if let Some(mark) = line.strip_prefix("-- ") {
+        row.mark(host.alloc(), mark).map_err(wanted)?;
+    } else {
+        row.line(host.alloc(), line).map_err(wanted)?;
+    }
+    Ok(())
+}
+
 fn main(rt: HostRuntime) -> io::Result<()> {
     let mut row = Row::new(rt.alloc());
     for line in rt.lines(rt.alloc()) {
-        let line = line?;
-        let line = line.as_str();
-        if line.starts_with("== ") {
-            println!(rt; "{line}")?;
-            row.begin();
-        } else if let Some(words) = line.strip_prefix("$ covisor") {
-            show(&rt, &rt, &row, words)?;
-            row.pause();
-        } else if let Some(mark) = line.strip_prefix("-- ") {
-            row.mark(rt.alloc(), mark).map_err(wanted)?;
-        } else {
-            row.line(rt.alloc(), line).map_err(wanted)?;
-        }
+        take_line(&rt, &rt, &mut row, line?.as_str())?;
     }
     Ok(())
 }

@@ -223,36 +223,91 @@ fn play_counted<R: Wait + Threads + Sync, G: Ledger>(
 ) -> Result<Played, Memory>
     requires { (blank.name ≡ G.name) × (blank.parts ≡ G.parts) × (0 < blank.parts) }
 {
-    let mut files = row.files(alloc)?;
-    let mut input = MemSource::new(row.script.copied()?, first_if(alloc, row.fails.script)?);
-    let mut out = MemSink::new(Bytes::new(alloc), first_if(alloc, row.fails.write)?);
+    let written = sheets(alloc, row)?;
+    let mut ends = Ends::of(alloc, row)?;
+    let mut steps = Steps::<G>::new(blank);
+    let status = run_between(
+        rt,
+        alloc,
+        row,
+        words,
+        &mut ends,
+        written.as_slice(),
+        &mut steps,
+    );
+    let out = ends.into_output();
+    let wires = copies(rt, alloc, written.as_slice())?;
+    Ok(Played { out, status, wires })
+}
+
+/// Runs the program between these ends, over the connections of a row.
+fn run_between<R: Wait + Threads + Sync, G: Ledger>(
+    rt: &R,
+    alloc: Global,
+    row: &Row,
+    words: &[String],
+    ends: &mut Ends,
+    written: &[Written],
+    steps: &mut Steps<G>,
+) -> u8 {
+    let mut links = RowLinks::new(rt, row.wires.as_slice(), written, row.fails.dial);
+    let mut spawner = RowSpawner::new(row.fails.spawn);
+    let mut clock = MemClock::new(List::new(alloc));
+    run(
+        rt,
+        alloc,
+        words,
+        &mut ends.files,
+        &mut ends.input,
+        &mut ends.out,
+        &mut links,
+        &mut spawner,
+        &mut clock,
+        steps,
+    )
+}
+
+/// The files, the script and the output of a run.
+#[derive(Drop)]
+struct Ends {
+    files: MemFiles,
+    input: MemSource,
+    out: MemSink,
+}
+
+impl Ends {
+    fn of(alloc: Global, row: &Row) -> Result<Ends, Memory> {
+        let script = first_if(alloc, row.fails.script)?;
+        let write = first_if(alloc, row.fails.write)?;
+        let input = MemSource::new(row.script.copied()?, script);
+        let out = MemSink::new(Bytes::new(alloc), write);
+        Ok(Ends {
+            files: row.files(alloc)?,
+            input,
+            out,
+        })
+    }
+
+    fn into_output(self) -> Bytes {
+        let Ends { out, .. } = self;
+        out.held
+    }
+}
+
+/// Nothing was written to the connections of a row yet.
+fn sheets(alloc: Global, row: &Row) -> Result<Vec<Written>, Memory> {
     let mut written = Vec::new(alloc);
     for _ in row.wires.as_slice() {
         written.push(Written::new(Bytes::new(alloc)))?;
     }
-    let mut links = RowLinks::new(rt, row.wires.as_slice(), written.as_slice(), row.fails.dial);
-    let mut spawner = RowSpawner::new(row.fails.spawn);
-    let mut clock = MemClock::new(List::new(alloc));
-    let mut steps = Steps::<G>::new(blank);
-    let status = run(
-        rt,
-        alloc,
-        words,
-        &mut files,
-        &mut input,
-        &mut out,
-        &mut links,
-        &mut spawner,
-        &mut clock,
-        &mut steps,
-    );
+    Ok(written)
+}
+
+/// What was written to each connection.
+fn copies<R: Wait>(rt: &R, alloc: Global, written: &[Written]) -> Result<List<Bytes>, Memory> {
     let mut wires = List::new(alloc);
-    for wire in written.as_slice() {
+    for wire in written {
         wires.push(wire.copy(rt)?)?;
     }
-    Ok(Played {
-        out: out.held,
-        status,
-        wires,
-    })
+    Ok(wires)
 }
