@@ -1,5 +1,5 @@
 //! The endpoints of a policy.
-use cv_io::{Endpoint, List};
+use cv_io::{Endpoint, List, Memory};
 use endpoint_works::Side;
 use policy_file::read;
 use policy_serving::places;
@@ -77,15 +77,38 @@ fn ends(dpids: &List<u64>, at: usize) -> u64 {
     }
 }
 
+/// The places of the policy; none where it isn't read.
+fn found(alloc: Global) -> Result<List<Place>, Memory> {
+    let Ok(policy) = read(alloc, POLICY.as_bytes()) else {
+        return Ok(List::new(alloc));
+    };
+    let found = places(alloc, &policy);
+    drop(policy);
+    found
+}
+
+fn all_shown(alloc: Global, places: &[Place]) -> Result<Vec<String>, Fail> {
+    let mut lines = Vec::new(alloc);
+    for place in places {
+        lines.push(shown(alloc, place)?)?;
+    }
+    Ok(lines)
+}
+
+/// A line for each place of the policy.
+fn lines(alloc: Global) -> Result<Vec<String>, Fail> {
+    let found = found(alloc)?;
+    let lines = all_shown(alloc, found.as_slice());
+    drop(found);
+    lines
+}
+
 #[test]
 fn places_are_those_of_the_file(rt: HostRuntime) -> Result<(), Fail> {
-    let Ok(policy) = read(rt.alloc(), POLICY.as_bytes()) else {
-        panic!(rt; "no policy")
-    };
-    let found = places(rt.alloc(), &policy)?;
-    assert_eq!(rt; found.len(), PLACES.len());
-    for (place, wanted) in found.as_slice().iter().zip(PLACES) {
-        assert_eq!(rt; shown(rt.alloc(), place)?.as_str(), wanted);
+    let lines = lines(rt.alloc())?;
+    assert_eq!(rt; lines.len(), PLACES.len());
+    for (line, wanted) in lines.iter().zip(&PLACES) {
+        assert_eq!(rt; line.as_str(), *wanted);
     }
     Ok(())
 }
