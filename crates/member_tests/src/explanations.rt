@@ -41,24 +41,30 @@ fn leaving() -> Finding {
     }
 }
 
-/// The line of a finding, over the built-in policy.
-fn shown(alloc: Global, policy: &Policy, finding: &Finding) -> Result<String, Fail> {
+/// The line of a finding, over a policy.
+fn shown_over(alloc: Global, policy: &Policy, finding: &Finding) -> Result<String, Fail> {
     let line = finding_line(alloc, policy, PACKET.as_slice(), finding)?;
     Ok(format!(in alloc; "{line}")?)
 }
 
+/// The line of a finding, over the built-in policy, which is dropped before a test compares.
+fn shown(alloc: Global, finding: &Finding) -> Result<String, Fail> {
+    let policy = built_in(alloc)?;
+    let shown = shown_over(alloc, &policy, finding);
+    drop(policy);
+    shown
+}
+
 #[test]
 fn lines_of_findings(rt: HostRuntime) -> Result<(), Fail> {
-    let policy = built_in(rt.alloc())?;
-    let line = shown(rt.alloc(), &policy, &asked(3, true))?;
+    let line = shown(rt.alloc(), &asked(3, true))?;
     assert_eq!(rt; line.as_str(), "leaf ctl=app kind=entry serial=1 used=yes");
     Ok(())
 }
 
 #[test]
 fn the_line_of_a_packet_that_leaves(rt: HostRuntime) -> Result<(), Fail> {
-    let policy = built_in(rt.alloc())?;
-    let line = shown(rt.alloc(), &policy, &leaving())?;
+    let line = shown(rt.alloc(), &leaving())?;
     let want =
         "out s1:2 00000000000200000000000108004500001c0000000040116ed00a00000102000001138800350008e01f";
     assert_eq!(rt; line.as_str(), want);

@@ -1,5 +1,5 @@
 //! Policy files, their faults, and the policies that need no file.
-use cv_io::Duplicate;
+use cv_io::{Duplicate, Memory};
 use policy_file::{Policy, PolicyFault, bench, built_in, read};
 use std::alloc::Global;
 use std::test::Fail;
@@ -95,23 +95,31 @@ virtual = \"v2\"
 bits = 4
 ";
 
-/// What reading the texts, one after the other, gives.
-fn reading(alloc: Global, texts: [&str; 2]) -> Result<Result<Policy, PolicyFault>, Fail> {
+/// The texts, one after the other.
+fn joined(alloc: Global, texts: [&str; 2]) -> Result<String, Fail> {
     let [first, second] = texts;
-    let file = format!(in alloc; "{first}{second}")?;
-    Ok(read(alloc, file.as_bytes()))
+    Ok(format!(in alloc; "{first}{second}")?)
 }
 
-/// The same in the terse form.
-fn outcome(alloc: Global, texts: [&str; 2]) -> Result<String, Fail> {
-    match reading(alloc, texts)? {
+/// The terse form of what reading gave.
+fn terse(alloc: Global, read: &Result<Policy, PolicyFault>) -> Result<String, Fail> {
+    match read {
         Ok(policy) => Ok(format!(in alloc; "accepted {}", policy.members.len())?),
         Err(fault) => Ok(format!(in alloc; "{}", fault.terse(alloc)?)?),
     }
 }
 
+/// What reading the texts gives, in the terse form.
+fn outcome(alloc: Global, texts: [&str; 2]) -> Result<String, Fail> {
+    let file = joined(alloc, texts)?;
+    let read = read(alloc, file.as_bytes());
+    let said = terse(alloc, &read);
+    drop(read);
+    said
+}
+
 /// Files as a whole: their texts, and the outcome.
-const FILES: [([&str; 2], &str); 17] = [
+const FILES: &[([&str; 2], &str)] = &[
     (["", ""], "missing version"),
     (["version = 1", ""], "accepted 0"),
     (["version = ", ""], "syntax -"),
@@ -158,13 +166,13 @@ const FILES: [([&str; 2], &str); 17] = [
 #[test]
 fn files_have_these_outcomes(rt: HostRuntime) -> Result<(), Fail> {
     for (texts, want) in FILES {
-        assert_eq!(rt; outcome(rt.alloc(), texts)?.as_str(), want);
+        assert_eq!(rt; outcome(rt.alloc(), *texts)?.as_str(), *want);
     }
     Ok(())
 }
 
 /// What stands after the ports of a virtual switch, and the outcome.
-const MEMBERS: [(&str, &str); 14] = [
+const MEMBERS: &[(&str, &str)] = &[
     (
         "expr = \"app\"\n[[member]]\ncontroller = \"app\"\nvirtual = \"v1\"\nbits = 15\n",
         "accepted 1",
@@ -226,21 +234,30 @@ const MEMBERS: [(&str, &str); 14] = [
 #[test]
 fn members_have_these_outcomes(rt: HostRuntime) -> Result<(), Fail> {
     for (rest, want) in MEMBERS {
-        assert_eq!(rt; outcome(rt.alloc(), [ONE, rest])?.as_str(), want);
+        assert_eq!(rt; outcome(rt.alloc(), [ONE, *rest])?.as_str(), *want);
     }
     Ok(())
 }
 
-/// What the operator is told of a file.
-fn sentence(alloc: Global, texts: [&str; 2]) -> Result<String, Fail> {
-    match reading(alloc, texts)? {
+/// What the operator is told of what reading gave.
+fn told(alloc: Global, read: &Result<Policy, PolicyFault>) -> Result<String, Fail> {
+    match read {
         Ok(_) => Ok(format!(in alloc; "accepted")?),
         Err(fault) => Ok(format!(in alloc; "{fault}")?),
     }
 }
 
+/// What the operator is told of a file.
+fn sentence(alloc: Global, texts: [&str; 2]) -> Result<String, Fail> {
+    let file = joined(alloc, texts)?;
+    let read = read(alloc, file.as_bytes());
+    let said = told(alloc, &read);
+    drop(read);
+    said
+}
+
 /// Texts, and what the operator is told.
-const SENTENCES: [([&str; 2], &str); 5] = [
+const SENTENCES: &[([&str; 2], &str)] = &[
     (["version = 3", ""], "version: has to be 1 or 2"),
     (["", ""], "version: this key has to be given"),
     (
@@ -260,31 +277,65 @@ const SENTENCES: [([&str; 2], &str); 5] = [
 #[test]
 fn the_operator_is_told(rt: HostRuntime) -> Result<(), Fail> {
     for (texts, want) in SENTENCES {
-        assert_eq!(rt; sentence(rt.alloc(), texts)?.as_str(), want);
+        assert_eq!(rt; sentence(rt.alloc(), *texts)?.as_str(), *want);
     }
     Ok(())
+}
+
+/// How many levels are needed, if reading refused a file for them.
+fn levels(read: &Result<Policy, PolicyFault>) -> Option<u64> {
+    match read {
+        Err(PolicyFault::TooWide { needed, .. }) => Some(*needed),
+        _ => None,
+    }
 }
 
 /// How many levels a file needs, if it is refused for them.
 fn needed(alloc: Global, texts: [&str; 2]) -> Result<Option<u64>, Fail> {
-    match reading(alloc, texts)? {
-        Err(PolicyFault::TooWide { needed, .. }) => Ok(Some(needed)),
-        _ => Ok(None),
-    }
+    let file = joined(alloc, texts)?;
+    let read = read(alloc, file.as_bytes());
+    let needed = levels(&read);
+    drop(read);
+    Ok(needed)
 }
 
 #[test]
 fn too_wide_by_the_product(rt: HostRuntime) -> Result<(), Fail> {
-    let (rest, _) = MEMBERS[13];
-    assert_eq!(rt; needed(rt.alloc(), [ONE, rest])?, Some(1_073_741_824));
+    let (rest, _) = &MEMBERS[13];
+    assert_eq!(rt; needed(rt.alloc(), [ONE, *rest])?, Some(1_073_741_824));
     Ok(())
+}
+
+/// Whether a copy of the policy equals it.
+fn is_copied(policy: &Policy) -> Result<bool, Memory> {
+    let copied = policy.copy()?;
+    let same = copied == *policy;
+    drop(copied);
+    Ok(same)
+}
+
+/// Whether the built-in policy is copied as it is, and how many members it has.
+fn seen(alloc: Global) -> Result<(bool, usize), Memory> {
+    let policy = built_in(alloc)?;
+    let same = is_copied(&policy);
+    let members = policy.members.len();
+    drop(policy);
+    Ok((same?, members))
+}
+
+/// How many members the policy of the benchmark has.
+fn bench_members(alloc: Global) -> Result<usize, Memory> {
+    let policy = bench(alloc)?;
+    let members = policy.members.len();
+    drop(policy);
+    Ok(members)
 }
 
 #[test]
 fn policies_without_a_file(rt: HostRuntime) -> Result<(), Fail> {
-    let policy = built_in(rt.alloc())?;
-    assert!(rt; policy.copy()? == policy);
-    assert_eq!(rt; policy.members.len(), 1);
-    assert_eq!(rt; bench(rt.alloc())?.members.len(), 2);
+    let (same, members) = seen(rt.alloc())?;
+    assert!(rt; same);
+    assert_eq!(rt; members, 1);
+    assert_eq!(rt; bench_members(rt.alloc())?, 2);
     Ok(())
 }

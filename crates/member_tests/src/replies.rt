@@ -24,11 +24,18 @@ fn sent(alloc: Global, number: usize) -> Result<Bytes, Fail> {
     }
 }
 
+/// The digits of a message or a line.
+fn digits(alloc: Global, number: usize) -> Result<String, Fail> {
+    let bytes = sent(alloc, number)?;
+    let digits = hex::encode(alloc, bytes.as_slice());
+    drop(bytes);
+    Ok(digits?)
+}
+
 #[test]
 fn messages(rt: HostRuntime) -> Result<(), Fail> {
-    for (number, want) in SENT.into_iter().enumerate() {
-        let digits = hex::encode(rt.alloc(), sent(rt.alloc(), number)?.as_slice())?;
-        assert_eq!(rt; digits.as_str(), want);
+    for (number, want) in SENT.iter().enumerate() {
+        assert_eq!(rt; digits(rt.alloc(), number)?.as_str(), *want);
     }
     Ok(())
 }

@@ -9,7 +9,8 @@ use member_state::{FlowFault, MemberState};
 use of10_actions::{Action, PortView};
 use of10_match::Match;
 use of10_msgs::FlowMod;
-use std::alloc::Global;
+use std::alloc::{AllocGlobal, Global};
+use std::process::Abort;
 use std::test::Fail;
 
 const ADD: u16 = 0;
@@ -70,6 +71,12 @@ fn apply(x: &mut MemberState, g: &Grant, m: &FlowMod) -> Result<(), FlowFault>
     Ok(())
 }
 
+/// Adds the rank and the level of an entry to a text.
+fn add_word(alloc: Global, text: &mut String, rank: u32, level: u64) -> Result<(), Fail> {
+    let word = format!(in alloc; " {rank}:{level}")?;
+    Ok(text.push_str(word.as_str())?)
+}
+
 /// The ranks and levels of the entries.
 fn shown(alloc: Global, x: &MemberState, g: &Grant) -> Result<String, Fail> {
     let mut text = String::new(alloc);
@@ -78,14 +85,14 @@ fn shown(alloc: Global, x: &MemberState, g: &Grant) -> Result<String, Fail> {
     }
     let leaf = x.leaf_table(0, g)?;
     for entry in leaf.entries.as_slice() {
-        let word = format!(in alloc; " {}:{}", entry.rank, entry.level)?;
-        text.push_str(word.as_str())?;
+        add_word(alloc, &mut text, entry.rank, entry.level)?;
     }
+    drop(leaf);
     Ok(text)
 }
 
 /// Each message, what it is answered, and the ranks and levels after it.
-const ROWS: [(u16, u16, &str); 9] = [
+const ROWS: &[(u16, u16, &str)] = &[
     (ADD, 10, " 10:4"),
     (ADD, 20, " 10:4 20:6"),
     (ADD, 30, " 10:4 20:6 30:7"),
@@ -111,17 +118,24 @@ fn answered(
     }
 }
 
-#[test]
-fn six_ranks_fit_and_a_seventh_is_refused(rt: HostRuntime) -> Result<(), Fail> {
-    let alloc = rt.alloc();
-    let g = grant(alloc)?;
-    let mut x = MemberState::new(alloc, 3, 8);
+/// Compares what each message is answered with what is wanted.
+fn compare(rt: &(impl Abort + AllocGlobal), x: &mut MemberState, g: &Grant) -> Result<(), Fail> {
     for (command, priority, want) in ROWS {
         assert_eq!(rt;
-            answered(alloc, &mut x, &g, command, priority)?.as_str(),
-            want,
+            answered(rt.alloc(), x, g, *command, *priority)?.as_str(),
+            *want,
             "{priority}"
         );
     }
     Ok(())
+}
+
+#[test]
+fn six_ranks_fit_and_a_seventh_is_refused(rt: HostRuntime) -> Result<(), Fail> {
+    let g = grant(rt.alloc())?;
+    let mut x = MemberState::new(rt.alloc(), 3, 8);
+    let compared = compare(&rt, &mut x, &g);
+    drop(x);
+    drop(g);
+    compared
 }

@@ -104,7 +104,7 @@ fn shown(alloc: Global, table: &Table) -> Result<String, Fail> {
     Ok(text)
 }
 
-const SIX: [(u16, Option<u16>, u16); 6] = [
+const SIX: &[(u16, Option<u16>, u16)] = &[
     (10, Some(1), 1),
     (10, Some(2), 2),
     (20, Some(1), 3),
@@ -120,12 +120,12 @@ fn add(alloc: Global, table: &mut Table, row: (u16, Option<u16>, u16)) -> Result
     Ok(apply(table, &m, 7)?)
 }
 
-fn six(alloc: Global, limit: u32) -> Result<Table, Fail> {
-    let mut table = Table::new(alloc, limit);
+/// Adds the six entries.
+fn add_six(alloc: Global, table: &mut Table) -> Result<(), Fail> {
     for row in SIX {
-        add(alloc, &mut table, row)?;
+        add(alloc, table, *row)?;
     }
-    Ok(table)
+    Ok(())
 }
 
 /// A message to the six entries in a table of six: the command, the priority, the in_port and the
@@ -143,13 +143,21 @@ fn changed(alloc: Global, table: &mut Table, row: Row) -> Result<String, Fail> {
     }
 }
 
-/// What a message makes of the six entries.
-fn shown_after(alloc: Global, row: Row) -> Result<String, Fail> {
-    let mut table = six(alloc, 6)?;
-    changed(alloc, &mut table, row)
+/// Adds the six entries, and changes them.
+fn six_changed(alloc: Global, table: &mut Table, row: Row) -> Result<String, Fail> {
+    add_six(alloc, table)?;
+    changed(alloc, table, row)
 }
 
-const ROWS: [(Row, &str); 7] = [
+/// What a message makes of the six entries.
+fn shown_after(alloc: Global, row: Row) -> Result<String, Fail> {
+    let mut table = Table::new(alloc, 6);
+    let shown = six_changed(alloc, &mut table, row);
+    drop(table);
+    shown
+}
+
+const ROWS: &[(Row, &str)] = &[
     (
         Row(ADD, 10, Some(2), port::NONE),
         " 1>1 7>9 3>3 4>4 5>1 6>65531",
@@ -180,8 +188,8 @@ const ROWS: [(Row, &str); 7] = [
 #[test]
 fn five_commands_over_six_entries(rt: HostRuntime) -> Result<(), Fail> {
     for (row, want) in ROWS {
-        let got = shown_after(rt.alloc(), row)?;
-        assert_eq!(rt; got.as_str(), want);
+        let got = shown_after(rt.alloc(), *row)?;
+        assert_eq!(rt; got.as_str(), *want);
     }
     Ok(())
 }
@@ -195,27 +203,50 @@ fn add_timed(alloc: Global, table: &mut Table, row: (u16, u16, u16)) -> Result<(
     Ok(apply(table, &m, 100)?)
 }
 
-/// The numbers that are due, by their hard timeouts and by their idle ones, once the second of three
-/// entries has had a packet.
-fn due_shown(alloc: Global, touched: u64, now: u64) -> Result<String, Fail> {
-    let mut table = Table::new(alloc, 3);
-    for row in [(1, 0, 10), (2, 5, 0), (4, 5, 5)] {
-        add_timed(alloc, &mut table, row)?;
+/// The priority, the idle and the hard timeout of three entries.
+const TIMED: &[(u16, u16, u16)] = &[(1, 0, 10), (2, 5, 0), (4, 5, 5)];
+
+/// Adds the three entries at 100.
+fn add_three(alloc: Global, table: &mut Table) -> Result<(), Fail> {
+    for row in TIMED {
+        add_timed(alloc, table, *row)?;
     }
-    table.touch(2, touched);
+    Ok(())
+}
+
+/// The numbers that are due, by their hard timeouts and by their idle ones.
+fn due(alloc: Global, table: &Table, now: u64) -> Result<String, Fail> {
     let Due { hard, idle } = table.due(now)?;
     Ok(format!(in alloc; "{:?} {:?}", hard.as_slice(), idle.as_slice())?)
 }
 
+/// The same of three entries in the table, once the second has had a packet.
+fn three_due(alloc: Global, table: &mut Table, touched: u64, now: u64) -> Result<String, Fail> {
+    add_three(alloc, table)?;
+    table.touch(2, touched);
+    due(alloc, table, now)
+}
+
+/// The same, in a table of its own.
+fn due_shown(alloc: Global, touched: u64, now: u64) -> Result<String, Fail> {
+    let mut table = Table::new(alloc, 3);
+    let shown = three_due(alloc, &mut table, touched, now);
+    drop(table);
+    shown
+}
+
+/// When the second entry has its packet, the time, and what is due then.
+const TIMES: &[(u64, u64, &str)] = &[
+    (100, 104, "[] []"),
+    (100, 105, "[3] [2]"),
+    (106, 110, "[1, 3] []"),
+];
+
 #[test]
 fn timeouts_are_due_at_their_second(rt: HostRuntime) -> Result<(), Fail> {
-    for (touched, now, want) in [
-        (100, 104, "[] []"),
-        (100, 105, "[3] [2]"),
-        (106, 110, "[1, 3] []"),
-    ] {
-        let got = due_shown(rt.alloc(), touched, now)?;
-        assert_eq!(rt; got.as_str(), want);
+    for (touched, now, want) in TIMES {
+        let got = due_shown(rt.alloc(), *touched, *now)?;
+        assert_eq!(rt; got.as_str(), *want);
     }
     Ok(())
 }
@@ -246,18 +277,32 @@ fn found(alloc: Global, table: &Table) -> Result<String, Fail> {
     Ok(format!(in alloc; "{best} {} {priority}", table.has_rank(30))?)
 }
 
+/// Adds the six entries, and says what is found in a copy of them without one.
+fn found_in_copy(alloc: Global, table: &mut Table, serial: u64) -> Result<String, Fail> {
+    add_six(alloc, table)?;
+    let mut copied = table.copy()?;
+    copied.drop_serial(serial);
+    let found = found(alloc, &copied);
+    drop(copied);
+    found
+}
+
 /// What is found in a copy of the six entries without one of them.
 fn found_without(alloc: Global, serial: u64) -> Result<String, Fail> {
-    let mut copied = six(alloc, 6)?.copy()?;
-    copied.drop_serial(serial);
-    found(alloc, &copied)
+    let mut table = Table::new(alloc, 6);
+    let found = found_in_copy(alloc, &mut table, serial);
+    drop(table);
+    found
 }
+
+/// The number of the entry that is left out, and what is found then.
+const WITHOUT: &[(u64, &str)] = &[(0, "4 true 5"), (4, "3 false 5"), (5, "4 true 0")];
 
 #[test]
 fn entries_are_found(rt: HostRuntime) -> Result<(), Fail> {
-    for (serial, want) in [(0, "4 true 5"), (4, "3 false 5"), (5, "4 true 0")] {
-        let got = found_without(rt.alloc(), serial)?;
-        assert_eq!(rt; got.as_str(), want);
+    for (serial, want) in WITHOUT {
+        let got = found_without(rt.alloc(), *serial)?;
+        assert_eq!(rt; got.as_str(), *want);
     }
     Ok(())
 }

@@ -1,4 +1,6 @@
 //! What stands on a switch behind its gate.
+ghost use Rattle.std.specs.Prelude.{◌≡◌, length};
+
 use cv_io::{Leaf, List};
 use exact_gate::GateDelta;
 use install_plan::Batch;
@@ -11,18 +13,16 @@ use switch_tables::{SwitchTable, change_all, undo_all};
 
 /// An entry for all packets, of one leaf.
 fn entry(alloc: Global, priority: u16, kind: u64) -> Result<PhysEntry, Fail> {
-    let mut actions = List::new(alloc);
-    actions.push(Action::Output {
+    let output = Action::Output {
         port: 1,
         max_len: 0,
-    })?;
-    let mut ancestry = List::new(alloc);
-    ancestry.push(Leaf { member: 0, kind })?;
+    };
+    let actions = List::from_slice(alloc, &[output])?;
     Ok(PhysEntry {
         m: Match::everything(),
         priority,
         actions,
-        ancestry,
+        ancestry: List::from_slice(alloc, &[Leaf { member: 0, kind }])?,
     })
 }
 
@@ -44,16 +44,22 @@ fn first_cookie(batch: &Batch) -> Option<u64> {
     }
 }
 
+/// The cookie of the entry that comes to the one switch.
+fn change(alloc: Global, tables: &mut [SwitchTable]) -> Result<Option<u64>, Fail>
+    requires { length tables.old ≡ 1 }
+    ensures { length tables.new ≡ 1 }
+{
+    let deltas = [comes(alloc, 7)?];
+    let batches = change_all(alloc, tables, &deltas, &[true], 5)?;
+    Ok(first_cookie(&batches.as_slice()[0].batch))
+}
+
 #[test]
 fn an_entry_comes_and_is_taken_back(rt: HostRuntime) -> Result<(), Fail> {
-    let alloc = rt.alloc();
-    let mut tables = Vec::new(alloc);
-    tables.push(SwitchTable::new(alloc))?;
-    let mut deltas = Vec::new(alloc);
-    deltas.push(comes(alloc, 7)?)?;
-    let batches = change_all(alloc, tables.as_mut_slice(), deltas.as_slice(), &[true], 5)?;
-    assert_eq!(rt; first_cookie(&batches.as_slice()[0].batch), Some(5));
-    undo_all(tables.as_mut_slice());
-    assert_eq!(rt; tables[0].standing()?.len(), 0);
+    let mut tables = [SwitchTable::new(rt.alloc())];
+    let cookie = change(rt.alloc(), &mut tables)?;
+    undo_all(&mut tables);
+    let left = tables[0].standing()?.len();
+    assert_eq!(rt; (cookie, left), (Some(5), 0));
     Ok(())
 }

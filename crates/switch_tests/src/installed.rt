@@ -1,5 +1,5 @@
 //! What stands on a switch, and the batches that make it.
-use cv_io::{Duplicate, Leaf, List};
+use cv_io::{Duplicate, Leaf, List, Memory};
 use install_plan::{Batch, Installed, Written};
 use of10_actions::Action;
 use of10_match::{Header, IPV4, Match, Prefix, TCP, UNTAGGED};
@@ -30,52 +30,78 @@ fn pair(
     kinds: (u64, u64),
 ) -> Result<PhysEntry, Fail> {
     let (first, second) = kinds;
-    let mut ancestry = List::new(alloc);
-    ancestry.push(Leaf {
-        member: 0,
-        kind: first,
-    })?;
-    ancestry.push(Leaf {
-        member: 1,
-        kind: second,
-    })?;
-    let mut actions = List::new(alloc);
-    actions.push(Action::Output {
+    let ancestry = [
+        Leaf {
+            member: 0,
+            kind: first,
+        },
+        Leaf {
+            member: 1,
+            kind: second,
+        },
+    ];
+    let output = Action::Output {
         port: to,
         max_len: 0,
-    })?;
+    };
+    let actions = List::from_slice(alloc, &[output])?;
     Ok(PhysEntry {
         m,
         priority,
         actions,
-        ancestry,
+        ancestry: List::from_slice(alloc, &ancestry)?,
     })
+}
+
+/// The pair of these leaves, for packets of a port to the host or to the net.
+fn add(
+    alloc: Global,
+    entries: &mut List<PhysEntry>,
+    (port, host): (u16, bool),
+    (priority, to): (u16, u16),
+    kinds: (u64, u64),
+) -> Result<(), Fail> {
+    entries.push(pair(alloc, to_net(port, host), priority, to, kinds)?)?;
+    Ok(())
+}
+
+/// The pairs of the monitor's entry for the net, at one port.
+fn add_net(alloc: Global, entries: &mut List<PhysEntry>, port: u16) -> Result<(), Fail> {
+    add(alloc, entries, (port, false), (9, 5), (3, 3))?;
+    add(alloc, entries, (port, true), (11, 6), (3, 4))?;
+    add(alloc, entries, (port, false), (6, 0xfffd), (3, 1))
 }
 
 /// The pairs of the monitor's entry for the net, at each port.
 fn of_net(alloc: Global) -> Result<List<PhysEntry>, Fail> {
     let mut entries = List::new(alloc);
     for port in [4, 2, 3, 1] {
-        entries.push(pair(alloc, to_net(port, false), 9, 5, (3, 3))?)?;
-        entries.push(pair(alloc, to_net(port, true), 11, 6, (3, 4))?)?;
-        entries.push(pair(alloc, to_net(port, false), 6, 0xfffd, (3, 1))?)?;
+        add_net(alloc, &mut entries, port)?;
     }
     Ok(entries)
+}
+
+/// The pairs of its entry for the host, at one port.
+fn add_host(alloc: Global, entries: &mut List<PhysEntry>, port: u16) -> Result<(), Fail> {
+    add(alloc, entries, (port, true), (11, 5), (4, 3))?;
+    add(alloc, entries, (port, true), (13, 6), (4, 4))?;
+    add(alloc, entries, (port, false), (6, 5), (1, 3))
 }
 
 /// The pairs of its entry for the host, at each port.
 fn of_host(alloc: Global) -> Result<List<PhysEntry>, Fail> {
     let mut entries = List::new(alloc);
     for port in [4, 2, 3, 1] {
-        entries.push(pair(alloc, to_net(port, true), 11, 5, (4, 3))?)?;
-        entries.push(pair(alloc, to_net(port, true), 13, 6, (4, 4))?)?;
-        entries.push(pair(alloc, to_net(port, false), 6, 5, (1, 3))?)?;
+        add_host(alloc, &mut entries, port)?;
     }
     Ok(entries)
 }
 
+/// Priority, port and cookie.
+type Row = (u16, u16, u64);
+
 /// Priority, port and cookie of each row.
-fn shown(alloc: Global, rows: &List<Written>) -> Result<List<(u16, u16, u64)>, Fail> {
+fn shown(alloc: Global, rows: &List<Written>) -> Result<List<Row>, Fail> {
     let mut shown = List::new(alloc);
     for row in rows.as_slice() {
         let port = row.entry.m.in_port.unwrap_or(0);
@@ -84,25 +110,52 @@ fn shown(alloc: Global, rows: &List<Written>) -> Result<List<(u16, u16, u64)>, F
     Ok(shown)
 }
 
-/// A table of all pairs, with cookies from 1 on.
+/// What a batch deletes and what it adds.
+fn rows(alloc: Global, batch: &Batch) -> Result<(List<Row>, List<Row>), Fail> {
+    let deletes = shown(alloc, &batch.deletes)?;
+    Ok((deletes, shown(alloc, &batch.adds)?))
+}
+
+fn come_host(alloc: Global, table: &mut Installed) -> Result<Batch, Fail> {
+    let host = of_host(alloc)?;
+    Ok(table.change(&List::new(alloc), &host, 1)?)
+}
+
+fn come_net(alloc: Global, table: &mut Installed) -> Result<Batch, Fail> {
+    let net = of_net(alloc)?;
+    Ok(table.change(&List::new(alloc), &net, 13)?)
+}
+
+fn go_net(alloc: Global, table: &mut Installed) -> Result<Batch, Fail> {
+    let net = of_net(alloc)?;
+    Ok(table.change(&net, &List::new(alloc), 21)?)
+}
+
+/// All pairs come, with cookies from 1 on. The second change's batch is the result.
+fn fill(alloc: Global, table: &mut Installed) -> Result<Batch, Fail> {
+    drop(come_host(alloc, table)?);
+    come_net(alloc, table)
+}
+
+/// A table of all pairs.
 fn full(alloc: Global) -> Result<Installed, Fail> {
     let mut table = Installed::new(alloc);
-    let none = List::new(alloc);
-    table.change(&none, &of_host(alloc)?, 1)?;
-    table.change(&none, &of_net(alloc)?, 13)?;
+    drop(fill(alloc, &mut table)?);
     Ok(table)
+}
+
+/// What the second change deletes and adds.
+fn filled(alloc: Global) -> Result<(List<Row>, List<Row>), Fail> {
+    let mut table = Installed::new(alloc);
+    let batch = fill(alloc, &mut table)?;
+    rows(alloc, &batch)
 }
 
 /// What the second change added: pairs of the net where none has their key, and where their ancestry
 /// is the smaller one.
 #[test]
 fn a_smaller_ancestry_takes_the_key(rt: HostRuntime) -> Result<(), Fail> {
-    let mut table = Installed::new(rt.alloc());
-    let none = List::new(rt.alloc());
-    table.change(&none, &of_host(rt.alloc())?, 1)?;
-    let batch = table.change(&none, &of_net(rt.alloc())?, 13)?;
-    let deletes = shown(rt.alloc(), &batch.deletes)?;
-    let adds = shown(rt.alloc(), &batch.adds)?;
+    let (deletes, adds) = filled(rt.alloc())?;
     assert_eq!(rt;
         deletes.as_slice(),
         [(11, 1, 5), (11, 2, 6), (11, 3, 7), (11, 4, 8)].as_slice()
@@ -124,13 +177,19 @@ fn a_smaller_ancestry_takes_the_key(rt: HostRuntime) -> Result<(), Fail> {
     Ok(())
 }
 
+/// What is deleted and added as the net's pairs go.
+fn gone(alloc: Global, table: &mut Installed) -> Result<(List<Row>, List<Row>), Fail> {
+    let batch = go_net(alloc, table)?;
+    rows(alloc, &batch)
+}
+
 /// The net's pairs go: eight deletes, and four adds of the pairs whose keys are free.
 #[test]
 fn a_key_goes_to_the_next_ancestry(rt: HostRuntime) -> Result<(), Fail> {
     let mut table = full(rt.alloc())?;
-    let batch = table.change(&of_net(rt.alloc())?, &List::new(rt.alloc()), 21)?;
-    let deletes = shown(rt.alloc(), &batch.deletes)?;
-    let adds = shown(rt.alloc(), &batch.adds)?;
+    let gone = gone(rt.alloc(), &mut table);
+    drop(table);
+    let (deletes, adds) = gone?;
     assert_eq!(rt;
         deletes.as_slice(),
         [
@@ -152,25 +211,37 @@ fn a_key_goes_to_the_next_ancestry(rt: HostRuntime) -> Result<(), Fail> {
     Ok(())
 }
 
+/// Whether a change that was undone is made again as before.
+fn is_made_again(alloc: Global, table: &mut Installed) -> Result<bool, Fail> {
+    let first = go_net(alloc, table)?;
+    table.undo();
+    let second = go_net(alloc, table)?;
+    Ok(first == second)
+}
+
 /// What is taken back is changed again as before.
 #[test]
 fn an_undone_change_is_made_again(rt: HostRuntime) -> Result<(), Fail> {
     let mut table = full(rt.alloc())?;
-    let none = List::new(rt.alloc());
-    let first = table.change(&of_net(rt.alloc())?, &none, 21)?;
-    table.undo();
-    let second = table.change(&of_net(rt.alloc())?, &none, 21)?;
-    assert_eq!(rt; first, second);
+    let same = is_made_again(rt.alloc(), &mut table);
+    drop(table);
+    assert!(rt; same?);
     Ok(())
+}
+
+/// How many entries the installation adds.
+fn count_adds(table: &mut Installed) -> Result<usize, Memory> {
+    Ok(table.whole(100)?.adds.len())
 }
 
 /// The installation numbers all that stands, and can be taken back.
 #[test]
 fn all_is_installed(rt: HostRuntime) -> Result<(), Fail> {
     let mut table = full(rt.alloc())?;
-    let Batch { adds, .. } = table.whole(100)?;
-    assert_eq!(rt; adds.len(), 16);
+    let count = count_adds(&mut table);
     table.undo();
+    drop(table);
+    assert_eq!(rt; count?, 16);
     Ok(())
 }
 
@@ -200,12 +271,20 @@ fn used(table: &Installed, header: &Header) -> Result<(u16, u64), Fail> {
     })
 }
 
+/// What is used for the host, and for another of the net.
+fn used_of_both(table: &Installed) -> Result<((u16, u64), (u16, u64)), Fail> {
+    let host = used(table, &to(1))?;
+    Ok((host, used(table, &to(9))?))
+}
+
 /// Of the entries that hold a packet the one of the greatest priority is used.
 #[test]
 fn the_greatest_priority_is_used(rt: HostRuntime) -> Result<(), Fail> {
     let table = full(rt.alloc())?;
-    assert_eq!(rt; used(&table, &to(1))?.0, 13);
-    assert_eq!(rt; used(&table, &to(9))?.0, 9);
+    let both = used_of_both(&table);
+    drop(table);
+    let (host, net) = both?;
+    assert_eq!(rt; (host.0, net.0), (13, 9));
     let empty = Installed::new(rt.alloc());
     assert_eq!(rt; used(&empty, &to(1))?, (0, 0));
     Ok(())

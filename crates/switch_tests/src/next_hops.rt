@@ -27,30 +27,29 @@ fn switch(alloc: Global, name: &str) -> Result<SwitchItem, Fail> {
     })
 }
 
-fn switches(alloc: Global) -> Result<List<SwitchItem>, Fail> {
-    let mut switches = List::new(alloc);
+fn add_switches(alloc: Global, switches: &mut List<SwitchItem>) -> Result<(), Fail> {
     for name in ["s1", "s2", "s3"] {
         switches.push(switch(alloc, name)?)?;
     }
-    Ok(switches)
+    Ok(())
 }
 
 /// A cable from a port of a switch to port 3 of the next.
 fn cable(alloc: Global, name: &str, port: u16, next: &str) -> Result<PairItem, Fail> {
+    let a = place(alloc, name, port)?;
     Ok(PairItem {
-        a: place(alloc, name, port)?,
+        a,
         b: place(alloc, next, 3)?,
     })
 }
 
 /// The switches in a row, or without the second cable.
-fn cables(alloc: Global, cut: bool) -> Result<List<PairItem>, Fail> {
-    let mut cables = List::new(alloc);
+fn add_cables(alloc: Global, cables: &mut List<PairItem>, cut: bool) -> Result<(), Fail> {
     cables.push(cable(alloc, "s1", 3, "s2")?)?;
     if !cut {
         cables.push(cable(alloc, "s2", 4, "s3")?)?;
     }
-    Ok(cables)
+    Ok(())
 }
 
 /// An outside port of the virtual switch.
@@ -62,39 +61,57 @@ fn outside(alloc: Global, port: u16, name: &str, at: u16) -> Result<VirtualPort,
 }
 
 /// The outside ports 1 and 3 on the first switch, 2 on the second and 4 on the third.
-fn spread(alloc: Global) -> Result<VirtualItem, Fail> {
+fn ports(alloc: Global) -> Result<List<VirtualPort>, Fail> {
     let mut ports = List::new(alloc);
     for (port, name, at) in [(1, "s1", 1), (2, "s2", 1), (3, "s1", 2), (4, "s3", 1)] {
         ports.push(outside(alloc, port, name, at)?)?;
     }
+    Ok(ports)
+}
+
+/// The virtual switch of these ports.
+fn spread(alloc: Global) -> Result<VirtualItem, Fail> {
+    let name = text(alloc, "v1")?;
+    let expr = text(alloc, "app")?;
     Ok(VirtualItem {
-        name: text(alloc, "v1")?,
+        ports: ports(alloc)?,
+        name,
         dpid: 161,
-        ports,
-        expr: text(alloc, "app")?,
+        expr,
     })
 }
 
-fn virtuals(alloc: Global) -> Result<List<VirtualItem>, Fail> {
-    let mut virtuals = List::new(alloc);
-    virtuals.push(spread(alloc)?)?;
-    Ok(virtuals)
+fn fill(alloc: Global, plan: &mut TopologyPlan, cut: bool) -> Result<(), Fail> {
+    add_switches(alloc, &mut plan.switches)?;
+    add_cables(alloc, &mut plan.cables, cut)?;
+    plan.virtuals.push(spread(alloc)?)?;
+    Ok(())
+}
+
+fn plan(alloc: Global, cut: bool) -> Result<TopologyPlan, Fail> {
+    let mut plan = TopologyPlan {
+        switches: List::new(alloc),
+        cables: List::new(alloc),
+        virtuals: List::new(alloc),
+        links: List::new(alloc),
+    };
+    fill(alloc, &mut plan, cut)?;
+    Ok(plan)
 }
 
 /// One virtual switch over three physical ones.
 fn topology(alloc: Global, cut: bool) -> Result<Topology, Fail> {
-    let plan = TopologyPlan {
-        switches: switches(alloc)?,
-        cables: cables(alloc, cut)?,
-        virtuals: virtuals(alloc)?,
-        links: List::new(alloc),
-    };
-    Ok(Topology::make(alloc, &plan)?)
+    let plan = plan(alloc, cut)?;
+    let made = Topology::make(alloc, &plan);
+    drop(plan);
+    Ok(made?)
 }
 
 fn copied(alloc: Global, row: &Topology) -> Result<Paths, Fail> {
     let paths = Paths::make(alloc, row)?;
-    Ok(paths.copy()?)
+    let copied = paths.copy();
+    drop(paths);
+    Ok(copied?)
 }
 
 /// The ports of three next hops, 0 where there is none.
@@ -124,8 +141,9 @@ fn found(alloc: Global, row: &Topology) -> Result<((u16, u16, u16), (u16, u16, u
 #[test]
 fn hops_lead_and_tags_count(rt: HostRuntime) -> Result<(), Fail> {
     let row = topology(rt.alloc(), false)?;
-    let found = found(rt.alloc(), &row)?;
-    assert_eq!(rt; found, ((3, 4, 0), (1, 4, 0)));
+    let found = found(rt.alloc(), &row);
+    drop(row);
+    assert_eq!(rt; found?, ((3, 4, 0), (1, 4, 0)));
     Ok(())
 }
 
@@ -140,7 +158,8 @@ fn cut(alloc: Global, row: &Topology) -> Result<String, Fail> {
 #[test]
 fn switches_without_a_path_are_named(rt: HostRuntime) -> Result<(), Fail> {
     let row = topology(rt.alloc(), true)?;
-    let found = cut(rt.alloc(), &row)?;
-    assert_eq!(rt; found.as_str(), "s1 to s3");
+    let found = cut(rt.alloc(), &row);
+    drop(row);
+    assert_eq!(rt; found?.as_str(), "s1 to s3");
     Ok(())
 }

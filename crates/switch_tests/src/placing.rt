@@ -31,28 +31,47 @@ fn port(alloc: Global) -> Result<VirtualPort, Fail> {
     })
 }
 
-fn virtual_switch(alloc: Global) -> Result<VirtualItem, Fail> {
+fn ports(alloc: Global) -> Result<List<VirtualPort>, Fail> {
     let mut ports = List::new(alloc);
     ports.push(port(alloc)?)?;
+    Ok(ports)
+}
+
+fn virtual_switch(alloc: Global) -> Result<VirtualItem, Fail> {
+    let name = text(alloc, "v1")?;
+    let expr = text(alloc, "app")?;
+    let ports = ports(alloc)?;
     Ok(VirtualItem {
-        name: text(alloc, "v1")?,
+        name,
         dpid: 161,
         ports,
-        expr: text(alloc, "app")?,
+        expr,
     })
 }
 
-/// A virtual switch of one port that is all of a switch of three.
-fn topology(alloc: Global) -> Result<Topology, Fail> {
+fn fill(alloc: Global, plan: &mut TopologyPlan) -> Result<(), Fail> {
+    plan.switches.push(switch(alloc)?)?;
+    plan.virtuals.push(virtual_switch(alloc)?)?;
+    Ok(())
+}
+
+fn plan(alloc: Global) -> Result<TopologyPlan, Fail> {
     let mut plan = TopologyPlan {
         switches: List::new(alloc),
         cables: List::new(alloc),
         virtuals: List::new(alloc),
         links: List::new(alloc),
     };
-    plan.switches.push(switch(alloc)?)?;
-    plan.virtuals.push(virtual_switch(alloc)?)?;
-    Ok(Topology::make(alloc, &plan)?)
+    fill(alloc, &mut plan)?;
+    Ok(plan)
+}
+
+/// A virtual switch of one port that is all of a switch of three.
+fn topology(alloc: Global) -> Result<Topology, Fail> {
+    let plan = plan(alloc)?;
+    let made = Topology::make(alloc, &plan);
+    drop(plan);
+    Ok(made?)
 }
 
 fn miss(alloc: Global) -> Rule
@@ -84,17 +103,26 @@ fn dropped(alloc: Global, topology: &Topology, paths: &Paths) -> Result<usize, M
     Ok(fixed(alloc, topology, paths, 0, &whole)?.len())
 }
 
+/// The priority of the one and the number of the others.
+fn both(alloc: Global, topology: &Topology, paths: &Paths) -> Result<(Option<u16>, usize), Memory>
+    requires { paths.now ≡ topology.now }
+{
+    let priority = placed(alloc, topology, paths)?;
+    Ok((priority, dropped(alloc, topology, paths)?))
+}
+
 fn put(alloc: Global, topology: &Topology) -> Result<(Option<u16>, usize), Fail> {
     let paths = Paths::make(alloc, topology)?;
-    Ok((
-        placed(alloc, topology, &paths)?,
-        dropped(alloc, topology, &paths)?,
-    ))
+    let found = both(alloc, topology, &paths);
+    drop(paths);
+    Ok(found?)
 }
 
 #[test]
 fn one_entry_for_all_ports_and_drops_for_others(rt: HostRuntime) -> Result<(), Fail> {
     let topology = topology(rt.alloc())?;
-    assert_eq!(rt; put(rt.alloc(), &topology)?, (Some(2), 2));
+    let found = put(rt.alloc(), &topology);
+    drop(topology);
+    assert_eq!(rt; found?, (Some(2), 2));
     Ok(())
 }

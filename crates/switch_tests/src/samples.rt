@@ -1,11 +1,10 @@
 //! What several tests start from.
 ghost use Rattle.of10_match.specs.Ranges.{IsVlan};
 
-use cv_io::List;
+use cv_io::{List, Memory};
 use of10_actions::Action;
 use of10_match::{Header, Match, UNTAGGED};
 use std::alloc::Global;
-use std::test::Fail;
 use switch_meaning::{Cable, FlowEntry, NextHop, Outside, SwitchPort, Wiring};
 
 pub fn by_port(port: u16) -> Match {
@@ -43,7 +42,7 @@ fn hop(from: u32, to: u32, port: u16) -> NextHop {
 }
 
 /// Three switches in a row: the first has the outside ports 1 and 3, the second 2, the third 4.
-pub fn in_a_row(alloc: Global) -> Result<Wiring, Fail> {
+pub fn in_a_row(alloc: Global) -> Result<Wiring, Memory> {
     let outside = [lies(1, 0, 1), lies(2, 1, 1), lies(3, 0, 2), lies(4, 2, 1)];
     let cables = [
         Cable {
@@ -93,7 +92,7 @@ pub fn entry(
     m: Match,
     priority: u16,
     actions: &[Action],
-) -> Result<FlowEntry, Fail> {
+) -> Result<FlowEntry, Memory> {
     Ok(FlowEntry {
         m,
         priority,
@@ -102,7 +101,7 @@ pub fn entry(
 }
 
 /// The list of one item.
-pub fn one<T: Drop>(alloc: Global, item: T) -> Result<List<T>, Fail> {
+pub fn one<T: Drop>(alloc: Global, item: T) -> Result<List<T>, Memory> {
     let mut list = List::new(alloc);
     list.push(item)?;
     Ok(list)
