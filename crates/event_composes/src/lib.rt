@@ -1,4 +1,5 @@
-//! What an event composes: each switch is written the change to what is wanted of it, from scratch or from what is kept.
+//! What an event composes: each switch is written the change to what is wanted of it, from scratch or from what
+//! is kept.
 #![tactic(auto)]
 
 pub mod composed;

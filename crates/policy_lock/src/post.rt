@@ -109,9 +109,10 @@ impl<M: Machine> PolicyLock<M> {
         self.asleep.fetch_sub(1, Ordering::SeqCst);
     }
 
-    // Wakes a seat that sleeps. A seat counts itself before it compares the word, and the word was changed before this
-    // looks at the count, so none falls asleep unseen. It stays counted until it is awake: the word of a machine that was
-    // taken, given back and taken again is the old one, on which a seat may still fall asleep after a wake found no one.
+    // Wakes a seat that sleeps. A seat counts itself before it compares the word, and the word was changed before
+    // this looks at the count, so none falls asleep unseen. It stays counted until it is awake: the word of a machine
+    // that was taken, given back and taken again is the old one, on which a seat may still fall asleep after a wake
+    // found no one.
     fn wake(&self) {
         if self.asleep.load(Ordering::SeqCst) > 0 {
             self.table.shared.wake_one(0);
