@@ -1,5 +1,5 @@
 //! A sink that counts the lines that are written to it, for others to see.
-use cv_io::{Failed, Sink};
+use outside::{Failed, Sink};
 use std::sync::atomic::{AtomicU64, Ordering};
 
 /// What is written to it is not kept.

@@ -6,9 +6,8 @@
 ghost use Rattle.std.specs.Prelude.{◌≡◌, ◌<◌};
 
 use covisor_proxy::{MEMORY, run};
-use cv_io::{
-    Dial, DiskFiles, Incoming, Links, Outgoing, ScopeSpawner, Steps, SystemClock, TcpLinks,
-};
+use cv_io::Steps;
+use outside::{Dial, DiskFiles, Incoming, Links, Outgoing, ScopeSpawner, SystemClock, TcpLinks};
 use std::io::ErrorKind;
 use std::marker::Brand;
 use std::process::ExitCode;

@@ -3,7 +3,7 @@ use Rattle.std.proofs.Common.{◌≡◌, ◌≤◌, ◌+◌, ◌-◌, min, ℕ, 
 use Rattle.std.proofs.Common.{sym, ap, ◌∙◌, subst, refl, append_assoc, length-drop, arith}
 use Rattle.std.proofs.Math.Seq.{take-add, take-append-add, take-length}
 use Rattle.std.proofs.lemmas.List.{append-nil, take-append-le, take_all, take_min}
-use Rattle.cv_io.specs.Outside.{AppendsFirst}
+use Rattle.outside.specs.Outside.{AppendsFirst}
 use Rattle.covisor_proxy.specs.Written.{Appends, AppendsSome}
 
 -- before the first write

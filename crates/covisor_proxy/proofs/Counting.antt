@@ -3,7 +3,7 @@ use Rattle.std.proofs.Common.{◌≡◌, ◌<◌, ◌≤◌, ◌+◌, ◌==◌, 
 use Rattle.std.proofs.Common.{Result, Ok, Err}
 use Rattle.std.proofs.Common.{length, sym, ap, ◌∙◌, subst, refl, arith, le_refl}
 use Rattle.std.specs.Prelude.{if◌then◌else◌}
-use Rattle.policy_file.specs.Policies.{PolicyOf}
+use Rattle.policies.specs.Policies.{PolicyOf}
 use Rattle.replay_report.specs.Playing.{Played}
 use Rattle.replay_report.specs.Reports.{Progress, cut_report_steps, further, no_steps, report_steps, start, steps_from}
 use Rattle.replay_report.specs.Reports.{steps_in}

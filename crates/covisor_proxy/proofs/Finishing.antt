@@ -4,19 +4,19 @@ use Rattle.std.proofs.Common.{take, codes}
 use Rattle.std.proofs.Common.{sym, ap, ◌∙◌, subst, refl, append_assoc, IsOk}
 use Rattle.std.proofs.lemmas.List.{append-nil}
 use Rattle.std.proofs.lemmas.Bool.{false≢true}
-use Rattle.cv_io.specs.Outside.{Rose}
-use Rattle.policy_file.specs.Policies.{PolicyOf}
+use Rattle.outside.specs.Outside.{Rose}
+use Rattle.policies.specs.Policies.{PolicyOf}
 use Rattle.replay_report.specs.Reports.{Progress, Report, after_text, end_text, lone, refusal_text}
 use Rattle.replay_report.specs.Takings.{as_line}
 use Rattle.script_text.specs.declared.form.Form.{Form}
-use Rattle.cv_io.specs.declared.files.FileFault.TheVariants as faults
-use Rattle.cv_io.specs.declared.files.MemFile.{MemFile}
+use Rattle.outside.specs.declared.files.FileFault.TheVariants as faults
+use Rattle.outside.specs.declared.files.MemFile.{MemFile}
 use Rattle.events.specs.declared.event.Event.{Event}
 use Rattle.events.specs.declared.event.Reply.{Reply}
 use Rattle.event_composes.specs.Meanings.{StateData}
 use Rattle.policy_lock.specs.declared.machine.Machine.{Ghosts}
-use Rattle.policy_file.specs.Terse.{terse}
-use Rattle.policy_file.specs.declared.fault.PolicyFault.{PolicyFault}
+use Rattle.policies.specs.Terse.{terse}
+use Rattle.policies.specs.declared.fault.PolicyFault.{PolicyFault}
 use Rattle.script_text.specs.declared.form.Form.TheVariants as forms
 use Rattle.covisor_proxy.specs.Asked.{Given, Scripts, cut_given_for, cut_given_of, given_for, given_of, line_alone}
 use Rattle.covisor_proxy.specs.Asked.{no_report, over, over_built_in}

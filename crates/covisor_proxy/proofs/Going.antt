@@ -3,7 +3,7 @@
 use Rattle.std.proofs.Common.{◌≡◌, ◌<◌, ◌≤◌, ◌+◌, ℕ, List, [], ◌++◌, Option, Some, None, Result, Ok, Err, length, take}
 use Rattle.std.proofs.Common.{sym, ap, ◌∙◌, subst, refl, append_assoc, arith, le_refl}
 use Rattle.std.proofs.lemmas.List.{append-nil}
-use Rattle.policy_file.specs.Policies.{PolicyOf}
+use Rattle.policies.specs.Policies.{PolicyOf}
 use Rattle.replay_report.specs.Playing.{Played}
 use Rattle.replay_report.specs.Reports.{Progress, Report, after_text, cut_after, cut_off, cut_report_of, ended, further}
 use Rattle.replay_report.specs.Reports.{plays_from}

@@ -3,8 +3,8 @@ use Rattle.std.proofs.Common.{◌≡◌, ◌<◌, ◌≤◌, ◌+◌, ℕ, Bool,
 use Rattle.std.proofs.Common.{Err, length}
 use Rattle.std.proofs.Common.{sym, ap, ◌∙◌, subst, refl, OnOk, IfErr}
 use Rattle.std.proofs.lemmas.List.{append-nil}
-use Rattle.cv_io.specs.Outside.{Rose}
-use Rattle.policy_file.specs.Policies.{PolicyOf}
+use Rattle.outside.specs.Outside.{Rose}
+use Rattle.policies.specs.Policies.{PolicyOf}
 use Rattle.replay_report.specs.Playing.{Played}
 use Rattle.replay_report.specs.Reports.{Progress, Report, after_text, ended, plays_from, plays_last, refused}
 use Rattle.replay_report.specs.Reports.{steps_from, steps_in, steps_of_last, taken}

@@ -6,7 +6,7 @@ use Rattle.std.specs.Prelude.{if◌then◌else◌}
 use Rattle.std.proofs.lemmas.Bool.{ltb-false, ltb-true}
 use Rattle.std.proofs.lemmas.List.{drop-drop, drop-take, length-take, take-append-drop}
 use Rattle.std.specs.List.{slice_range}
-use Rattle.cv_io.specs.Outside.{TakesNext}
+use Rattle.outside.specs.Outside.{TakesNext}
 use Rattle.covisor_proxy.specs.Chunks.{Gave, GoesOn, IsAtEnd, LinesOf, before_feed}
 use Rattle.covisor_proxy.specs.declared.lines.Taken.TheVariants.{Whole}
 use Rattle.covisor_proxy.specs.Outcomes.{IsScript}

@@ -1,16 +1,16 @@
 -- What a run is, by its status.
 use Rattle.std.proofs.Common.{◌≡◌, ◌≢◌, ◌≤◌, ◌+◌, ◌⊎◌, inl, inr, ℕ, List, [], ◌++◌, Option, Some, None, Result, Ok, Err}
 use Rattle.std.proofs.Common.{sym, ap, ◌∙◌, subst, refl, arith, le_refl}
-use Rattle.cv_io.specs.Outside.{Rose}
-use Rattle.cv_io.specs.declared.files.FileFault.{FileFault}
-use Rattle.cv_io.specs.declared.files.FileFault.TheVariants as faults
-use Rattle.cv_io.specs.declared.files.MemFile.{MemFile}
+use Rattle.outside.specs.Outside.{Rose}
+use Rattle.outside.specs.declared.files.FileFault.{FileFault}
+use Rattle.outside.specs.declared.files.FileFault.TheVariants as faults
+use Rattle.outside.specs.declared.files.MemFile.{MemFile}
 use Rattle.events.specs.declared.event.Event.{Event}
 use Rattle.events.specs.declared.event.Reply.{Reply}
 use Rattle.event_composes.specs.Meanings.{StateData}
 use Rattle.replay_report.specs.Making.{made_steps}
-use Rattle.policy_file.specs.Policies.{PolicyOf}
-use Rattle.policy_file.specs.declared.fault.PolicyFault.{PolicyFault}
+use Rattle.policies.specs.Policies.{PolicyOf}
+use Rattle.policies.specs.declared.fault.PolicyFault.{PolicyFault}
 use Rattle.policy_lock.specs.declared.machine.Machine.{Ghosts}
 use Rattle.replay_report.specs.Reports.{Report}
 use Rattle.script_text.specs.declared.form.Form.{Form}

@@ -1,7 +1,7 @@
 -- The statuses of reports and of runs.
 use Rattle.std.proofs.Common.{◌≡◌, ◌⊎◌, ◌∙◌, ◌==◌, inl, inr, ℕ, ◌+◌, List, [], ◌∷◌, Result, Ok, Err, ap, if◌then◌else◌}
 use Rattle.std.proofs.Common.{length, refl, sym}
-use Rattle.policy_file.specs.Policies.{PolicyOf}
+use Rattle.policies.specs.Policies.{PolicyOf}
 use Rattle.replay_report.specs.Playing.{Played}
 use Rattle.replay_report.specs.Reports.{Progress, Report, ended, goes_on, plays, plays_from, plays_last, report_of}
 use Rattle.replay_report.specs.Reports.{start}

@@ -1,14 +1,14 @@
 -- What the program writes and answers, and how many steps of composition it takes at most, as one function of its
 -- words, of what its files answer, and of its script.
 use Rattle.std.specs.Prelude.{◌≡◌, ℕ, List, [], ◌++◌, Option, Some, None, Result, Ok, Err, codes}
-use Rattle.cv_io.specs.declared.files.FileFault.{FileFault}
-use Rattle.cv_io.specs.declared.files.FileFault.TheVariants.{Absent, Failed, Memory}
+use Rattle.outside.specs.declared.files.FileFault.{FileFault}
+use Rattle.outside.specs.declared.files.FileFault.TheVariants.{Absent, Failed, Memory}
 use Rattle.made_script.specs.Summary.{summary_text}
 use Rattle.replay_report.specs.Making.{made_of, made_steps}
-use Rattle.policy_file.specs.Policies.{PolicyOf}
+use Rattle.policies.specs.Policies.{PolicyOf}
 use Rattle.policy_file.specs.Reading.{policy_in_bytes}
-use Rattle.policy_file.specs.Terse.{terse}
-use Rattle.policy_file.specs.declared.fault.PolicyFault.{PolicyFault}
+use Rattle.policies.specs.Terse.{terse}
+use Rattle.policies.specs.declared.fault.PolicyFault.{PolicyFault}
 use Rattle.replay_report.specs.Reports.{Report, cut_report_of, cut_report_steps, lone, report_of, report_steps}
 use Rattle.script_text.specs.declared.form.Form.{Form}
 use Rattle.script_text.specs.declared.form.Form.TheVariants as forms

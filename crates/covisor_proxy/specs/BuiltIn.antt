@@ -1,9 +1,9 @@
 -- The built-in policy, by its text: one member, `app`, at a virtual switch of the four ports of a switch.
 use Rattle.std.specs.Prelude.{ℕ, List, [], ◌∷◌, Result, codes}
 use Rattle.std.specs.List.{flat_map}
-use Rattle.policy_file.specs.Policies.{PolicyOf}
+use Rattle.policies.specs.Policies.{PolicyOf}
 use Rattle.policy_file.specs.Reading.{policy_in_bytes}
-use Rattle.policy_file.specs.declared.fault.PolicyFault.{PolicyFault}
+use Rattle.policies.specs.declared.fault.PolicyFault.{PolicyFault}
 use Rattle.replay_report.specs.Takings.{as_line}
 
 abbrev pub built_in_lines : List (List ℕ)

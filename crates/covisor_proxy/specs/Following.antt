@@ -1,8 +1,8 @@
 -- What only the proof keeps inside: how far a replay is with its script, its report and its steps of composition.
 use Rattle.std.specs.Prelude.{◌≡◌, ◌<◌, ◌≤◌, ◌+◌, ⊤, ◌⊎◌, ℕ, Bool, false, List, [], ◌++◌, Option, Some, Result, Ok, Err}
 use Rattle.std.specs.Prelude.{codes, length, take}
-use Rattle.cv_io.specs.Outside.{Rose}
-use Rattle.policy_file.specs.Policies.{PolicyOf}
+use Rattle.outside.specs.Outside.{Rose}
+use Rattle.policies.specs.Policies.{PolicyOf}
 use Rattle.replay_report.specs.Players.{Takes}
 use Rattle.replay_report.specs.Playing.{Played}
 use Rattle.replay_report.specs.Reports.{Progress, Report, after_text, ended, further, plays_from, plays_last, refused}

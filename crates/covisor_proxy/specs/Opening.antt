@@ -1,11 +1,11 @@
 -- What files answer to a name.
 use Rattle.std.specs.Prelude.{◌≡◌, ⊤, ℕ, List, Option, Some, None, Result, Ok, Err}
-use Rattle.cv_io.specs.Files.{found}
-use Rattle.cv_io.specs.Outside.{Rose}
-use Rattle.cv_io.specs.declared.files.FileFault.{FileFault}
-use Rattle.cv_io.specs.declared.files.FileFault.TheVariants.{Absent, Failed, Memory}
-use Rattle.cv_io.specs.declared.files.MemFile.{MemFile}
-use Rattle.policy_file.specs.Policies.{PolicyOf}
+use Rattle.outside.specs.Files.{found}
+use Rattle.outside.specs.Outside.{Rose}
+use Rattle.outside.specs.declared.files.FileFault.{FileFault}
+use Rattle.outside.specs.declared.files.FileFault.TheVariants.{Absent, Failed, Memory}
+use Rattle.outside.specs.declared.files.MemFile.{MemFile}
+use Rattle.policies.specs.Policies.{PolicyOf}
 use Rattle.covisor_proxy.specs.Asked.{stated}
 use Rattle.covisor_proxy.specs.declared.opening.NoPolicy.{NoPolicy}
 use Rattle.covisor_proxy.specs.declared.opening.NoPolicy.TheVariants as none

@@ -1,6 +1,6 @@
 -- How a run ends: what was read, what was written and what was counted with each status.
 use Rattle.std.specs.Prelude.{◌≡◌, ◌≤◌, ◌+◌, ◌⊎◌, ⊤, ℕ, List, ◌++◌, Option, Some, None, take}
-use Rattle.cv_io.specs.Outside.{Rose}
+use Rattle.outside.specs.Outside.{Rose}
 use Rattle.replay_report.specs.Reports.{Report}
 use Rattle.covisor_proxy.specs.Asked.{Given}
 use Rattle.covisor_proxy.specs.Chunks.{Gave}

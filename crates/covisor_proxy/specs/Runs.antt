@@ -1,14 +1,14 @@
 -- What a run is: its status, why it comes, what was written, and what was counted.
 use Rattle.std.specs.Prelude.{◌≡◌, ◌≢◌, ◌≤◌, ◌+◌, ◌⊎◌, ℕ, Bool, true, false, List, Option, Some, None, Result, Ok, Err}
-use Rattle.cv_io.specs.Outside.{Rose}
-use Rattle.cv_io.specs.declared.files.FileFault.{FileFault}
-use Rattle.cv_io.specs.declared.files.FileFault.TheVariants.{Memory}
-use Rattle.cv_io.specs.declared.files.MemFile.{MemFile}
+use Rattle.outside.specs.Outside.{Rose}
+use Rattle.outside.specs.declared.files.FileFault.{FileFault}
+use Rattle.outside.specs.declared.files.FileFault.TheVariants.{Memory}
+use Rattle.outside.specs.declared.files.MemFile.{MemFile}
 use Rattle.events.specs.declared.event.Event.{Event}
 use Rattle.events.specs.declared.event.Reply.{Reply}
 use Rattle.event_composes.specs.Meanings.{StateData}
 use Rattle.policy_lock.specs.declared.machine.Machine.{Ghosts}
-use Rattle.policy_file.specs.declared.fault.PolicyFault.{PolicyFault}
+use Rattle.policies.specs.declared.fault.PolicyFault.{PolicyFault}
 use Rattle.script_text.specs.declared.form.Form.{Form}
 use Rattle.covisor_proxy.specs.Asked.{cut_given_of, given_of, over_file, report_for, stated, steps_for}
 use Rattle.covisor_proxy.specs.Opening.{Answers, AnswersTo, Holds}

@@ -1,15 +1,15 @@
 -- How a run of `serve` ends.
 use Rattle.std.specs.Prelude.{◌≡◌, ◌⊎◌, ℕ, Bool, true, List, Option, Some, None, Result, Ok, Err, codes}
-use Rattle.cv_io.specs.Connections.{Connection}
-use Rattle.cv_io.specs.Outside.{Rose}
-use Rattle.cv_io.specs.declared.files.FileFault.{FileFault}
-use Rattle.cv_io.specs.declared.files.MemFile.{MemFile}
-use Rattle.cv_io.specs.declared.links.Endpoint.{Endpoint}
+use Rattle.outside.specs.Connections.{Connection}
+use Rattle.outside.specs.Outside.{Rose}
+use Rattle.outside.specs.declared.files.FileFault.{FileFault}
+use Rattle.outside.specs.declared.files.MemFile.{MemFile}
+use Rattle.outside.specs.declared.links.Endpoint.{Endpoint}
 use Rattle.events.specs.declared.event.Event.{Event}
 use Rattle.events.specs.declared.event.Reply.{Reply}
 use Rattle.event_composes.specs.Meanings.{StateData}
-use Rattle.policy_file.specs.Policies.{PolicyOf}
-use Rattle.policy_file.specs.declared.fault.PolicyFault.{PolicyFault}
+use Rattle.policies.specs.Policies.{PolicyOf}
+use Rattle.policies.specs.declared.fault.PolicyFault.{PolicyFault}
 use Rattle.policy_lock.specs.declared.machine.Machine.{Ghosts}
 use Rattle.policy_serving.specs.Served.{ServesPolicy}
 use Rattle.replay_report.specs.Takings.{as_line}

@@ -1,7 +1,7 @@
 //! The last line of a report.
 ghost use Rattle.std.specs.Prelude.{◌≡◌, ◌≢◌, ◌+◌, ◌++◌, Err, IfOk, IsOk, List, OnErr, OnOk, Option, ℕ};
-ghost use Rattle.cv_io.specs.Outside.{Rose};
-ghost use Rattle.policy_file.specs.Policies.{PolicyOf};
+ghost use Rattle.outside.specs.Outside.{Rose};
+ghost use Rattle.policies.specs.Policies.{PolicyOf};
 ghost use Rattle.replay_report.specs.Players.{progress_of, reported};
 ghost use Rattle.replay_report.specs.Reports.{end_text, refusal_text};
 ghost use Rattle.replay_report.specs.Takings.{as_line};
@@ -14,7 +14,8 @@ ghost use Rattle.covisor_proxy.specs.Written.{Appends, AppendsSome};
 use crate::status::Status;
 use crate::stop::Stop;
 use crate::writing::{flush, write_all};
-use cv_io::{Failed, Memory, Sink, Text};
+use cv_io::{Memory, Text};
+use outside::{Failed, Sink};
 use replay_report::{Kind, Player};
 use script_text::{say, say_number};
 use std::alloc::Global;

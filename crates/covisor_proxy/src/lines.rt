@@ -1,9 +1,10 @@
 //! The lines of a script, which is read a chunk at a time and never held whole.
 ghost use Rattle.std.specs.Prelude.{◌≡◌, [], IfOk, OnErr, OnOk, Some, None, length, false, ◌≤◌, ◌<◌, MatchOption};
-ghost use Rattle.cv_io.specs.Outside.{Rose};
+ghost use Rattle.outside.specs.Outside.{Rose};
 ghost use Rattle.covisor_proxy.specs.Chunks.{Gave, GoesOn, IsAtEnd, before_feed};
 
-use cv_io::{Bytes, Failed, Memory, Source};
+use cv_io::{Bytes, Memory};
+use outside::{Failed, Source};
 use std::alloc::Global;
 use std::marker::Model;
 

@@ -1,6 +1,6 @@
 //! The form `serve`.
 ghost use Rattle.std.specs.Prelude.{◌≡◌, ◌≢◌, List, Option, Some, ℕ};
-ghost use Rattle.cv_io.specs.Outside.{Rose};
+ghost use Rattle.outside.specs.Outside.{Rose};
 ghost use Rattle.command_line.specs.declared.command.Command.TheVariants as commands;
 ghost use Rattle.covisor_proxy.specs.Outcomes.{moment};
 ghost use Rattle.covisor_proxy.specs.Runs.{Ended};
@@ -10,9 +10,10 @@ use crate::ending::write_fault;
 use crate::opening::open;
 use crate::status::Status;
 use crate::telling::tell;
-use cv_io::{Clock, Dial, Files, Links, Sink, Spawner, Text};
+use cv_io::Text;
 use hyper_core::Hyper;
-use policy_file::Policy;
+use outside::{Clock, Dial, Files, Links, Sink, Spawner};
+use policies::Policy;
 use policy_lock::Machine;
 use policy_serving::serve_policy;
 use serving::Served;

@@ -3,8 +3,9 @@ ghost use Rattle.std.specs.Prelude.{◌≡◌, IfOk, Ok};
 ghost use Rattle.covisor_proxy.specs.BuiltIn.{built_in_read};
 ghost use Rattle.covisor_proxy.specs.Opening.{Opens, Reads};
 
-use cv_io::{FileFault, Files, Memory, Text};
-use policy_file::{Policy, PolicyFault};
+use cv_io::{Memory, Text};
+use outside::{FileFault, Files};
+use policies::{Policy, PolicyFault};
 use std::alloc::Global;
 
 /// Why there is no policy of a name.

@@ -1,6 +1,6 @@
 //! The top call.
 ghost use Rattle.std.specs.Prelude.{◌≡◌, ◌≢◌, ◌↔◌, ◌⊎◌, None, Some, true};
-ghost use Rattle.cv_io.specs.Outside.{Rose};
+ghost use Rattle.outside.specs.Outside.{Rose};
 ghost use Rattle.covisor_proxy.specs.Chunks.{IsAtEnd};
 ghost use Rattle.covisor_proxy.specs.Outcomes.{moment};
 ghost use Rattle.covisor_proxy.specs.Runs.{Ended, IsAbsent, IsComplete, IsCounted, IsRefused, Runs, calls, has_script};
@@ -12,8 +12,9 @@ use crate::forms::{make, replay_built_in, replay_file};
 use crate::live::serve_file;
 use crate::status::Status;
 use command_line::{Command, asked};
-use cv_io::{Clock, Dial, Files, Links, Sink, Source, Spawner, Steps};
+use cv_io::Steps;
 use hyper_core::Hyper;
+use outside::{Clock, Dial, Files, Links, Sink, Source, Spawner};
 use policy_lock::Machine;
 use script_text::Form;
 use std::alloc::Global;

@@ -2,9 +2,9 @@
 ghost use Rattle.std.specs.Prelude.{◌≡◌, ◌≢◌, ◌++◌, Err, IfOk, IsTrue, List, Option, codes, ℕ};
 ghost use Rattle.std.specs.List.{list_all};
 ghost use Rattle.script_text.specs.Lines.{is_ascii};
-ghost use Rattle.policy_file.specs.Terse.{terse as terse_of};
+ghost use Rattle.policies.specs.Terse.{terse as terse_of};
 ghost use Rattle.replay_report.specs.Takings.{as_line};
-ghost use Rattle.cv_io.specs.declared.files.MemFile.{MemFile};
+ghost use Rattle.outside.specs.declared.files.MemFile.{MemFile};
 ghost use Rattle.script_text.specs.declared.form.Form.{Form};
 ghost use Rattle.covisor_proxy.specs.Asked.{Scripts};
 ghost use Rattle.covisor_proxy.specs.Following.{Alone};
@@ -15,8 +15,9 @@ ghost use Rattle.covisor_proxy.specs.Serving.{EndsUnopened};
 use crate::ending::write_fault;
 use crate::opening::NoPolicy;
 use crate::status::Status;
-use cv_io::{Memory, Sink, Text};
-use policy_file::PolicyFault;
+use cv_io::{Memory, Text};
+use outside::Sink;
+use policies::PolicyFault;
 use script_text::say;
 use std::alloc::Global;
 

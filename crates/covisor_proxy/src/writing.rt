@@ -1,10 +1,10 @@
 //! What is written.
 ghost use Rattle.std.specs.Prelude.{◌≡◌, [], OnErr, OnOk};
-ghost use Rattle.cv_io.specs.Outside.{Rose};
+ghost use Rattle.outside.specs.Outside.{Rose};
 ghost use Rattle.replay_report.specs.Players.{form_of, is_ready, plan_of, progress_of, reported};
 ghost use Rattle.covisor_proxy.specs.Written.{Appends, AppendsSome};
 
-use cv_io::{Failed, Sink};
+use outside::{Failed, Sink};
 use replay_report::Player;
 
 /// Writes all bytes.

@@ -1,6 +1,6 @@
 -- Connections one after the other.
 use Rattle.std.proofs.Common.{◌≡◌, ◌⊎◌, ℕ, Bool, true, List, [], ◌∷◌, ◌++◌, Option, refl, subst, inl, inr}
-use Rattle.cv_io.specs.Connections.{Connection}
+use Rattle.outside.specs.Connections.{Connection}
 use Rattle.cv_io.specs.declared.leaf.Session.{Session}
 use Rattle.sessions.specs.declared.desk.Post.{Post}
 use Rattle.endpoint_works.specs.Chains.{AreRounds, IsGiven, IsRound}

@@ -1,7 +1,7 @@
 -- What is posted and written for the audit.
 use Rattle.std.specs.Prelude.{◌≡◌, ◌⊎◌, ℕ, List, [], ◌∷◌, ◌++◌, Option, All, take, ⊤}
 use Rattle.std.specs.List.{flat_map}
-use Rattle.cv_io.specs.Outside.{Rose}
+use Rattle.outside.specs.Outside.{Rose}
 use Rattle.cv_io.specs.declared.leaf.Session.{Session}
 use Rattle.cv_io.specs.declared.leaf.Who.TheVariants as whos
 use Rattle.sessions.specs.Posts.{taking}

@@ -1,6 +1,6 @@
 -- What a work posts of all connections of an endpoint.
 use Rattle.std.specs.Prelude.{◌≡◌, ◌⊎◌, ℕ, Bool, true, List, [], ◌∷◌, Option}
-use Rattle.cv_io.specs.Connections.{Connection, Gives}
+use Rattle.outside.specs.Connections.{Connection, Gives}
 use Rattle.cv_io.specs.declared.leaf.Session.{Session}
 use Rattle.sessions.specs.declared.desk.Post.{Post}
 use Rattle.endpoint_works.specs.Rounds.{RoundPosts, RoundWants}

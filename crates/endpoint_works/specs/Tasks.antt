@@ -1,6 +1,6 @@
 -- What a work has become.
 use Rattle.std.specs.Prelude.{◌≡◌, ℕ, Bool, true, false, List, [], IfSome, Option, Result, Ok, Err}
-use Rattle.cv_io.specs.Connections.{Connection}
+use Rattle.outside.specs.Connections.{Connection}
 use Rattle.cv_io.specs.declared.leaf.Session.{Session}
 use Rattle.cv_io.specs.declared.memory.Memory.{Memory}
 use Rattle.sessions.specs.declared.desk.Post.{Post}

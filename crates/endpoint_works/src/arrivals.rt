@@ -1,8 +1,8 @@
 //! What gives the connections of one endpoint, as a work takes them.
 ghost use Rattle.std.specs.Prelude.{◌≡◌, ◌↔◌, ℕ, Bool, true, List, [], Option, IfOk, IsOk, OnErr, IfSome, IsNone};
-ghost use Rattle.cv_io.specs.Connections.{Connection, Gives};
+ghost use Rattle.outside.specs.Connections.{Connection, Gives};
 
-use cv_io::{Dial, Failed, Sink, Source};
+use outside::{Dial, Failed, Sink, Source};
 
 /// What gives the connections of one endpoint. Each [`Dial`] is one, as [`Dialled`].
 ///

@@ -1,11 +1,12 @@
 //! The lines of the audit.
 ghost use Rattle.std.specs.Prelude.{◌≡◌, ◌∷◌, ◌++◌, [], IfOk, OnErr, OnOk};
-ghost use Rattle.cv_io.specs.Outside.{Rose};
+ghost use Rattle.outside.specs.Outside.{Rose};
 ghost use Rattle.sessions.specs.Streams.{Appends, AppendsSome};
 ghost use Rattle.endpoint_works.specs.Audits.{AuditPosts, HasAudited, IsAuditEnd, IsDrained, audit};
 
 use crate::others::Others;
-use cv_io::{Clock, Failed, Memory, Session, Sink, Who};
+use cv_io::{Memory, Session, Who};
+use outside::{Clock, Failed, Sink};
 use sessions::{Desk, Taken, write_all};
 use std::sync::Wait;
 

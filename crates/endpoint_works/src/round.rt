@@ -5,8 +5,9 @@ ghost use Rattle.endpoint_works.specs.Sides.{IsFew, IsOpenedFor, IsServedSide, I
 
 use crate::handover::{Hand, Handover};
 use crate::side::Side;
-use cv_io::{Memory, Sink, Source, Who};
+use cv_io::{Memory, Who};
 use of10_frames::Framer;
+use outside::{Sink, Source};
 use sessions::{Desk, OpenEnd, ReadEnd, open_member, open_switch, run_reader};
 use std::alloc::Global;
 use std::sync::Wait;

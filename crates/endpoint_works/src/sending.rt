@@ -2,7 +2,7 @@
 ghost use Rattle.endpoint_works.specs.Sendings.{HasSent};
 
 use crate::handover::Handover;
-use cv_io::{Clock, Sink};
+use outside::{Clock, Sink};
 use sessions::{Desk, WriteEnd, run_writer};
 use std::sync::Wait;
 

@@ -1,7 +1,7 @@
 //! One clock for many works.
 ghost use Rattle.std.specs.Prelude.{◌≡◌};
 
-use cv_io::Clock;
+use outside::Clock;
 use std::sync::atomic::{AtomicU64, Ordering};
 use std::sync::{Mutex, Wait};
 

@@ -14,7 +14,7 @@ use crate::receiving::{Received, receive};
 use crate::sending::{Sent, send};
 use crate::shared_clock::SharedClock;
 use crate::side::Side;
-use cv_io::{Clock, Sink, Work};
+use outside::{Clock, Sink, Work};
 use std::alloc::Global;
 use std::sync::Wait;
 

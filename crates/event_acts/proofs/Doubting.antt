@@ -7,7 +7,7 @@ use Rattle.std.specs.List.{enumerate_from}
 use Rattle.std.specs.Option.{option_map_or}
 use Rattle.member_state.specs.Changes.{rising_serials}
 use Rattle.member_table.specs.Timeouts.{is_idle_due}
-use Rattle.policy_file.specs.declared.policy.MemberItem.{MemberItem}
+use Rattle.policies.specs.declared.policy.MemberItem.{MemberItem}
 use Rattle.machine_drafts.specs.InsideTicking.{doubts_on, doubts_on_member}
 use Rattle.machine_meaning.specs.Names.{virtual_of}
 use Rattle.machine_meaning.specs.States.{MemberOf, State}

@@ -4,7 +4,7 @@ use Rattle.std.proofs.lemmas.List.Elements.{All-from_recursion}
 use Rattle.cv_io.specs.Text.{IsAsciiText}
 use Rattle.policy_expr.specs.declared.fault.ExprFault.{ExprFault}
 use Rattle.policy_expr.specs.declared.fault.ExprFault.TheVariants as faults
-use Rattle.policy_file.specs.Terse.{expr_kind}
+use Rattle.policies.specs.Terse.{expr_kind}
 
 pub ascii_kind : (fault : ExprFault) → IsAsciiText (expr_kind fault)
 ascii_kind (faults.Syntax at) = All-from_recursion (λ b. b < 128) (codes "syntax") (search rules)

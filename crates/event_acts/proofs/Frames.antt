@@ -11,7 +11,7 @@ use Rattle.of10_stats.specs.declared.fault.StatsFault.{StatsFault}
 use Rattle.of10_stats.specs.declared.reply.ReplyBody.{ReplyBody}
 use Rattle.of10_stats.specs.declared.reply.ReplyBody.TheVariants as replies
 use Rattle.of10_stats.specs.declared.reply.StatsReply.{StatsReply}
-use Rattle.policy_file.specs.Policies.{PolicyOf}
+use Rattle.policies.specs.Policies.{PolicyOf}
 use Rattle.machine_meaning.specs.Drafts.{Draft}
 use Rattle.event_acts.specs.Heard.{body_heard, heard_in, part_heard, read_heard, reply_heard}
 use Rattle.event_acts.specs.HeardActs.{acts_on, comes_from, comes_of}

@@ -17,7 +17,7 @@ use Rattle.of10_msgs.specs.declared.message.Body.TheVariants as bodies
 use Rattle.of10_msgs.specs.declared.message.PacketOut.{PacketOut}
 use Rattle.policy_meaning.specs.Walk.{nowhere}
 use Rattle.pkt_bytes.specs.Headers.{header_in}
-use Rattle.policy_file.specs.Policies.{PolicyOf}
+use Rattle.policies.specs.Policies.{PolicyOf}
 use Rattle.policy_meaning.specs.declared.walking.Walked.{Walked}
 use Rattle.machine_meaning.specs.Drafts.{Draft}
 use Rattle.machine_meaning.specs.Packets.{gives, leaving, packet_goes, sent_in, telling}

@@ -4,8 +4,8 @@ use Rattle.policy_expr.specs.Outcomes.{IsFaultOf}
 use Rattle.policy_expr.specs.Policy.{Policy}
 use Rattle.policy_expr.specs.declared.fault.ExprFault.{ExprFault}
 use Rattle.policy_expr.specs.declared.fault.ExprFault.TheVariants as exprs
-use Rattle.policy_file.specs.declared.fault.PolicyFault.{PolicyFault}
-use Rattle.policy_file.specs.declared.fault.PolicyFault.TheVariants as faults
+use Rattle.policies.specs.declared.fault.PolicyFault.{PolicyFault}
+use Rattle.policies.specs.declared.fault.PolicyFault.TheVariants as faults
 use Rattle.machine_meaning.specs.Replacing.{width_refusal}
 
 -- a fault that isn't want of memory is the one that is wanted

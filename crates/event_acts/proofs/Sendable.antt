@@ -15,8 +15,8 @@ use Rattle.of10_stats.specs.declared.request.StatsRequest.TheVariants as statist
 use Rattle.pkt_bytes.specs.Headers.{header_in}
 use Rattle.pkt_bytes.specs.Rewritten.{rewritten}
 use Rattle.pkt_bytes.proofs.BytesAfter.{length_stays}
-use Rattle.policy_file.specs.Policies.{PolicyOf, plan}
-use Rattle.policy_file.specs.declared.policy.MemberItem.{MemberItem}
+use Rattle.policies.specs.Policies.{PolicyOf, plan}
+use Rattle.policies.specs.declared.policy.MemberItem.{MemberItem}
 use Rattle.policy_meaning.specs.declared.walking.PortOut.{PortOut}
 use Rattle.virtual_topology.specs.Rows.{Spot}
 use Rattle.virtual_topology.specs.Wires.{outside_of}

@@ -17,9 +17,9 @@ use Rattle.of10_stats.specs.declared.reply.StatsReply.{StatsReply}
 use Rattle.policy_expr.specs.Policy.{Policy}
 use Rattle.policy_expr.specs.Reading.{reading as reading_of_expression}
 use Rattle.policy_expr.specs.declared.fault.ExprFault.{ExprFault}
-use Rattle.policy_file.specs.Exprs.{names}
-use Rattle.policy_file.specs.Policies.{PolicyOf, plan}
-use Rattle.policy_file.specs.Widths.{too_wide_in}
+use Rattle.policies.specs.Exprs.{names}
+use Rattle.policies.specs.Policies.{PolicyOf, plan}
+use Rattle.policies.specs.Widths.{too_wide_in}
 use Rattle.script_text.specs.declared.audit.DownCause.TheVariants as causes
 use Rattle.switch_meaning.specs.Counts.{Numbers}
 use Rattle.switch_meaning.specs.Keys.{installed}

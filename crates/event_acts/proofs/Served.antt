@@ -14,8 +14,8 @@ use Rattle.of10_msgs.specs.declared.fault.FormFault.{FormFault}
 use Rattle.of10_msgs.specs.declared.message.Body.{Body}
 use Rattle.of10_msgs.specs.declared.message.Message.{Message}
 use Rattle.member_state.specs.States.{HeldState, MemberStateOf}
-use Rattle.policy_file.specs.Policies.{PolicyOf}
-use Rattle.policy_file.specs.declared.policy.MemberItem.{MemberItem}
+use Rattle.policies.specs.Policies.{PolicyOf}
+use Rattle.policies.specs.declared.policy.MemberItem.{MemberItem}
 use Rattle.machine_meaning.specs.Denials.{denial}
 use Rattle.machine_meaning.specs.Drafts.{Draft}
 use Rattle.machine_meaning.specs.Glances.{is_frame}

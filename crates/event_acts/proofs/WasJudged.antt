@@ -3,8 +3,8 @@ use Rattle.std.proofs.Common.{◌≡◌, ℕ, zero, suc, ◌<◌, List, [], ◌�
 use Rattle.std.proofs.Common.{refl, sym, ap, ap₂, subst, ◌∙◌, arith}
 use Rattle.std.proofs.Math.Seq.{map-set_same}
 use Rattle.member_state.specs.States.{HeldState, MemberStateOf}
-use Rattle.policy_file.specs.Policies.{PolicyOf}
-use Rattle.policy_file.specs.declared.policy.MemberItem.{MemberItem}
+use Rattle.policies.specs.Policies.{PolicyOf}
+use Rattle.policies.specs.declared.policy.MemberItem.{MemberItem}
 use Rattle.event_acts.specs.InsideHearing.{IsJudgedAt, WasJudged}
 use Rattle.event_acts.specs.InsideJudging.{IsJudged}
 use Rattle.machine_drafts.specs.MemberDrafts.{MemberDraftOf, standing_member}

@@ -4,8 +4,8 @@ use Rattle.cv_io.specs.declared.leaf.Who.{Who}
 use Rattle.cv_io.specs.declared.leaf.Who.TheVariants.{Member}
 use Rattle.events.specs.declared.event.Event.{Event}
 use Rattle.events.specs.declared.event.Event.TheVariants.{Msg}
-use Rattle.policy_file.specs.Policies.{PolicyOf}
-use Rattle.policy_file.specs.declared.policy.MemberItem.{MemberItem}
+use Rattle.policies.specs.Policies.{PolicyOf}
+use Rattle.policies.specs.declared.policy.MemberItem.{MemberItem}
 use Rattle.event_acts.specs.InsideHearing.{IsJudgedAt, WasJudged}
 use Rattle.machine_drafts.specs.MemberDrafts.{MemberDraftOf}
 use Rattle.machine_drafts.specs.declared.held.Held.{Held}

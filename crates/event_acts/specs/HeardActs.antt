@@ -1,7 +1,7 @@
 -- What comes of what a switch's frame tells.
 use Rattle.std.specs.Prelude.{ℕ, Option, Some, None, slice_get}
 use Rattle.of10_stats.specs.declared.reply.ReplyBody.TheVariants as replies
-use Rattle.policy_file.specs.Policies.{PolicyOf}
+use Rattle.policies.specs.Policies.{PolicyOf}
 use Rattle.script_text.specs.declared.audit.DownCause.TheVariants as causes
 use Rattle.machine_meaning.specs.Barriers.{barrier_replied}
 use Rattle.machine_meaning.specs.Drafts.{Draft}

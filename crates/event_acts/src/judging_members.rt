@@ -11,7 +11,7 @@ use cv_io::Memory;
 use machine_drafts::session::Member;
 use machine_drafts::setup::Setup;
 use member_state::MemberState;
-use policy_file::MemberItem;
+use policies::MemberItem;
 
 /// Judges a frame of a member by its table and levels.
 fn judge_kept(

@@ -35,7 +35,7 @@ use machine_drafts::switch_draft::SwitchDraft;
 use machine_meaning::{Config, Letter};
 use member_replies::{config_reply, deny_line, echo_reply, error, features_reply};
 use of10_frames::xid_of;
-use policy_file::MemberItem;
+use policies::MemberItem;
 
 /// A message is refused: its sender gets an ERROR, and the audit a line.
 fn refuse(

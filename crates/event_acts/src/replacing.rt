@@ -3,8 +3,8 @@ ghost use Rattle.std.specs.Prelude.{◌≡◌, IfOk, Ok, OnOk, Some, map};
 ghost use Rattle.policy_expr.specs.Policy.{policy_of};
 ghost use Rattle.policy_expr.specs.Reading.{reading};
 ghost use Rattle.machine_drafts.specs.ExprsDrafts.{IsReadAs};
-ghost use Rattle.policy_file.specs.Policies.{plan};
-ghost use Rattle.policy_file.specs.Widths.{too_wide_in};
+ghost use Rattle.policies.specs.Policies.{plan};
+ghost use Rattle.policies.specs.Widths.{too_wide_in};
 ghost use Rattle.machine_meaning.specs.Names.{virtual_name as virtual_name_of};
 ghost use Rattle.machine_drafts.specs.Outcomes.{bases, draft_in};
 ghost use Rattle.machine_meaning.specs.Replacing.{exprs_with as exprs_with_of, refusal_kind as refusal_kind_of};
@@ -18,8 +18,8 @@ use machine_drafts::exprs_draft::{Exprs, set_expr};
 use machine_drafts::outcome::Outcome;
 use machine_drafts::setup::Setup;
 use member_replies::policy_line;
+use policies::{PolicyFault, check_widths, expr_kind, names};
 use policy_expr::{Expr, ExprFault, MemberName, parse};
-use policy_file::{PolicyFault, check_widths, expr_kind, names};
 use std::alloc::Global;
 
 /// The name of a virtual switch.

@@ -15,7 +15,7 @@ use machine_drafts::polls::begin_poll;
 use machine_drafts::setup::Setup;
 use member_replies::{Filter, desc_reply, table_reply};
 use of10_stats::StatsRequest;
-use policy_file::MemberItem;
+use policies::MemberItem;
 use std::alloc::Global;
 use waitings::{Asker, Purpose};
 

@@ -23,7 +23,7 @@ use machine_drafts::outcome::Outcome;
 use machine_drafts::owing::Owing;
 use machine_drafts::polls::begin_poll;
 use machine_drafts::setup::Setup;
-use policy_file::MemberItem;
+use policies::MemberItem;
 use waitings::{Doubt, Purpose};
 
 /// The reason of entries that have stood for their hard timeouts.

@@ -10,7 +10,7 @@ use Rattle.composed_tables.specs.Rules.{RulesOf}
 use Rattle.composed_tables.specs.Steps.{building_steps, setting_steps}
 use Rattle.events.specs.declared.event.Event.{Event}
 use Rattle.events.specs.declared.event.Event.TheVariants.{Up, Msg, Gone, Tick, Take, Policy}
-use Rattle.policy_file.specs.Policies.{PolicyOf, plan}
+use Rattle.policies.specs.Policies.{PolicyOf, plan}
 use Rattle.setting_laws.specs.Mixed.{mixed}
 use Rattle.virtual_topology.specs.declared.plan.TopologyPlan.{TopologyPlan}
 use Rattle.machine_meaning.specs.Drafts.{Draft}

@@ -10,8 +10,8 @@ use Rattle.composed_tables.specs.Composing.{AreTables, ComposedOf, IsGood}
 use Rattle.composed_tables.proofs.After.{good-no-twins}
 use Rattle.install_plan.specs.Tables.{IsTable}
 use Rattle.install_plan.specs.declared.written.Written.{Written}
-use Rattle.policy_file.specs.Policies.{PolicyOf}
-use Rattle.policy_file.specs.Sound.{IsSound}
+use Rattle.policies.specs.Policies.{PolicyOf}
+use Rattle.policies.specs.Sound.{IsSound}
 use Rattle.setting_laws.specs.Drafted.{HaveSerials}
 use Rattle.setting_laws.specs.Ready.{SettingsAreReady}
 use Rattle.setting_laws.proofs.Staying.{leaves_stay, settings_stay}

@@ -4,7 +4,7 @@ use Rattle.std.specs.Prelude.{IfOk, Err, Ok, Result, is_some}
 use Rattle.agreement.specs.declared.state.Setting.{Setting}
 use Rattle.composed_tables.specs.Composing.{ComposedOf, IsOf}
 use Rattle.composed_tables.specs.Rules.{RulesOf}
-use Rattle.policy_file.specs.Policies.{PolicyOf, plan}
+use Rattle.policies.specs.Policies.{PolicyOf, plan}
 use Rattle.virtual_topology.specs.declared.plan.TopologyPlan.{TopologyPlan}
 use Rattle.machine_meaning.specs.Settings.{setting_of}
 use Rattle.machine_meaning.specs.Sound.{AreSoundTables, IsSoundState}

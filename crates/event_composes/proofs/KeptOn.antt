@@ -11,8 +11,8 @@ use Rattle.events.specs.declared.event.Event.{Event}
 use Rattle.events.specs.declared.event.Reply.{Reply}
 use Rattle.install_plan.specs.Tables.{entry_of}
 use Rattle.install_plan.specs.declared.written.Written.{Written}
-use Rattle.policy_file.specs.Policies.{PolicyOf}
-use Rattle.policy_file.specs.Sound.{IsSound}
+use Rattle.policies.specs.Policies.{PolicyOf}
+use Rattle.policies.specs.Sound.{IsSound}
 use Rattle.setting_laws.specs.Drafted.{HaveSerials}
 use Rattle.setting_laws.proofs.Drafted.{drafts_sound, heard_sound, serials_stay, settled_sound}
 use Rattle.setting_laws.proofs.Staying.{leaves_stay, settings_stay, steps_stay, takings_stay}

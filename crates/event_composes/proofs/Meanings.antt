@@ -13,7 +13,7 @@ use Rattle.cv_io.specs.declared.leaf.Leaf.{Leaf}
 use Rattle.cv_io.specs.declared.memory.Memory.{Memory}
 use Rattle.events.specs.declared.event.Event.{Event}
 use Rattle.events.specs.declared.event.Reply.{Reply}
-use Rattle.policy_file.specs.Policies.{PolicyOf}
+use Rattle.policies.specs.Policies.{PolicyOf}
 use Rattle.stats_map.specs.Counting.{Cookies, CountsOf, Place, all_ended, cookie_at, ended, installed_at}
 use Rattle.stats_map.specs.Counting.{is_named, of_switch, reported_on, swept, with_numbers}
 use Rattle.stats_map.specs.Histories.{Dropped, Step, Told, WentDown, Wrote, after, gone, gone_at, gone_by, run}

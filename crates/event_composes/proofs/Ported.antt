@@ -2,7 +2,7 @@
 use Rattle.std.proofs.Common.{◌≡◌, ◌∙◌, ℕ, Bool, List, Some, None, sym, ap}
 use Rattle.std.specs.Prelude.{option_map, slice_get}
 use Rattle.policy_expr.specs.Policy.{Policy}
-use Rattle.policy_file.specs.Policies.{PolicyOf, plan}
+use Rattle.policies.specs.Policies.{PolicyOf, plan}
 use Rattle.policy_meaning.specs.Networks.{ports_of}
 use Rattle.policy_setting.specs.Networks.{virtual_switch}
 use Rattle.policy_setting.specs.OfPolicies.{seen}

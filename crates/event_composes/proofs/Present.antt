@@ -1,7 +1,7 @@
 -- What composition reads of the present state.
 use Rattle.std.proofs.Common.{◌≡◌, ◌∙◌, List, ap}
 use Rattle.agreement.specs.declared.state.Setting.{Setting}
-use Rattle.policy_file.specs.Policies.{PolicyOf}
+use Rattle.policies.specs.Policies.{PolicyOf}
 use Rattle.machine_meaning.specs.Drafts.{Draft, untouched}
 use Rattle.machine_meaning.specs.Settings.{setting_of, setting_with}
 use Rattle.machine_drafts.specs.Machines.{at_moment, state_in_held}

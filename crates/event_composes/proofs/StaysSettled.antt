@@ -9,7 +9,7 @@ use Rattle.cv_io.specs.declared.leaf.Who.TheVariants.{Audit, Member, Switch}
 use Rattle.events.specs.declared.event.Event.{Event}
 use Rattle.install_plan.specs.declared.written.Written.{Written}
 use Rattle.outbox.specs.Outboxes.{OutboxOf, later, taken}
-use Rattle.policy_file.specs.Policies.{PolicyOf}
+use Rattle.policies.specs.Policies.{PolicyOf}
 use Rattle.policy_setting.specs.OfPolicies as of_policies
 use Rattle.switch_meaning.specs.Keys.{installed}
 use Rattle.switch_meaning.specs.declared.entry.PhysEntry.{PhysEntry}

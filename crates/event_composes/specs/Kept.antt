@@ -7,7 +7,7 @@ use Rattle.composed_tables.specs.Rules.{RulesOf}
 use Rattle.events.specs.declared.event.Event.{Event}
 use Rattle.install_plan.specs.Tables.{entry_of}
 use Rattle.install_plan.specs.declared.written.Written.{Written}
-use Rattle.policy_file.specs.Policies.{PolicyOf, plan}
+use Rattle.policies.specs.Policies.{PolicyOf, plan}
 use Rattle.setting_laws.specs.Drafted.{HaveSerials}
 use Rattle.switch_meaning.specs.Batches.{by_key}
 use Rattle.switch_meaning.specs.Keys.{installed}

@@ -12,7 +12,7 @@ use Rattle.events.specs.declared.event.Event.{Event}
 use Rattle.events.specs.declared.event.Reply.{Reply}
 use Rattle.install_plan.specs.declared.written.Written.{Written}
 use Rattle.policy_expr.specs.Policy.{Policy}
-use Rattle.policy_file.specs.Policies.{PolicyOf}
+use Rattle.policies.specs.Policies.{PolicyOf}
 use Rattle.stats_map.specs.Counting.{Cookies, CountsOf}
 use Rattle.stats_map.specs.Histories.{Dropped, Step, Told, WentDown, Wrote, gone}
 use Rattle.switch_meaning.specs.Counts.{Cookie, Numbers}

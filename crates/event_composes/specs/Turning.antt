@@ -2,7 +2,7 @@
 use Rattle.std.specs.Prelude.{◌≡◌, ℕ, List, Some, length, slice_get}
 use Rattle.composed_tables.specs.Composing.{ComposedOf}
 use Rattle.policy_expr.specs.Policy.{Policy}
-use Rattle.policy_file.specs.Policies.{PolicyOf}
+use Rattle.policies.specs.Policies.{PolicyOf}
 use Rattle.policy_meaning.specs.Networks.{ports_of}
 use Rattle.policy_meaning.specs.Switches.{SwitchOf as VirtualOf}
 use Rattle.setting_laws.specs.Mixed.{mixed}

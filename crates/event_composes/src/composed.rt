@@ -54,7 +54,7 @@ pub fn present(setup: &Setup, held: &Held) -> Result<Setting, Memory>
 }
 
 /// The entries that a switch is to have.
-pub fn wanted(alloc: Global, setting: &Setting, n: u32) -> Result<List<PhysEntry>, Memory>
+pub(crate) fn wanted(alloc: Global, setting: &Setting, n: u32) -> Result<List<PhysEntry>, Memory>
     requires { IsFittingSetting setting.now }
     ensures { IfOk result (λ wanted. wanted ≡ installed_of (entries_of_of setting.now n)) }
 {

@@ -210,7 +210,7 @@ fn compose_all(
 }
 
 /// The switches of a draft are composed of what is wanted of them.
-pub fn compose_from(
+pub(crate) fn compose_from(
     alloc: Global,
     source: &Source<'_>,
     draft: &mut Outcome<'_>,

@@ -36,7 +36,7 @@ fn are_tables(composed: &Composed)
 }
 
 /// What is kept changes with the draft, and each switch that is up is written the change.
-pub fn compose_on<G: Ledger>(
+pub(crate) fn compose_on<G: Ledger>(
     setup: &Setup,
     draft: &mut Outcome<'_>,
     composed: &mut Composed,

@@ -25,7 +25,7 @@ use told_batches::{Change, change_between, change_told};
 
 /// Where what is wanted of switches comes from.
 #[derive(Drop)]
-pub enum Source<'a> {
+pub(crate) enum Source<'a> {
     /// From scratch.
     Anew(&'a Setting),
     /// It is kept, and this was told as it changed.
@@ -155,7 +155,7 @@ fn change_anew(
 impl<'a> Source<'a> {
     /// The change of a switch that is up to what is wanted of it; none only where that stands, and its round doesn't
     /// begin.
-    pub fn change(
+    pub(crate) fn change(
         &self,
         alloc: Global,
         begins: bool,

@@ -20,7 +20,7 @@ use std::sync::ledger::Ledger;
 
 /// What was told of the changes of members' rules.
 #[derive(Drop)]
-pub enum Turned {
+pub(crate) enum Turned {
     /// No rules changed.
     Nothing,
     /// Those of one member did, and this was told of each switch.
@@ -99,7 +99,7 @@ fn turn_member<G: Ledger>(
 }
 
 /// What is kept changes with what is planned for each member's table.
-pub fn turn<G: Ledger>(
+pub(crate) fn turn<G: Ledger>(
     setup: &Setup,
     draft: &Outcome<'_>,
     composed: &mut Composed,

@@ -37,7 +37,7 @@ fn are_unmoved(switches: &[SwitchDraft<'_>]) -> bool
 }
 
 /// Nothing that composition reads changed since the event began, and no round of a switch begins.
-pub fn is_unchanged(draft: &Outcome<'_>) -> bool
+pub(crate) fn is_unchanged(draft: &Outcome<'_>) -> bool
     ensures { IsTrue result → IsUnchanged draft.now }
 {
     begins_none(&draft.begun)

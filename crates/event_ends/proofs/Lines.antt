@@ -5,7 +5,7 @@ use Rattle.std.specs.Prelude.{◌==◌, filter, flat_map, map, slice_get}
 use Rattle.std.specs.List.{enumerate_from}
 use Rattle.std.specs.Option.{option_map_or}
 use Rattle.member_replies.specs.Audit.{down_line}
-use Rattle.policy_file.specs.Policies.{PolicyOf}
+use Rattle.policies.specs.Policies.{PolicyOf}
 use Rattle.virtual_topology.specs.declared.plan.SwitchItem.{SwitchItem}
 use Rattle.event_ends.specs.Boxes.{down_lines_at}
 use Rattle.machine_meaning.specs.Names.{switch_name}

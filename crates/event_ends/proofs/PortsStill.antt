@@ -4,8 +4,8 @@ use Rattle.std.proofs.Common.{refl, sym, ap, ap₂, subst}
 use Rattle.std.specs.Prelude.{flat_map, if◌then◌else◌}
 use Rattle.std.specs.List.{AllByRecursion}
 use Rattle.std.specs.Option.{option_map_or}
-use Rattle.policy_file.specs.Policies.{PolicyOf, plan}
-use Rattle.policy_file.specs.declared.policy.MemberItem.{MemberItem}
+use Rattle.policies.specs.Policies.{PolicyOf, plan}
+use Rattle.policies.specs.declared.policy.MemberItem.{MemberItem}
 use Rattle.switch_state.specs.Known.{KnownOf, is_dark}
 use Rattle.virtual_topology.specs.Rows.{Spot}
 use Rattle.virtual_topology.specs.Wires.{outside_of}

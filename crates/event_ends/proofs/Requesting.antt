@@ -7,7 +7,7 @@ use Rattle.std.proofs.Math.Seq.{take-append_seam}
 use Rattle.std.proofs.lemmas.List.{length-map}
 use Rattle.install_plan.specs.declared.written.Written.{Written}
 use Rattle.outbox.specs.Outboxes.{OutboxOf}
-use Rattle.policy_file.specs.Policies.{PolicyOf}
+use Rattle.policies.specs.Policies.{PolicyOf}
 use Rattle.switch_state.specs.Messages.{packet_out}
 use Rattle.machine_meaning.specs.Barriers.{with_known as known_as}
 use Rattle.machine_meaning.specs.Composing.{sent_to}

@@ -2,8 +2,8 @@
 use Rattle.std.specs.Prelude.{ℕ, Bool, false, ◌==◌, List, [], ◌∷◌, flat_map, if◌then◌else◌, map}
 use Rattle.std.specs.Option.{option_map_or}
 use Rattle.member_replies.specs.Switches.{port_changed}
-use Rattle.policy_file.specs.Policies.{PolicyOf, plan}
-use Rattle.policy_file.specs.declared.policy.MemberItem.{MemberItem}
+use Rattle.policies.specs.Policies.{PolicyOf, plan}
+use Rattle.policies.specs.declared.policy.MemberItem.{MemberItem}
 use Rattle.virtual_topology.specs.Rows.{Spot}
 use Rattle.virtual_topology.specs.Wires.{outside_of}
 use Rattle.virtual_topology.specs.declared.plan.TopologyPlan.{TopologyPlan}

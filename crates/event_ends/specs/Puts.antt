@@ -2,7 +2,7 @@
 use Rattle.std.specs.Prelude.{◌≡◌, ◌+◌, ◌<◌, ◌^◌, ◌++◌, Bool, true, false, List, length, map, unwrap_or}
 use Rattle.install_plan.specs.declared.written.Written.{Written}
 use Rattle.stats_map.specs.Changes.{CanMake, made}
-use Rattle.policy_file.specs.Policies.{PolicyOf}
+use Rattle.policies.specs.Policies.{PolicyOf}
 use Rattle.event_ends.specs.Boxes.{addressed}
 use Rattle.event_ends.specs.Closings.{closing_of}
 use Rattle.machine_drafts.specs.ExprsDrafts.{replaced_in}

@@ -2,9 +2,8 @@
 ghost use Rattle.std.specs.Prelude.{◌≡◌, ◌==◌, ◌++◌, ◌<◌, ◌^◌, IfOk, OnOk, filter, flat_map, length, map};
 ghost use Rattle.std.specs.List.{enumerate_from};
 ghost use Rattle.member_replies.specs.Audit.{down_line as down_line_of, slow_line as slow_line_of};
-ghost use Rattle.machine_meaning.specs.Lists.{places};
-ghost use Rattle.event_ends.specs.Boxes.{down_lines_at};
-ghost use Rattle.machine_meaning.specs.Putting.{down_lines, slow_lines};
+ghost use Rattle.event_ends.specs.Boxes.{down_lines_at, told_lines};
+ghost use Rattle.machine_meaning.specs.Putting.{slow_lines};
 ghost use Rattle.machine_meaning.specs.declared.said.Down.{Down as DownOf};
 
 use cv_io::{Bytes, List, Memory, Text};
@@ -12,7 +11,7 @@ use machine_drafts::setup::Setup;
 use machine_meaning::Down;
 use member_replies::{down_line, slow_line};
 use outbox::Letters;
-use policy_file::MemberItem;
+use policies::MemberItem;
 use std::alloc::Global;
 use virtual_topology::SwitchItem;
 
@@ -109,9 +108,7 @@ fn push_slows(
 
 /// The lines that the audit is put.
 pub fn lines(setup: &Setup, said: ToAudit) -> Result<Letters, Memory>
-    ensures { IfOk result (λ lines. lines ≡ said.policies ++ (said.denials
-        ++ (flat_map (down_lines setup.now said.downs) (places setup.now.switches)
-        ++ (flat_map (slow_lines said.slows) (enumerate_from 0 setup.now.members) ++ said.notes)))) }
+    ensures { IfOk result (λ lines. lines ≡ told_lines setup.now said) }
 {
     let alloc = setup.alloc();
     let mut lines = Letters::new(alloc);

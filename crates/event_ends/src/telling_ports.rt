@@ -1,8 +1,8 @@
 //! Members are told which outside ports went dark, and which aren't dark any more.
 ghost use Rattle.std.specs.Prelude.{◌≡◌, ◌++◌, ◌<◌, IsTrue, OnOk, flat_map, length, map};
 ghost use Rattle.std.specs.List.{AllByRecursion, enumerate_from};
-ghost use Rattle.policy_file.specs.declared.policy.MemberItem.{MemberItem as MemberItemOf};
-ghost use Rattle.policy_file.specs.Policies.{plan};
+ghost use Rattle.policies.specs.declared.policy.MemberItem.{MemberItem as MemberItemOf};
+ghost use Rattle.policies.specs.Policies.{plan};
 ghost use Rattle.machine_drafts.specs.InsideSwitches.{is_dark_among, is_dark_over};
 ghost use Rattle.event_ends.specs.InsideTelling.{letters_on, lies_over, member_letters, switches_before};
 ghost use Rattle.event_ends.specs.InsideTelling.{turn_letters};
@@ -22,7 +22,7 @@ use machine_drafts::setup::Setup;
 use machine_drafts::switch_draft::SwitchDraft;
 use machine_meaning::Letter;
 use member_replies::port_status;
-use policy_file::MemberItem;
+use policies::MemberItem;
 use std::alloc::Global;
 use virtual_topology::Topology;
 

@@ -3,7 +3,7 @@ use Rattle.std.specs.Prelude.{ℕ, List, ◌∷◌, ◌++◌, [], Option, flat_m
 use Rattle.explain_path.specs.Traces.{trace}
 use Rattle.install_plan.specs.declared.written.Written.{Written}
 use Rattle.pkt_bytes.specs.Headers.{header_in}
-use Rattle.policy_file.specs.Policies.{PolicyOf, plan}
+use Rattle.policies.specs.Policies.{PolicyOf, plan}
 use Rattle.policy_meaning.specs.Networks.{ground_of}
 use Rattle.policy_meaning.specs.Walk.{walk}
 use Rattle.policy_meaning.specs.declared.network.Network.{Network}

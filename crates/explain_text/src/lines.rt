@@ -14,7 +14,7 @@ use cv_io::{Bytes, Memory, Text};
 use explain_path::LeafTrace;
 use of10_actions::Rewrite;
 use pkt_bytes::rewrite as rewrite_packet;
-use policy_file::Policy;
+use policies::Policy;
 use script_text::{say, say_number};
 use std::alloc::Global;
 

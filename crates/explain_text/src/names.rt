@@ -3,7 +3,7 @@ ghost use Rattle.std.specs.Prelude.{◌≡◌, ◌++◌, OnOk};
 ghost use Rattle.explain_text.specs.Lines.{controller_name, switch_name, virtual_name};
 
 use cv_io::{Memory, Text};
-use policy_file::Policy;
+use policies::Policy;
 
 /// Appends the name of a physical switch.
 pub(crate) fn say_switch(line: &mut Text, policy: &Policy, number: u32) -> Result<(), Memory>

@@ -4,7 +4,7 @@ use Rattle.std.specs.Prelude.{◌==◌}
 use Rattle.std.specs.Prelude.{IfSome, Option}
 use Rattle.std.proofs.lemmas.List.{length-map}
 use Rattle.composed_tables.specs.Composing.{ComposedOf}
-use Rattle.policy_file.specs.Policies.{PolicyOf}
+use Rattle.policies.specs.Policies.{PolicyOf}
 use Rattle.stats_map.specs.Changes.{CanMake, made}
 use Rattle.stats_map.specs.Told.{HeldOf}
 use Rattle.event_ends.specs.Closings.{closing_of}

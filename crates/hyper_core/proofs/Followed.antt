@@ -10,8 +10,8 @@ use Rattle.packet_map.specs.Networks.{leaf_table, no_levels, numbered_switch, nu
 use Rattle.packet_map.specs.Rising.{SeesRising}
 use Rattle.policy_expr.specs.Policy.{policy_of}
 use Rattle.policy_expr.specs.declared.expr.Expr.{Expr}
-use Rattle.policy_file.specs.Policies.{PolicyOf, plan}
-use Rattle.policy_file.specs.declared.policy.MemberItem.{MemberItem}
+use Rattle.policies.specs.Policies.{PolicyOf, plan}
+use Rattle.policies.specs.declared.policy.MemberItem.{MemberItem}
 use Rattle.virtual_topology.specs.declared.plan.TopologyPlan.{TopologyPlan}
 use Rattle.machine_meaning.specs.States.{MemberOf, State}
 use Rattle.hyper_core.specs.Worlds.{grant_of, network_in, numbered_member, numbered_virtual, table_in, table_of}

@@ -2,8 +2,8 @@
 use Rattle.std.proofs.Common.{◌≡◌, ◌∙◌, ℕ, ◌<◌, ◌^◌, List, Option, Some, None, length, refl, ap, subst, sym}
 use Rattle.composed_tables.specs.Composing.{ComposedOf}
 use Rattle.cv_io.specs.declared.leaf.Session.{Session}
-use Rattle.policy_file.specs.Policies.{PolicyOf}
-use Rattle.policy_file.specs.Sound.{IsSound}
+use Rattle.policies.specs.Policies.{PolicyOf}
+use Rattle.policies.specs.Sound.{IsSound}
 use Rattle.stats_map.specs.Counting.{CountsOf}
 use Rattle.stats_map.specs.Told.{HeldOf, told}
 use Rattle.machine_meaning.specs.Events.{IsEvent}

@@ -21,7 +21,7 @@ use Rattle.member_state.specs.States.{MemberStateOf}
 use Rattle.op_compose.specs.declared.op.Op.{Op}
 use Rattle.op_compose.specs.declared.op.Op.TheVariants.{Par, Seq, Over}
 use Rattle.policy_expr.specs.Policy.{Policy, member, override, parallel, sequential}
-use Rattle.policy_file.specs.Policies.{PolicyOf, plan}
+use Rattle.policies.specs.Policies.{PolicyOf, plan}
 use Rattle.policy_meaning.specs.Hops.{Fabric, node}
 use Rattle.policy_meaning.specs.Networks.{fabric_of}
 use Rattle.policy_meaning.specs.Rules.{rules_of}

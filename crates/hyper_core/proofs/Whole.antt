@@ -2,7 +2,7 @@
 use Rattle.std.proofs.Common.{◌≡◌, ℕ, Bool, true, false, List, None, refl, sym, ap, true≢false, eqb-true, leb-true}
 use Rattle.std.specs.Prelude.{◌&&◌, is_some}
 use Rattle.of10_frames.specs.Frames.{IsFrame}
-use Rattle.policy_file.specs.Policies.{PolicyOf}
+use Rattle.policies.specs.Policies.{PolicyOf}
 use Rattle.machine_meaning.specs.Glances.{closed_unless, glance_of, is_frame, is_present}
 use Rattle.event_acts.specs.Overtaking.{IsWhole}
 use Rattle.machine_meaning.specs.States.{State}

@@ -1,7 +1,7 @@
 -- The draft of an event, as it is to be moved into what is held.
 use Rattle.std.specs.Prelude.{◌≡◌, Bool, true, false}
 use Rattle.stats_map.specs.Changes.{CanMake}
-use Rattle.policy_file.specs.Policies.{PolicyOf}
+use Rattle.policies.specs.Policies.{PolicyOf}
 use Rattle.event_ends.specs.Closings.{closing_of}
 use Rattle.machine_meaning.specs.Acting.{act_on}
 use Rattle.machine_meaning.specs.Drafts.{Draft}

@@ -7,8 +7,8 @@ use Rattle.install_plan.specs.declared.written.Written.{Written}
 use Rattle.member_table.specs.Tables.{Held as HeldTable, TableOf}
 use Rattle.packet_map.specs.Networks.{leaf_table, links_of, no_levels, outside_from}
 use Rattle.policy_expr.specs.Policy.{Policy}
-use Rattle.policy_file.specs.Policies.{PolicyOf, plan}
-use Rattle.policy_file.specs.declared.policy.MemberItem.{MemberItem}
+use Rattle.policies.specs.Policies.{PolicyOf, plan}
+use Rattle.policies.specs.declared.policy.MemberItem.{MemberItem}
 use Rattle.policy_meaning.specs.Networks.{switch_rules}
 use Rattle.policy_meaning.specs.Switches.{SwitchOf as VirtualSwitchOf}
 use Rattle.policy_meaning.specs.declared.leaf.LeafTable.{LeafTable}

@@ -1,8 +1,8 @@
 //! The machine.
 ghost use Rattle.std.specs.Prelude.{◌≡◌, ◌≤◌, ◌+◌, IfOk, OnErr, OnOk, true};
 ghost use Rattle.packet_map.specs.Networks.{SeeRising, network_of};
-ghost use Rattle.policy_file.specs.Policies.{plan};
-ghost use Rattle.policy_file.specs.Sound.{IsSound};
+ghost use Rattle.policies.specs.Policies.{plan};
+ghost use Rattle.policies.specs.Sound.{IsSound};
 ghost use Rattle.machine_meaning.specs.Glances.{glance_of};
 ghost use Rattle.machine_drafts.specs.Machines.{state_of};
 ghost use Rattle.event_composes.specs.Costs.{cost_of, most_of, stays_kept};
@@ -25,7 +25,7 @@ use machine_drafts::copying::copied_held;
 use machine_drafts::held::Held;
 use machine_drafts::setup::Setup;
 use packet_map::World;
-use policy_file::Policy;
+use policies::Policy;
 use std::alloc::Global;
 use std::marker::Model;
 use std::sync::ledger::Ledger;

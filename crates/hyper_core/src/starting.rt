@@ -14,7 +14,7 @@ use machine_drafts::session::{Member, Switch};
 use machine_drafts::setup::Setup;
 use member_state::MemberState;
 use outbox::{Letters, Outbox};
-use policy_file::MemberItem;
+use policies::MemberItem;
 use shared_rows::Rows;
 use stats_map::Counts;
 use std::alloc::Global;

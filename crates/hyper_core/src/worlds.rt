@@ -1,7 +1,7 @@
 //! What packets are followed over, apart from what else the machine holds.
 ghost use Rattle.std.specs.Prelude.{◌≡◌, IfOk, map};
 ghost use Rattle.packet_map.specs.Networks.{SeeRising, network_of};
-ghost use Rattle.policy_file.specs.Policies.{plan};
+ghost use Rattle.policies.specs.Policies.{plan};
 ghost use Rattle.machine_drafts.specs.Machines.{state_in_held};
 ghost use Rattle.machine_drafts.specs.Views.{member_of};
 ghost use Rattle.hyper_core.specs.Worlds.{AreTablesOf, grant_of, network_in, table_in, table_of};
@@ -13,7 +13,7 @@ use machine_drafts::session::Member;
 use machine_drafts::setup::Setup;
 use member_table::Table;
 use packet_map::World;
-use policy_file::MemberItem;
+use policies::MemberItem;
 use std::alloc::Global;
 
 /// Copies of the members' grants and tables.

@@ -12,7 +12,7 @@ use Rattle.events.specs.declared.event.Event.TheVariants as events
 use Rattle.events.specs.declared.event.Reply.{Reply}
 use Rattle.events.specs.declared.event.Reply.TheVariants.{Closed, Done, Empty, Opened, Refused, Replaced, Taken}
 use Rattle.outbox.specs.Outboxes.{first, later, taking}
-use Rattle.policy_file.specs.Policies.{PolicyOf}
+use Rattle.policies.specs.Policies.{PolicyOf}
 use Rattle.machine_meaning.specs.Glances.{glance_of, unless_taken}
 use Rattle.machine_meaning.specs.Hearing.{heard}
 use Rattle.machine_meaning.specs.Phases.{drafted, slow}

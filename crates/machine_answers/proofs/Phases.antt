@@ -58,8 +58,8 @@ use Rattle.of10_stats.specs.declared.fault.StatsFault.{StatsFault}
 use Rattle.of10_stats.specs.declared.reply.ReplyBody.{ReplyBody}
 use Rattle.of10_stats.specs.declared.reply.StatsReply.{StatsReply}
 use Rattle.of10_stats.specs.declared.request.StatsRequest.{StatsRequest}
-use Rattle.policy_file.specs.Policies.{PolicyOf, plan}
-use Rattle.policy_file.specs.declared.policy.MemberItem.{MemberItem}
+use Rattle.policies.specs.Policies.{PolicyOf, plan}
+use Rattle.policies.specs.declared.policy.MemberItem.{MemberItem}
 use Rattle.script_text.specs.declared.audit.DownCause.{DownCause}
 use Rattle.switch_meaning.specs.Counts.{Numbers}
 use Rattle.switch_meaning.specs.Keys.{installed}

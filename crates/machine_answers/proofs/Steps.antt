@@ -19,9 +19,9 @@ use Rattle.outbox.specs.Outboxes.{taken}
 use Rattle.policy_expr.specs.Policy.{Policy}
 use Rattle.policy_expr.specs.Reading.{reading as reading_of_expression}
 use Rattle.policy_expr.specs.declared.fault.ExprFault.{ExprFault}
-use Rattle.policy_file.specs.Exprs.{names}
-use Rattle.policy_file.specs.Policies.{PolicyOf, plan}
-use Rattle.policy_file.specs.Widths.{too_wide_in}
+use Rattle.policies.specs.Exprs.{names}
+use Rattle.policies.specs.Policies.{PolicyOf, plan}
+use Rattle.policies.specs.Widths.{too_wide_in}
 use Rattle.machine_meaning.specs.Acting.{act}
 use Rattle.machine_meaning.specs.Coming.{comes_up, end_first, noting}
 use Rattle.machine_meaning.specs.Drafts.{Draft, untouched}

@@ -12,7 +12,7 @@ use Rattle.events.specs.declared.event.Reply.{Reply}
 use Rattle.events.specs.declared.event.Reply.TheVariants.{Closed, Done, Empty, Opened, Refused, Replaced, Taken}
 use Rattle.outbox.specs.Outboxes.{OutboxOf, first, is_open, taking}
 use Rattle.outbox.specs.declared.outbox.Taking.TheVariants as takings
-use Rattle.policy_file.specs.Policies.{PolicyOf}
+use Rattle.policies.specs.Policies.{PolicyOf}
 use Rattle.machine_meaning.specs.Glances.{is_present, unless_taken}
 use Rattle.machine_meaning.specs.Sessions.{outbox_of}
 use Rattle.machine_meaning.specs.States.{State}

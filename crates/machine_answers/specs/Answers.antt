@@ -7,7 +7,7 @@ use Rattle.events.specs.declared.event.Event.{Event}
 use Rattle.events.specs.declared.event.Event.TheVariants.{Gone, Msg, Tick}
 use Rattle.events.specs.declared.event.Reply.{Reply}
 use Rattle.of10_frames.specs.Frames.{IsFrame}
-use Rattle.policy_file.specs.Policies.{PolicyOf}
+use Rattle.policies.specs.Policies.{PolicyOf}
 use Rattle.machine_meaning.specs.Glances.{glance_of}
 use Rattle.machine_meaning.specs.Sessions.{outbox_of}
 use Rattle.machine_meaning.specs.States.{State, opening}

@@ -7,7 +7,7 @@ use Rattle.events.specs.declared.event.Event.{Event}
 use Rattle.events.specs.declared.event.Event.TheVariants.{Take}
 use Rattle.events.specs.declared.event.Reply.{Reply}
 use Rattle.events.specs.declared.event.Reply.TheVariants.{Taken}
-use Rattle.policy_file.specs.Policies.{PolicyOf}
+use Rattle.policies.specs.Policies.{PolicyOf}
 use Rattle.machine_meaning.specs.Putting.{lines_of}
 use Rattle.machine_meaning.specs.Runs.{after}
 use Rattle.machine_meaning.specs.States.{State}

@@ -6,8 +6,8 @@ use Rattle.of10_frames.specs.Wire.{xid_field}
 use Rattle.grants.specs.declared.denial.Denial.{Denial}
 use Rattle.member_replies.specs.Refusals.{deny_line, refusal}
 use Rattle.of10_msgs.specs.declared.message.Body.TheVariants.{BarrierReply}
-use Rattle.policy_file.specs.Policies.{PolicyOf}
-use Rattle.policy_file.specs.declared.policy.MemberItem.{MemberItem}
+use Rattle.policies.specs.Policies.{PolicyOf}
+use Rattle.policies.specs.declared.policy.MemberItem.{MemberItem}
 use Rattle.waitings.specs.Waitings.{is_of_ports, unwritten}
 use Rattle.waitings.specs.declared.state.Part.{Part}
 use Rattle.waitings.specs.declared.state.Purpose.{Purpose}

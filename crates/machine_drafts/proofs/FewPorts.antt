@@ -11,9 +11,9 @@ use Rattle.std.proofs.lemmas.List.Kept.{AllPairs-from_increasing}
 use Rattle.std.proofs.lemmas.Map.Views.{any-filter_same}
 use Rattle.grants.specs.declared.grant.Grant.{Grant}
 use Rattle.member_replies.specs.Ports.{HasFewPorts}
-use Rattle.policy_file.specs.Policies.{PolicyOf, plan}
-use Rattle.policy_file.specs.Sound.{IsSound, IsSoundGrant, IsSoundMember}
-use Rattle.policy_file.specs.declared.policy.MemberItem.{MemberItem}
+use Rattle.policies.specs.Policies.{PolicyOf, plan}
+use Rattle.policies.specs.Sound.{IsSound, IsSoundGrant, IsSoundMember}
+use Rattle.policies.specs.declared.policy.MemberItem.{MemberItem}
 use Rattle.virtual_topology.specs.Faults.{crowded, fault_of, first_answer, mixed_among, shape_among, too_many}
 use Rattle.virtual_topology.specs.Faults.{too_many_at, too_many_of, too_many_pairs, twice_among, unknown_among}
 use Rattle.virtual_topology.specs.Places.{uses}

@@ -8,8 +8,8 @@ use Rattle.std.proofs.lemmas.List.{length-map}
 use Rattle.std.proofs.lemmas.List.Elements.{All-head, All-tail}
 use Rattle.std.proofs.lemmas.List.FromFn.{length-enumerate_from}
 use Rattle.of10_actions.specs.declared.effects.PortView.{PortView}
-use Rattle.policy_file.specs.Policies.{PolicyOf}
-use Rattle.policy_file.specs.Views.{view_of}
+use Rattle.policies.specs.Policies.{PolicyOf}
+use Rattle.policies.specs.Views.{view_of}
 use Rattle.virtual_topology.proofs.Steps.{numbered_get}
 use Rattle.virtual_topology.specs.declared.plan.VirtualItem.{VirtualItem}
 use Rattle.machine_drafts.proofs.Numbers.{length-places}

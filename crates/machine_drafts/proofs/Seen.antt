@@ -1,7 +1,7 @@
 -- For each virtual switch whether its members see all its ports.
 use Rattle.std.proofs.Common.{◌≡◌, ℕ, List, [], ◌∷◌, map, refl, ap}
 use Rattle.std.specs.List.{enumerate_from, list_all}
-use Rattle.policy_file.specs.Policies.{PolicyOf}
+use Rattle.policies.specs.Policies.{PolicyOf}
 use Rattle.policy_setting.specs.OfPolicies.{seen, sees_its}
 use Rattle.virtual_topology.specs.declared.plan.VirtualItem.{VirtualItem}
 use Rattle.machine_drafts.specs.Setups.{is_seen, ports_at, ports_of}

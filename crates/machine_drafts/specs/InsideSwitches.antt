@@ -6,7 +6,7 @@ use Rattle.switch_state.specs.Known.{is_dark, unanswered}
 use Rattle.virtual_topology.specs.Rows.{Spot}
 use Rattle.virtual_topology.specs.Wires.{outside_of}
 use Rattle.virtual_topology.specs.declared.plan.TopologyPlan.{TopologyPlan}
-use Rattle.policy_file.specs.Policies.{PolicyOf, plan}
+use Rattle.policies.specs.Policies.{PolicyOf, plan}
 use Rattle.machine_meaning.specs.Names.{all_ports}
 use Rattle.machine_meaning.specs.States.{SwitchOf}
 use Rattle.waitings.specs.declared.state.Part.{Part}

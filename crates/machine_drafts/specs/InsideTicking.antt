@@ -1,7 +1,7 @@
 -- How entries expire and come into doubt, member by member.
 use Rattle.std.specs.Prelude.{◌≡◌, ℕ, ◌==◌, List, [], if◌then◌else◌, map, slice_get}
 use Rattle.std.specs.Option.{option_map_or}
-use Rattle.policy_file.specs.declared.policy.MemberItem.{MemberItem}
+use Rattle.policies.specs.declared.policy.MemberItem.{MemberItem}
 use Rattle.machine_drafts.specs.MemberDrafts.{MemberDraftOf}
 use Rattle.machine_meaning.specs.Names.{virtual_of}
 use Rattle.machine_drafts.specs.Outcomes.{member_bases, members_in}

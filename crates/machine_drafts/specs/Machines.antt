@@ -2,8 +2,8 @@
 use Rattle.std.specs.Prelude.{◌≡◌, ℕ, ◌≤◌, Bool, List, length, map}
 use Rattle.install_plan.specs.declared.written.Written.{Written}
 use Rattle.policy_expr.specs.Policy.{Policy, policy_of}
-use Rattle.policy_file.specs.Policies.{PolicyOf}
-use Rattle.policy_file.specs.declared.policy.MemberItem.{MemberItem}
+use Rattle.policies.specs.Policies.{PolicyOf}
+use Rattle.policies.specs.declared.policy.MemberItem.{MemberItem}
 use Rattle.stats_map.specs.Told.{HeldOf, told}
 use Rattle.waitings.specs.declared.state.Waiting.{Waiting}
 use Rattle.machine_drafts.specs.Outcomes.{Bases}

@@ -3,9 +3,9 @@ use Rattle.std.specs.Prelude.{◌≡◌, ◌==◌, ◌||◌, not, ℕ, Bool, Non
 use Rattle.std.specs.List.{enumerate_from, list_all}
 use Rattle.grants.specs.Ports.{sees_all}
 use Rattle.of10_actions.specs.declared.effects.PortView.{PortView}
-use Rattle.policy_file.specs.Policies.{PolicyOf, plan}
-use Rattle.policy_file.specs.Views.{view_of}
-use Rattle.policy_file.specs.declared.policy.MemberItem.{MemberItem}
+use Rattle.policies.specs.Policies.{PolicyOf, plan}
+use Rattle.policies.specs.Views.{view_of}
+use Rattle.policies.specs.declared.policy.MemberItem.{MemberItem}
 use Rattle.policy_setting.specs.OfPolicies.{seen as seen_of}
 use Rattle.virtual_topology.specs.declared.plan.TopologyPlan.{TopologyPlan}
 use Rattle.virtual_topology.specs.declared.plan.VirtualItem.{VirtualItem}

@@ -2,7 +2,7 @@
 ghost use Rattle.std.specs.Prelude.{◌≡◌, ◌≤◌, All, IfOk, length, map, zip};
 ghost use Rattle.std.specs.List.{enumerate_from};
 ghost use Rattle.of10_actions.specs.Ports.{AreRising};
-ghost use Rattle.policy_file.specs.declared.policy.MemberItem.{MemberItem as MemberItemOf};
+ghost use Rattle.policies.specs.declared.policy.MemberItem.{MemberItem as MemberItemOf};
 ghost use Rattle.machine_drafts.specs.Outcomes.{members_in, switches_in};
 ghost use Rattle.machine_meaning.specs.Settings.{setting_with, table_of, tables_with, ups_with};
 
@@ -12,7 +12,7 @@ use crate::setup::Setup;
 use crate::switch_draft::SwitchDraft;
 use agreement::Setting;
 use cv_io::{List, Memory};
-use policy_file::MemberItem;
+use policies::MemberItem;
 use policy_meaning::LeafTable;
 use std::alloc::Global;
 

@@ -2,9 +2,9 @@
 ghost use Rattle.std.specs.Prelude.{◌≡◌, ◌≤◌, ◌<◌, ◌↔◌, All, IfOk, IfSome, IsSome, Some, length, map, slice_get};
 ghost use Rattle.std.specs.Option.{option_copied};
 ghost use Rattle.of10_actions.specs.Ports.{AreRising};
-ghost use Rattle.policy_file.specs.Policies.{plan};
-ghost use Rattle.policy_file.specs.Sound.{IsSound};
-ghost use Rattle.policy_file.specs.declared.policy.MemberItem.{MemberItem as MemberItemOf};
+ghost use Rattle.policies.specs.Policies.{plan};
+ghost use Rattle.policies.specs.Sound.{IsSound};
+ghost use Rattle.policies.specs.declared.policy.MemberItem.{MemberItem as MemberItemOf};
 ghost use Rattle.policy_setting.specs.OfPolicies.{seen as seen_of};
 ghost use Rattle.policy_setting.specs.Wirings.{wiring as wiring_of};
 ghost use Rattle.machine_meaning.specs.Lists.{places};
@@ -17,7 +17,7 @@ use cv_io::{List, Memory};
 use grants::sees_all;
 use inner_paths::Paths;
 use of10_actions::PortView;
-use policy_file::{MemberItem, Policy, all_ports};
+use policies::{MemberItem, Policy, all_ports};
 use policy_setting::wiring;
 use std::alloc::Global;
 use std::marker::Model;
@@ -40,7 +40,7 @@ pub struct Setup {
 }
 
 impl Model for Setup {
-    ghost use Rattle.policy_file.specs.Policies.{PolicyOf};
+    ghost use Rattle.policies.specs.Policies.{PolicyOf};
 
     ghost Value = { PolicyOf };
 

@@ -7,7 +7,7 @@ use Rattle.std.specs.List.{AllByRecursion}
 use Rattle.cv_io.specs.declared.leaf.Who.TheVariants.{Member, Switch}
 use Rattle.member_table.specs.Entries.{has_serial}
 use Rattle.member_table.specs.declared.entry.Entry.{Entry}
-use Rattle.policy_file.specs.Policies.{PolicyOf}
+use Rattle.policies.specs.Policies.{PolicyOf}
 use Rattle.switch_meaning.proofs.Items.{split_and}
 use Rattle.switch_meaning.proofs.Members.{IsIn, filter-in, here, there}
 use Rattle.machine_meaning.specs.Acting.{act}

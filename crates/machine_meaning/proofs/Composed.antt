@@ -11,7 +11,7 @@ use Rattle.cv_io.specs.declared.leaf.Who.{Who}
 use Rattle.install_plan.specs.Tables.{after}
 use Rattle.install_plan.specs.declared.written.Written.{Written}
 use Rattle.policy_expr.specs.Policy.{Policy}
-use Rattle.policy_file.specs.Policies.{PolicyOf}
+use Rattle.policies.specs.Policies.{PolicyOf}
 use Rattle.switch_meaning.specs.Keys.{installed}
 use Rattle.switch_meaning.specs.declared.entry.PhysEntry.{PhysEntry}
 use Rattle.switch_state.specs.Messages.{switch_messages}

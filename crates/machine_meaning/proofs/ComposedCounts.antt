@@ -11,8 +11,8 @@ use Rattle.install_plan.specs.Tables.{after}
 use Rattle.install_plan.specs.declared.written.Written.{Written}
 use Rattle.member_table.specs.Tables.{TableOf}
 use Rattle.member_table.specs.declared.entry.Entry.{Entry}
-use Rattle.policy_file.specs.Policies.{PolicyOf}
-use Rattle.policy_file.specs.declared.policy.MemberItem.{MemberItem}
+use Rattle.policies.specs.Policies.{PolicyOf}
+use Rattle.policies.specs.declared.policy.MemberItem.{MemberItem}
 use Rattle.policy_meaning.specs.declared.leaf.LeafEntry.{LeafEntry}
 use Rattle.policy_meaning.proofs.Lists.{all-mapped}
 use Rattle.stats_map.specs.Counting.{is_named}

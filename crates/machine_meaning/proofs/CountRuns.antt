@@ -1,7 +1,7 @@
 -- What a run did to counts.
 use Rattle.std.proofs.Common.{◌≡◌, ◌∙◌, List, [], ◌∷◌, refl, sym, ap}
 use Rattle.std.specs.Prelude.{fold}
-use Rattle.policy_file.specs.Policies.{PolicyOf}
+use Rattle.policies.specs.Policies.{PolicyOf}
 use Rattle.stats_map.specs.Counting.{CountsOf, count}
 use Rattle.stats_map.specs.Histories.{CountsAreOfAll as CountsAreOfAllSteps, run}
 use Rattle.machine_meaning.specs.Ever.{counted_along, counted_by, counted_of}

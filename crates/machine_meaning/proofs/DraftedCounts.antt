@@ -8,7 +8,7 @@ use Rattle.std.specs.Map.{keys_of, lookup, values_of}
 use Rattle.std.specs.Option.{option_map_or}
 use Rattle.cv_io.specs.declared.leaf.Leaf.{Leaf}
 use Rattle.member_table.specs.Tables.{TableOf}
-use Rattle.policy_file.specs.Policies.{PolicyOf}
+use Rattle.policies.specs.Policies.{PolicyOf}
 use Rattle.stats_map.specs.Counting.{Cookies, CountsOf, is_named, place_cmp}
 use Rattle.stats_map.proofs.Rows.{at}
 use Rattle.switch_meaning.specs.Counts.{names}

@@ -9,11 +9,11 @@ use Rattle.std.proofs.lemmas.Slice.Eq.{bytes_eq-Decides}
 use Rattle.member_state.specs.Sound.{IsSoundGrant, NamesNoPort}
 use Rattle.of10_actions.specs.Numbers.{MAX}
 use Rattle.of10_match.specs.Normal.{IsNormal}
-use Rattle.policy_file.specs.Policies.{PolicyOf, plan}
-use Rattle.policy_file.specs.Sound.{EachToEarlier, IsPortNumber, IsSound, IsSoundBox, IsSoundGrant as IsGrantAt}
-use Rattle.policy_file.specs.Sound.{IsSoundMember as IsSoundItem, IsSoundVirtual, LiesApart, has_at_side, is_at_side}
-use Rattle.policy_file.specs.declared.policy.MemberItem.{MemberItem}
-use Rattle.policy_file.proofs.Rising.{RiseFrom, rise_from}
+use Rattle.policies.specs.Policies.{PolicyOf, plan}
+use Rattle.policies.specs.Sound.{EachToEarlier, IsPortNumber, IsSound, IsSoundBox, IsSoundGrant as IsGrantAt}
+use Rattle.policies.specs.Sound.{IsSoundMember as IsSoundItem, IsSoundVirtual, LiesApart, has_at_side, is_at_side}
+use Rattle.policies.specs.declared.policy.MemberItem.{MemberItem}
+use Rattle.policies.proofs.Rising.{RiseFrom, rise_from}
 use Rattle.policy_meaning.specs.LeafFact.{EachPair}
 use Rattle.policy_setting.proofs.Apart.{Apart, faultless}
 use Rattle.policy_setting.proofs.Parts.{all_both, all_first, all_second, pairs_across, pairs_first, pairs_second}

@@ -6,14 +6,14 @@ use Rattle.std.specs.Option.{option_or}
 use Rattle.policy_expr.specs.Policy.{Policy}
 use Rattle.policy_expr.specs.Reading.{reading}
 use Rattle.policy_expr.specs.declared.fault.ExprFault.{ExprFault}
-use Rattle.policy_file.proofs.Outcomes.{done}
-use Rattle.policy_file.specs.Exprs.{all_of, expr_of, names, or_fault}
-use Rattle.policy_file.specs.Outcomes.{then_do}
-use Rattle.policy_file.specs.Policies.{PolicyOf, plan}
-use Rattle.policy_file.specs.Widths.{too_wide_at, too_wide_in, width, size}
-use Rattle.policy_file.specs.declared.fault.PolicyFault.{PolicyFault}
-use Rattle.policy_file.specs.declared.fault.PolicyFault.TheVariants.{TooWide}
-use Rattle.policy_file.specs.declared.policy.MemberItem.{MemberItem}
+use Rattle.policies.proofs.Outcomes.{done}
+use Rattle.policies.specs.Exprs.{all_of, expr_of, names, or_fault}
+use Rattle.policies.specs.Outcomes.{then_do}
+use Rattle.policies.specs.Policies.{PolicyOf, plan}
+use Rattle.policies.specs.Widths.{too_wide_at, too_wide_in, width, size}
+use Rattle.policies.specs.declared.fault.PolicyFault.{PolicyFault}
+use Rattle.policies.specs.declared.fault.PolicyFault.TheVariants.{TooWide}
+use Rattle.policies.specs.declared.policy.MemberItem.{MemberItem}
 use Rattle.virtual_topology.specs.Faults.{first_answer}
 use Rattle.virtual_topology.specs.declared.plan.VirtualItem.{VirtualItem}
 use Rattle.machine_meaning.specs.Lists.{changed_at}

@@ -13,8 +13,8 @@ use Rattle.member_table.proofs.Least.{and_true}
 use Rattle.of10_actions.specs.Actions.{AreInRange}
 use Rattle.of10_msgs.specs.declared.message.FlowMod.{FlowMod}
 use Rattle.outbox.specs.Outboxes.{OutboxOf, is_open, later, taken, with_more}
-use Rattle.policy_file.specs.Policies.{PolicyOf}
-use Rattle.policy_file.specs.declared.policy.MemberItem.{MemberItem}
+use Rattle.policies.specs.Policies.{PolicyOf}
+use Rattle.policies.specs.declared.policy.MemberItem.{MemberItem}
 use Rattle.machine_meaning.specs.Drafts.{Draft}
 use Rattle.machine_meaning.specs.Lists.{changed_at}
 use Rattle.machine_meaning.specs.Names.{all_ports, virtual_of}

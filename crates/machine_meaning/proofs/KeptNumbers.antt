@@ -7,7 +7,7 @@ use Rattle.agreement.specs.declared.state.Setting.{Setting}
 use Rattle.member_state.specs.Changes.{touched, without}
 use Rattle.member_table.specs.Entries.{has_serial}
 use Rattle.member_table.specs.declared.entry.Entry.{Entry}
-use Rattle.policy_file.specs.Policies.{PolicyOf}
+use Rattle.policies.specs.Policies.{PolicyOf}
 use Rattle.switch_meaning.specs.Keys.{installed}
 use Rattle.switch_meaning.specs.declared.entry.PhysEntry.{PhysEntry}
 use Rattle.switch_state.specs.Messages.{packet_out}

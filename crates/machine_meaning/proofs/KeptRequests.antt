@@ -3,7 +3,7 @@ use Rattle.std.proofs.Common.{◌≡◌, ◌∙◌, ℕ, Bool, true, false, List
 use Rattle.std.proofs.Common.{[]}
 use Rattle.std.specs.Prelude.{fold, nat_lt, slice_get}
 use Rattle.of10_msgs.specs.declared.message.Body.{Body}
-use Rattle.policy_file.specs.Policies.{PolicyOf}
+use Rattle.policies.specs.Policies.{PolicyOf}
 use Rattle.switch_state.specs.Known.{KnownOf}
 use Rattle.switch_state.specs.Messages.{flow_request, packet_out, port_request}
 use Rattle.machine_meaning.specs.Drafts.{Draft}

@@ -12,8 +12,8 @@ use Rattle.cv_io.specs.declared.leaf.Who.TheVariants.{Audit, Member, Switch}
 use Rattle.install_plan.specs.declared.written.Written.{Written}
 use Rattle.member_state.specs.States.{MemberStateOf}
 use Rattle.outbox.specs.Outboxes.{OutboxOf, is_open, later, taken}
-use Rattle.policy_file.specs.Policies.{PolicyOf}
-use Rattle.policy_file.specs.Sound.{IsSound}
+use Rattle.policies.specs.Policies.{PolicyOf}
+use Rattle.policies.specs.Sound.{IsSound}
 use Rattle.policy_meaning.proofs.Lists.{all-zip}
 use Rattle.switch_state.specs.Known.{KnownOf, is_outstanding, nothing_known}
 use Rattle.machine_meaning.specs.Counted.{is_one_of, leaf_at, leaf_of, leaves_in, leaves_of}

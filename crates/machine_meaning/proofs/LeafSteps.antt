@@ -9,7 +9,7 @@ use Rattle.cv_io.specs.declared.leaf.Who.{Who}
 use Rattle.cv_io.specs.declared.leaf.Who.TheVariants.{Audit, Member, Switch}
 use Rattle.member_table.specs.Tables.{TableOf}
 use Rattle.outbox.specs.Outboxes.{taken}
-use Rattle.policy_file.specs.Policies.{PolicyOf}
+use Rattle.policies.specs.Policies.{PolicyOf}
 use Rattle.switch_meaning.specs.Keys.{installed}
 use Rattle.switch_meaning.specs.declared.entry.PhysEntry.{PhysEntry}
 use Rattle.switch_state.specs.Messages.{packet_out}

@@ -10,8 +10,8 @@ use Rattle.agreement.specs.declared.state.Setting.{Setting}
 use Rattle.cv_io.specs.Leaves.{same_leaf}
 use Rattle.cv_io.specs.declared.leaf.Leaf.{Leaf}
 use Rattle.member_table.specs.Tables.{TableOf}
-use Rattle.policy_file.specs.Policies.{PolicyOf}
-use Rattle.policy_file.specs.declared.policy.MemberItem.{MemberItem}
+use Rattle.policies.specs.Policies.{PolicyOf}
+use Rattle.policies.specs.declared.policy.MemberItem.{MemberItem}
 use Rattle.policy_meaning.proofs.Booleans.{split_and}
 use Rattle.stats_map.specs.Histories.{Dropped, Step, drops}
 use Rattle.switch_meaning.specs.Keys.{installed}

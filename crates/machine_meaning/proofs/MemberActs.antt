@@ -28,10 +28,10 @@ use Rattle.of10_stats.specs.declared.request.StatsRequest.TheVariants as request
 use Rattle.policy_expr.specs.Policy.{Policy}
 use Rattle.policy_expr.specs.Reading.{reading as reading_of_expression}
 use Rattle.policy_expr.specs.declared.fault.ExprFault.{ExprFault}
-use Rattle.policy_file.specs.Exprs.{names}
-use Rattle.policy_file.specs.Policies.{PolicyOf, plan}
-use Rattle.policy_file.specs.Widths.{too_wide_in}
-use Rattle.policy_file.specs.declared.policy.MemberItem.{MemberItem}
+use Rattle.policies.specs.Exprs.{names}
+use Rattle.policies.specs.Policies.{PolicyOf, plan}
+use Rattle.policies.specs.Widths.{too_wide_in}
+use Rattle.policies.specs.declared.policy.MemberItem.{MemberItem}
 use Rattle.script_text.specs.declared.audit.DownCause.TheVariants as causes
 use Rattle.switch_meaning.specs.Counts.{Numbers}
 use Rattle.switch_state.specs.Reports.{answered_number, removal}

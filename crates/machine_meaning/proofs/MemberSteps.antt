@@ -15,7 +15,7 @@ use Rattle.member_state.specs.States.{MemberStateOf}
 use Rattle.member_table.specs.Entries.{has_serial}
 use Rattle.member_table.specs.declared.entry.Entry.{Entry}
 use Rattle.of10_msgs.specs.declared.message.FlowMod.{FlowMod}
-use Rattle.policy_file.specs.Policies.{PolicyOf}
+use Rattle.policies.specs.Policies.{PolicyOf}
 use Rattle.switch_meaning.specs.Keys.{installed}
 use Rattle.switch_meaning.specs.declared.entry.PhysEntry.{PhysEntry}
 use Rattle.switch_state.specs.Messages.{packet_out}

@@ -17,9 +17,9 @@ use Rattle.policy_expr.specs.Sizes.{leaf_count}
 use Rattle.policy_expr.specs.declared.fault.ExprFault.TheVariants.{TooMany, Twice, Unknown, Unused}
 use Rattle.policy_expr.specs.declared.member.MemberName.{MemberName}
 use Rattle.policy_expr.proofs.Accepted.{reading_accepted}
-use Rattle.policy_file.specs.Exprs.{names}
-use Rattle.policy_file.specs.Policies.{PolicyOf}
-use Rattle.policy_file.specs.declared.policy.MemberItem.{MemberItem}
+use Rattle.policies.specs.Exprs.{names}
+use Rattle.policies.specs.Policies.{PolicyOf}
+use Rattle.policies.specs.declared.policy.MemberItem.{MemberItem}
 use Rattle.policy_meaning.specs.LeafFact.{EachPair}
 use Rattle.policy_setting.proofs.Parts.{mapped_pairs, pairs_weaker}
 use Rattle.policy_setting.specs.Settings.{expr_at}

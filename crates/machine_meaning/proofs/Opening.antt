@@ -12,12 +12,12 @@ use Rattle.cv_io.specs.declared.leaf.Leaf.{Leaf}
 use Rattle.install_plan.specs.declared.written.Written.{Written}
 use Rattle.member_state.proofs.Plans.{opening_kept}
 use Rattle.policy_expr.specs.Policy.{Policy}
-use Rattle.policy_file.specs.Exprs.{exprs_of}
-use Rattle.policy_file.specs.Policies.{PolicyOf, plan}
-use Rattle.policy_file.specs.Sound.{IsSound, IsSoundMember as IsSoundItem}
-use Rattle.policy_file.specs.Widths.{too_wide_in}
-use Rattle.policy_file.specs.declared.fault.PolicyFault.{PolicyFault}
-use Rattle.policy_file.specs.declared.policy.MemberItem.{MemberItem}
+use Rattle.policies.specs.Exprs.{exprs_of}
+use Rattle.policies.specs.Policies.{PolicyOf, plan}
+use Rattle.policies.specs.Sound.{IsSound, IsSoundMember as IsSoundItem}
+use Rattle.policies.specs.Widths.{too_wide_in}
+use Rattle.policies.specs.declared.fault.PolicyFault.{PolicyFault}
+use Rattle.policies.specs.declared.policy.MemberItem.{MemberItem}
 use Rattle.switch_state.specs.Known.{is_outstanding}
 use Rattle.virtual_topology.specs.declared.plan.SwitchItem.{SwitchItem}
 use Rattle.virtual_topology.specs.declared.plan.VirtualItem.{VirtualItem}

@@ -4,7 +4,7 @@ use Rattle.std.proofs.Common.{List, [], ◌∷◌, ◌++◌, map, filter, Option
 use Rattle.std.specs.Prelude.{filter_map, flat_map, if◌then◌else◌, is_none, is_some, slice_get}
 use Rattle.std.specs.List.{AllByRecursion, cons_option, enumerate_from, list_any}
 use Rattle.std.specs.Option.{option_and_then, option_map, option_map_or}
-use Rattle.policy_file.specs.Sound.{has_at_side, is_at_side}
+use Rattle.policies.specs.Sound.{has_at_side, is_at_side}
 use Rattle.policy_meaning.specs.Leaf.{has_port}
 use Rattle.policy_setting.specs.Networks.{is_of, outside_ports}
 use Rattle.policy_setting.proofs.Apart.{Faultless}

@@ -13,8 +13,8 @@ use Rattle.install_plan.specs.Tables.{entry_of}
 use Rattle.install_plan.specs.declared.written.Batch.{Batch}
 use Rattle.install_plan.specs.declared.written.Written.{Written}
 use Rattle.member_state.specs.States.{MemberStateOf}
-use Rattle.policy_file.specs.Policies.{PolicyOf}
-use Rattle.policy_file.specs.declared.policy.MemberItem.{MemberItem}
+use Rattle.policies.specs.Policies.{PolicyOf}
+use Rattle.policies.specs.declared.policy.MemberItem.{MemberItem}
 use Rattle.policy_meaning.specs.declared.leaf.LeafTable.{LeafTable}
 use Rattle.policy_setting.specs.OfPolicies as of_policies
 use Rattle.stats_map.specs.Counting.{is_named}

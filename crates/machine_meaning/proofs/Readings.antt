@@ -10,12 +10,12 @@ use Rattle.policy_expr.specs.Policy.{Policy, member, override, parallel, sequent
 use Rattle.policy_expr.specs.Reading.{reading}
 use Rattle.policy_expr.specs.declared.fault.ExprFault.{ExprFault}
 use Rattle.policy_expr.specs.declared.member.MemberName.{MemberName}
-use Rattle.policy_file.specs.Exprs.{all_of, expr_of, name_at, name_of, names, or_fault}
-use Rattle.policy_file.specs.Outcomes.{then_do}
-use Rattle.policy_file.specs.Policies.{PolicyOf}
-use Rattle.policy_file.specs.declared.fault.PolicyFault.{PolicyFault}
-use Rattle.policy_file.specs.declared.policy.MemberItem.{MemberItem}
-use Rattle.policy_file.proofs.Outcomes.{done}
+use Rattle.policies.specs.Exprs.{all_of, expr_of, name_at, name_of, names, or_fault}
+use Rattle.policies.specs.Outcomes.{then_do}
+use Rattle.policies.specs.Policies.{PolicyOf}
+use Rattle.policies.specs.declared.fault.PolicyFault.{PolicyFault}
+use Rattle.policies.specs.declared.policy.MemberItem.{MemberItem}
+use Rattle.policies.proofs.Outcomes.{done}
 use Rattle.policy_meaning.specs.CentralFact.{EachLeft, EachMember}
 use Rattle.policy_setting.specs.Settings.{expr_at}
 use Rattle.policy_setting.proofs.Parts.{numbered}

@@ -11,8 +11,8 @@ use Rattle.grants.specs.declared.denial.Denial.{Denial}
 use Rattle.member_replies.specs.Audit.{slow_line}
 use Rattle.member_replies.specs.Refusals.{refusal}
 use Rattle.outbox.specs.Outboxes.{OutboxOf, is_full, is_open, with_more}
-use Rattle.policy_file.specs.Policies.{PolicyOf}
-use Rattle.policy_file.specs.declared.policy.MemberItem.{MemberItem}
+use Rattle.policies.specs.Policies.{PolicyOf}
+use Rattle.policies.specs.declared.policy.MemberItem.{MemberItem}
 use Rattle.machine_meaning.specs.Acting.{act}
 use Rattle.machine_meaning.specs.Composing.{compose}
 use Rattle.machine_meaning.specs.Drafts.{Draft, letter, untouched}

@@ -13,7 +13,7 @@ use Rattle.of10_match.specs.Wildcards.{match_bytes}
 use Rattle.of10_actions.specs.declared.action.Action.TheVariants.{Output}
 use Rattle.outbox.specs.Outboxes.{OutboxOf, with_more}
 use Rattle.policy_expr.specs.Policy.{Policy}
-use Rattle.policy_file.specs.Policies.{PolicyOf}
+use Rattle.policies.specs.Policies.{PolicyOf}
 use Rattle.policy_setting.specs.OfPolicies as of_policies
 use Rattle.switch_state.specs.Messages.{flow_request, packet_out, port_request}
 use Rattle.switch_state.specs.Sending.{next_xid}

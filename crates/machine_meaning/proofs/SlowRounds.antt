@@ -6,7 +6,7 @@ use Rattle.std.proofs.lemmas.Bool.{eq-eqb, eqb-true}
 use Rattle.std.specs.Prelude.{if◌then◌else◌}
 use Rattle.std.specs.List.{enumerate_from, list_all}
 use Rattle.grants.specs.Ports.{is_one_of}
-use Rattle.policy_file.specs.Policies.{PolicyOf}
+use Rattle.policies.specs.Policies.{PolicyOf}
 use Rattle.switch_meaning.proofs.Members.{IsIn, any-passes, here, in-left, in-right, passes-any, there}
 use Rattle.machine_meaning.specs.Laws.{IsLeast, Suffices, closed_in, is_within}
 use Rattle.machine_meaning.specs.Lists.{places}

@@ -14,7 +14,7 @@ use Rattle.install_plan.specs.declared.written.Written.{Written}
 use Rattle.member_table.specs.Entries.{has_serial}
 use Rattle.member_table.specs.declared.entry.Entry.{Entry}
 use Rattle.outbox.specs.Outboxes.{OutboxOf, is_open, later, taken}
-use Rattle.policy_file.specs.Policies.{PolicyOf}
+use Rattle.policies.specs.Policies.{PolicyOf}
 use Rattle.switch_meaning.specs.Keys.{installed}
 use Rattle.switch_meaning.specs.declared.entry.PhysEntry.{PhysEntry}
 use Rattle.switch_state.specs.Messages.{packet_out, switch_messages}

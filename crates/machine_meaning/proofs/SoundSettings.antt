@@ -7,9 +7,9 @@ use Rattle.agreement.specs.Premises.{TableGoesWithin, TableKeepsTo}
 use Rattle.member_state.specs.Leaves.{leaf_of}
 use Rattle.member_state.specs.Sound.{IsSoundLeaf, MemberTablesAreSound, MembersKeepToPorts}
 use Rattle.member_state.specs.Sound.{PlainGrantsGivePlainTables}
-use Rattle.policy_file.specs.Policies.{PolicyOf, plan}
-use Rattle.policy_file.specs.Sound.{IsSound, has_at_side}
-use Rattle.policy_file.specs.declared.policy.MemberItem.{MemberItem}
+use Rattle.policies.specs.Policies.{PolicyOf, plan}
+use Rattle.policies.specs.Sound.{IsSound, has_at_side}
+use Rattle.policies.specs.declared.policy.MemberItem.{MemberItem}
 use Rattle.policy_meaning.specs.CentralFact.{EachMember}
 use Rattle.policy_meaning.specs.Disjoint.{HasOrderlyTable, IsTableOfMember}
 use Rattle.policy_meaning.specs.EveryNode.{HasPlainTable, HasSoundTable, IsSoundSwitch}

@@ -4,8 +4,8 @@ use Rattle.std.proofs.Common.{◌≡◌, ◌∙◌, ℕ, ◌<◌, ◌^◌, Bool,
 use Rattle.std.proofs.Common.{sym, ap, subst}
 use Rattle.std.specs.List.{AllByRecursion}
 use Rattle.policy_expr.specs.Policy.{Policy}
-use Rattle.policy_file.specs.Policies.{PolicyOf}
-use Rattle.policy_file.specs.declared.policy.MemberItem.{MemberItem}
+use Rattle.policies.specs.Policies.{PolicyOf}
+use Rattle.policies.specs.declared.policy.MemberItem.{MemberItem}
 use Rattle.waitings.specs.Waitings.{is_asked_by, without_parts_of}
 use Rattle.waitings.specs.declared.state.Waiting.{Waiting}
 use Rattle.machine_meaning.specs.Lists.{changed_at}

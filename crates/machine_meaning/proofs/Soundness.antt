@@ -3,8 +3,8 @@ use Rattle.std.proofs.Common.{List, [], ◌∷◌, fold}
 use Rattle.std.specs.List.{AllByRecursion}
 use Rattle.agreement.specs.FreeOrder.{BatchIsTheSame}
 use Rattle.events.specs.declared.event.Event.{Event}
-use Rattle.policy_file.specs.Policies.{PolicyOf}
-use Rattle.policy_file.specs.Sound.{IsSound}
+use Rattle.policies.specs.Policies.{PolicyOf}
+use Rattle.policies.specs.Sound.{IsSound}
 use Rattle.machine_meaning.specs.Events.{IsEvent}
 use Rattle.machine_meaning.specs.Laws.{RunsAgree, SettingsAreSound, SoundnessIsKept, StandingIsInstalled, StatesAgree}
 use Rattle.machine_meaning.specs.Runs.{after, run_of}

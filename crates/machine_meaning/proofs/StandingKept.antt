@@ -13,7 +13,7 @@ use Rattle.agreement.specs.FreeOrder.{BatchIsTheSame}
 use Rattle.cv_io.specs.declared.leaf.Who.{Who}
 use Rattle.cv_io.specs.declared.leaf.Who.TheVariants.{Audit, Member, Switch}
 use Rattle.of10_match.specs.Ranges.{IsMatch}
-use Rattle.policy_file.specs.Policies.{PolicyOf}
+use Rattle.policies.specs.Policies.{PolicyOf}
 use Rattle.switch_meaning.specs.Batches.{by_key as entries_by_key}
 use Rattle.switch_meaning.specs.Keys.{installed}
 use Rattle.switch_meaning.specs.declared.entry.PhysEntry.{PhysEntry}

@@ -3,7 +3,7 @@ use Rattle.std.proofs.Common.{◌≡◌, ◌∙◌, ℕ, ◌&&◌, Bool, true, f
 use Rattle.cv_io.specs.declared.leaf.Session.{Session}
 use Rattle.cv_io.specs.declared.leaf.Who.{Who}
 use Rattle.cv_io.specs.declared.leaf.Who.TheVariants.{Audit, Member, Switch}
-use Rattle.policy_file.specs.Policies.{PolicyOf}
+use Rattle.policies.specs.Policies.{PolicyOf}
 use Rattle.policy_meaning.proofs.Booleans.{split_and}
 use Rattle.stats_map.specs.Counting.{CountsOf}
 use Rattle.machine_meaning.specs.Glances.{closed_unless, glance_of, is_frame, is_present}

@@ -29,7 +29,7 @@ use Rattle.of10_msgs.specs.declared.message.Body.{Body}
 use Rattle.of10_msgs.specs.declared.message.Body.TheVariants as bodies
 use Rattle.of10_msgs.specs.declared.message.FlowMod.{FlowMod}
 use Rattle.of10_msgs.proofs.Found.{read_is_spelled}
-use Rattle.policy_file.specs.Policies.{PolicyOf}
+use Rattle.policies.specs.Policies.{PolicyOf}
 use Rattle.policy_meaning.proofs.Lists.{all-mapped}
 use Rattle.switch_meaning.proofs.Items.{all-filter}
 use Rattle.machine_meaning.specs.Events.{AreBytes, IsEvent}

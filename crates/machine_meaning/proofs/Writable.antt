@@ -30,9 +30,9 @@ use Rattle.of10_match.specs.Fields.{MatchOf}
 use Rattle.of10_match.specs.Normal.{IsNormal}
 use Rattle.of10_match.specs.Ranges.{IsMatch}
 use Rattle.packet_map.specs.Networks.{leaf_entry}
-use Rattle.policy_file.specs.Policies.{PolicyOf, plan}
-use Rattle.policy_file.specs.Sound.{EachToEarlier, IsOtherPort, IsSound, IsSoundBox, IsSoundSwitch}
-use Rattle.policy_file.specs.declared.policy.MemberItem.{MemberItem}
+use Rattle.policies.specs.Policies.{PolicyOf, plan}
+use Rattle.policies.specs.Sound.{EachToEarlier, IsOtherPort, IsSound, IsSoundBox, IsSoundSwitch}
+use Rattle.policies.specs.declared.policy.MemberItem.{MemberItem}
 use Rattle.policy_meaning.specs.CentralFact.{EachMember}
 use Rattle.policy_meaning.specs.Disjoint.{HasOrderlyTable}
 use Rattle.policy_meaning.specs.Fitting.{IsFittingTable}

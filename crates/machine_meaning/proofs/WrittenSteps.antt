@@ -11,7 +11,7 @@ use Rattle.install_plan.specs.Tables.{after, entry_of}
 use Rattle.install_plan.specs.declared.written.Batch.{Batch}
 use Rattle.install_plan.specs.declared.written.Written.{Written}
 use Rattle.install_plan.proofs.Cookies.{entries-numbered}
-use Rattle.policy_file.specs.Policies.{PolicyOf}
+use Rattle.policies.specs.Policies.{PolicyOf}
 use Rattle.switch_meaning.specs.BatchLaw.{HasOneAKey, IsTableOf}
 use Rattle.switch_meaning.specs.Batches.{missing, by_key as entries_by_key}
 use Rattle.switch_meaning.specs.Keys.{flow_of}

@@ -2,7 +2,7 @@
 use Rattle.std.specs.Prelude.{ℕ, List}
 use Rattle.cv_io.specs.declared.leaf.Who.{Who}
 use Rattle.cv_io.specs.declared.leaf.Who.TheVariants.{Member, Switch, Audit}
-use Rattle.policy_file.specs.Policies.{PolicyOf}
+use Rattle.policies.specs.Policies.{PolicyOf}
 use Rattle.machine_meaning.specs.Coming.{comes_up, goes}
 use Rattle.machine_meaning.specs.Drafts.{Draft, untouched}
 use Rattle.machine_meaning.specs.MemberMessages.{hears_member}

@@ -2,7 +2,7 @@
 use Rattle.std.specs.Prelude.{ℕ, List, [], ◌∷◌, Option, Some, None, flat_map, map, slice_get}
 use Rattle.std.specs.Option.{option_map_or}
 use Rattle.of10_msgs.specs.declared.message.Body.TheVariants.{BarrierReply}
-use Rattle.policy_file.specs.Policies.{PolicyOf}
+use Rattle.policies.specs.Policies.{PolicyOf}
 use Rattle.switch_state.specs.Known.{KnownOf, unanswered}
 use Rattle.switch_state.specs.Reports.{answered_number, barrier_reply}
 use Rattle.machine_meaning.specs.Drafts.{Draft, answer}

@@ -3,7 +3,7 @@ use Rattle.std.specs.Prelude.{ℕ, List, [], ◌++◌, Option, Some, None, fold,
 use Rattle.agreement.specs.Entries.{entries_of}
 use Rattle.agreement.specs.declared.state.Setting.{Setting}
 use Rattle.install_plan.specs.declared.written.Batch.{Batch}
-use Rattle.policy_file.specs.Policies.{PolicyOf}
+use Rattle.policies.specs.Policies.{PolicyOf}
 use Rattle.switch_meaning.specs.Keys.{installed}
 use Rattle.switch_meaning.specs.declared.entry.PhysEntry.{PhysEntry}
 use Rattle.switch_state.specs.Messages.{switch_messages}

@@ -5,7 +5,7 @@ use Rattle.std.specs.Option.{option_map_or}
 use Rattle.cv_io.specs.declared.leaf.Session.{Session}
 use Rattle.of10_frames.specs.Wire.{length_field}
 use Rattle.outbox.specs.Outboxes.{OutboxOf, is_open}
-use Rattle.policy_file.specs.Policies.{PolicyOf}
+use Rattle.policies.specs.Policies.{PolicyOf}
 use Rattle.machine_meaning.specs.Replacing.{is_expression_for}
 use Rattle.machine_meaning.specs.Sessions.{outbox_of}
 use Rattle.machine_meaning.specs.States.{State}

@@ -17,9 +17,9 @@ use Rattle.of10_frames.specs.Wire.{xid_field}
 use Rattle.of10_match.specs.Normal.{IsNormal}
 use Rattle.of10_match.specs.Ranges.{IsMatch}
 use Rattle.outbox.specs.Outboxes.{is_full, with_more}
-use Rattle.policy_file.specs.Policies.{PolicyOf}
-use Rattle.policy_file.specs.Sound.{IsSound}
-use Rattle.policy_file.specs.declared.policy.MemberItem.{MemberItem}
+use Rattle.policies.specs.Policies.{PolicyOf}
+use Rattle.policies.specs.Sound.{IsSound}
+use Rattle.policies.specs.declared.policy.MemberItem.{MemberItem}
 use Rattle.stats_map.specs.Counting.{count}
 use Rattle.stats_map.specs.Histories.{drops, ever, run}
 use Rattle.switch_meaning.specs.BatchLaw.{HasOneAKey}

@@ -10,8 +10,8 @@ use Rattle.of10_msgs.specs.declared.message.Body.{Body}
 use Rattle.of10_msgs.specs.declared.message.Body.TheVariants as bodies
 use Rattle.of10_msgs.specs.declared.message.Message.{Message}
 use Rattle.of10_stats.specs.Reading.{request_in}
-use Rattle.policy_file.specs.Policies.{PolicyOf}
-use Rattle.policy_file.specs.declared.policy.MemberItem.{MemberItem}
+use Rattle.policies.specs.Policies.{PolicyOf}
+use Rattle.policies.specs.declared.policy.MemberItem.{MemberItem}
 use Rattle.machine_meaning.specs.Barriers.{barrier_asked}
 use Rattle.machine_meaning.specs.Denials.{denial}
 use Rattle.machine_meaning.specs.Drafts.{Draft, answer, answering}

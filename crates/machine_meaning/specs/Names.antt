@@ -2,9 +2,9 @@
 use Rattle.std.specs.Prelude.{ℕ, List, [], None, slice_get}
 use Rattle.std.specs.Option.{option_map_or}
 use Rattle.of10_actions.specs.declared.effects.PortView.{PortView}
-use Rattle.policy_file.specs.Policies.{PolicyOf}
-use Rattle.policy_file.specs.Views.{view_of}
-use Rattle.policy_file.specs.declared.policy.MemberItem.{MemberItem}
+use Rattle.policies.specs.Policies.{PolicyOf}
+use Rattle.policies.specs.Views.{view_of}
+use Rattle.policies.specs.declared.policy.MemberItem.{MemberItem}
 use Rattle.virtual_topology.specs.declared.plan.SwitchItem.{SwitchItem}
 use Rattle.virtual_topology.specs.declared.plan.VirtualItem.{VirtualItem}
 

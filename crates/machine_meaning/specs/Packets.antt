@@ -10,7 +10,7 @@ use Rattle.of10_msgs.specs.declared.message.PacketOut.{PacketOut}
 use Rattle.packet_map.specs.Sending.{given, ingress_of, taken_up}
 use Rattle.pkt_bytes.specs.Headers.{header_in}
 use Rattle.pkt_bytes.specs.Rewritten.{rewritten}
-use Rattle.policy_file.specs.Policies.{PolicyOf, plan}
+use Rattle.policies.specs.Policies.{PolicyOf, plan}
 use Rattle.policy_meaning.specs.Networks.{ground_of, switch_links}
 use Rattle.policy_meaning.specs.Walk.{both_walked, walk, what_follows}
 use Rattle.policy_meaning.specs.declared.walking.PortOut.{PortOut}

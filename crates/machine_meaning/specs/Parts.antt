@@ -3,7 +3,7 @@ use Rattle.std.specs.Prelude.{ℕ, Bool, List}
 use Rattle.of10_stats.specs.declared.reply.PortStat.{PortStat}
 use Rattle.of10_stats.specs.declared.reply.ReplyBody.{ReplyBody}
 use Rattle.of10_stats.specs.declared.reply.ReplyBody.TheVariants as replies
-use Rattle.policy_file.specs.Policies.{PolicyOf, plan}
+use Rattle.policies.specs.Policies.{PolicyOf, plan}
 use Rattle.machine_meaning.specs.Drafts.{Draft}
 use Rattle.waitings.specs.Lists.{changed_first}
 use Rattle.waitings.specs.Ports.{taking_ports}

@@ -1,7 +1,7 @@
 -- A poll begins: the switches of a virtual switch that are up are asked for their numbers.
 use Rattle.std.specs.Prelude.{ℕ, List, [], ◌∷◌, ◌++◌, filter, map}
 use Rattle.cv_io.specs.declared.leaf.Who.TheVariants.{Switch}
-use Rattle.policy_file.specs.Policies.{PolicyOf}
+use Rattle.policies.specs.Policies.{PolicyOf}
 use Rattle.machine_meaning.specs.Drafts.{Draft}
 use Rattle.machine_meaning.specs.Sessions.{is_up}
 use Rattle.machine_meaning.specs.States.{State}

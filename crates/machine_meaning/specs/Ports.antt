@@ -1,7 +1,7 @@
 -- Which outside ports are down.
 use Rattle.std.specs.Prelude.{ℕ, Bool, true, false, ◌||◌, not, List, filter, slice_get}
 use Rattle.std.specs.Option.{option_map_or}
-use Rattle.policy_file.specs.Policies.{PolicyOf, plan}
+use Rattle.policies.specs.Policies.{PolicyOf, plan}
 use Rattle.switch_state.specs.Known.{is_dark}
 use Rattle.virtual_topology.specs.Rows.{Spot}
 use Rattle.virtual_topology.specs.Wires.{outside_of}

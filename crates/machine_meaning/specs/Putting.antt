@@ -3,8 +3,8 @@ use Rattle.std.specs.Prelude.{ℕ, ◌==◌, List, ◌++◌, filter, flat_map, i
 use Rattle.std.specs.List.{enumerate_from}
 use Rattle.member_replies.specs.Audit.{down_line, slow_line}
 use Rattle.outbox.specs.Outboxes.{OutboxOf, with_more}
-use Rattle.policy_file.specs.Policies.{PolicyOf}
-use Rattle.policy_file.specs.declared.policy.MemberItem.{MemberItem}
+use Rattle.policies.specs.Policies.{PolicyOf}
+use Rattle.policies.specs.declared.policy.MemberItem.{MemberItem}
 use Rattle.machine_meaning.specs.Drafts.{Draft, said_to}
 use Rattle.machine_meaning.specs.Lists.{places}
 use Rattle.machine_meaning.specs.Names.{switch_name}

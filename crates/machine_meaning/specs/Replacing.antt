@@ -5,12 +5,12 @@ use Rattle.member_replies.specs.Audit.{policy_line}
 use Rattle.policy_expr.specs.Policy.{Policy}
 use Rattle.policy_expr.specs.Reading.{reading}
 use Rattle.policy_expr.specs.declared.fault.ExprFault.{ExprFault}
-use Rattle.policy_file.specs.Exprs.{names}
-use Rattle.policy_file.specs.Policies.{PolicyOf, plan}
-use Rattle.policy_file.specs.Terse.{expr_kind}
-use Rattle.policy_file.specs.Widths.{too_wide_in}
-use Rattle.policy_file.specs.declared.fault.PolicyFault.{PolicyFault}
-use Rattle.policy_file.specs.declared.fault.PolicyFault.TheVariants as faults
+use Rattle.policies.specs.Exprs.{names}
+use Rattle.policies.specs.Policies.{PolicyOf, plan}
+use Rattle.policies.specs.Terse.{expr_kind}
+use Rattle.policies.specs.Widths.{too_wide_in}
+use Rattle.policies.specs.declared.fault.PolicyFault.{PolicyFault}
+use Rattle.policies.specs.declared.fault.PolicyFault.TheVariants as faults
 use Rattle.machine_meaning.specs.Drafts.{Draft}
 use Rattle.machine_meaning.specs.Lists.{changed_at}
 use Rattle.machine_meaning.specs.Names.{virtual_name}

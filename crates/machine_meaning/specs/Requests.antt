@@ -1,7 +1,7 @@
 -- What switches are sent behind their batches: polls, and packets that leave. Each takes the next xid.
 use Rattle.std.specs.Prelude.{ℕ, [], ◌++◌, Option, Some, None, fold, if◌then◌else◌, length, map, nat_lt, slice_get}
 use Rattle.of10_msgs.specs.declared.message.Body.{Body}
-use Rattle.policy_file.specs.Policies.{PolicyOf}
+use Rattle.policies.specs.Policies.{PolicyOf}
 use Rattle.switch_state.specs.Messages.{flow_request, packet_out, port_request}
 use Rattle.switch_state.specs.Sending.{Sending, send}
 use Rattle.machine_meaning.specs.Composing.{sent_to}

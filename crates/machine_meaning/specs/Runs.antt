@@ -1,6 +1,6 @@
 -- A run: events one after the other.
 use Rattle.std.specs.Prelude.{List, fold}
-use Rattle.policy_file.specs.Policies.{PolicyOf}
+use Rattle.policies.specs.Policies.{PolicyOf}
 use Rattle.machine_meaning.specs.States.{State, opening}
 use Rattle.machine_meaning.specs.Steps.{step_of}
 use Rattle.events.specs.declared.event.Event.{Event}

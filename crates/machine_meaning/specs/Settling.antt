@@ -8,8 +8,8 @@ use Rattle.member_table.specs.Entries.{has_serial}
 use Rattle.member_table.specs.declared.entry.Entry.{Entry}
 use Rattle.of10_msgs.specs.declared.message.Body.TheVariants.{BarrierReply}
 use Rattle.of10_stats.specs.declared.reply.PortStat.{PortStat}
-use Rattle.policy_file.specs.Policies.{PolicyOf}
-use Rattle.policy_file.specs.declared.policy.MemberItem.{MemberItem}
+use Rattle.policies.specs.Policies.{PolicyOf}
+use Rattle.policies.specs.declared.policy.MemberItem.{MemberItem}
 use Rattle.machine_meaning.specs.Counted.{count_of}
 use Rattle.machine_meaning.specs.Drafts.{Draft, letter, message}
 use Rattle.machine_meaning.specs.Lists.{changed_at}

@@ -17,10 +17,10 @@ use Rattle.of10_actions.specs.Actions.{FitsTypes}
 use Rattle.of10_match.specs.Ranges.{IsMatch}
 use Rattle.outbox.specs.Outboxes.{OutboxOf}
 use Rattle.policy_expr.specs.Policy.{Policy}
-use Rattle.policy_file.specs.Exprs.{exprs_of}
-use Rattle.policy_file.specs.Policies.{PolicyOf, plan}
-use Rattle.policy_file.specs.Widths.{too_wide_in}
-use Rattle.policy_file.specs.declared.policy.MemberItem.{MemberItem}
+use Rattle.policies.specs.Exprs.{exprs_of}
+use Rattle.policies.specs.Policies.{PolicyOf, plan}
+use Rattle.policies.specs.Widths.{too_wide_in}
+use Rattle.policies.specs.declared.policy.MemberItem.{MemberItem}
 use Rattle.stats_map.specs.Counting.{cookie_at, is_named, place_cmp}
 use Rattle.switch_meaning.specs.Batches.{by_key}
 use Rattle.switch_meaning.specs.Keys.{installed}

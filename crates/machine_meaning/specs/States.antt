@@ -4,10 +4,10 @@ use Rattle.install_plan.specs.declared.written.Written.{Written}
 use Rattle.member_state.specs.States.{MemberStateOf, opening as opening_state}
 use Rattle.outbox.specs.Outboxes.{OutboxOf, unopened}
 use Rattle.policy_expr.specs.Policy.{Policy}
-use Rattle.policy_file.specs.Exprs.{exprs_of}
-use Rattle.policy_file.specs.Policies.{PolicyOf}
-use Rattle.policy_file.specs.declared.fault.PolicyFault.{PolicyFault}
-use Rattle.policy_file.specs.declared.policy.MemberItem.{MemberItem}
+use Rattle.policies.specs.Exprs.{exprs_of}
+use Rattle.policies.specs.Policies.{PolicyOf}
+use Rattle.policies.specs.declared.fault.PolicyFault.{PolicyFault}
+use Rattle.policies.specs.declared.policy.MemberItem.{MemberItem}
 use Rattle.stats_map.specs.Counting.{CountsOf, nothing}
 use Rattle.switch_state.specs.Known.{KnownOf, nothing_known}
 use Rattle.virtual_topology.specs.declared.plan.SwitchItem.{SwitchItem}

@@ -5,7 +5,7 @@ use Rattle.member_replies.specs.Statistics.{description, messages, tables}
 use Rattle.of10_stats.specs.declared.fault.StatsFault.{StatsFault}
 use Rattle.of10_stats.specs.declared.request.StatsRequest.{StatsRequest}
 use Rattle.of10_stats.specs.declared.request.StatsRequest.TheVariants as requests
-use Rattle.policy_file.specs.Policies.{PolicyOf}
+use Rattle.policies.specs.Policies.{PolicyOf}
 use Rattle.machine_meaning.specs.Drafts.{Draft, answering}
 use Rattle.machine_meaning.specs.Names.{virtual_dpid, virtual_name}
 use Rattle.machine_meaning.specs.Polls.{begin_poll}

@@ -1,6 +1,6 @@
 -- One step of the machine: an event, the reply to it, and the state after it.
 use Rattle.std.specs.Prelude.{Option, Some, None}
-use Rattle.policy_file.specs.Policies.{PolicyOf}
+use Rattle.policies.specs.Policies.{PolicyOf}
 use Rattle.machine_meaning.specs.Drafts.{Draft}
 use Rattle.machine_meaning.specs.Glances.{glance_of}
 use Rattle.machine_meaning.specs.Hearing.{heard}

@@ -15,7 +15,7 @@ use Rattle.of10_msgs.specs.declared.sender.Sender.TheVariants as senders
 use Rattle.of10_stats.specs.Reading.{reply_in}
 use Rattle.of10_stats.specs.declared.fault.StatsFault.{StatsFault}
 use Rattle.of10_stats.specs.declared.reply.StatsReply.{StatsReply}
-use Rattle.policy_file.specs.Policies.{PolicyOf}
+use Rattle.policies.specs.Policies.{PolicyOf}
 use Rattle.script_text.specs.declared.audit.DownCause.TheVariants as causes
 use Rattle.switch_state.specs.Messages.{echo_reply}
 use Rattle.machine_meaning.specs.Barriers.{barrier_replied}

@@ -3,7 +3,7 @@ use Rattle.std.specs.Prelude.{ℕ, zero, suc, Bool, false, ◌==◌, ◌&&◌, �
 use Rattle.std.specs.List.{list_any}
 use Rattle.std.specs.Option.{option_map_or}
 use Rattle.grants.specs.Ports.{is_one_of}
-use Rattle.policy_file.specs.Policies.{PolicyOf, plan}
+use Rattle.policies.specs.Policies.{PolicyOf, plan}
 use Rattle.policy_setting.specs.Wirings.{wiring}
 use Rattle.switch_meaning.specs.Fixed.{arrivals}
 use Rattle.switch_meaning.specs.declared.wiring.Outside.{Outside}

@@ -8,7 +8,7 @@ use Rattle.of10_match.specs.Matching.{everything}
 use Rattle.of10_msgs.specs.Reading.{flow_mod_of}
 use Rattle.of10_msgs.specs.Spelling.{body_bytes, flow_mod_fields}
 use Rattle.of10_msgs.specs.declared.message.Body.{Body}
-use Rattle.policy_file.specs.Policies.{PolicyOf}
+use Rattle.policies.specs.Policies.{PolicyOf}
 use Rattle.policy_setting.specs.OfPolicies.{seen, sees_its}
 use Rattle.machine_meaning.specs.Drafts.{message}
 use Rattle.machine_meaning.specs.Runs.{run_of}

@@ -2,7 +2,7 @@
 use Rattle.std.specs.Prelude.{ℕ, Bool, true, false, Option, Some, None, List, [], map}
 use Rattle.std.specs.Option.{option_map_or}
 use Rattle.install_plan.specs.Tables.{entry_of}
-use Rattle.policy_file.specs.Policies.{PolicyOf}
+use Rattle.policies.specs.Policies.{PolicyOf}
 use Rattle.switch_meaning.specs.BatchLaw.{IsTableOf}
 use Rattle.switch_meaning.specs.Keys.{flow_of}
 use Rattle.switch_meaning.specs.declared.entry.FlowEntry.{FlowEntry}

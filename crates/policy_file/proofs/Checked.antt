@@ -8,11 +8,11 @@ use Rattle.std.proofs.lemmas.Str.{IsUtf8-from_is_utf8}
 use Rattle.toml.specs.Data.{Members}
 use Rattle.toml.specs.Parse.{parse_document}
 use Rattle.virtual_topology.specs.Faults.{Answers}
-use Rattle.policy_file.specs.declared.fault.PolicyFault.{PolicyFault}
-use Rattle.policy_file.specs.declared.fault.PolicyFault.TheVariants.{Memory, Long}
+use Rattle.policies.specs.declared.fault.PolicyFault.{PolicyFault}
+use Rattle.policies.specs.declared.fault.PolicyFault.TheVariants.{Memory, Long}
 use Rattle.policy_file.specs.declared.reading.Draft.{Draft}
 use Rattle.policy_file.specs.Listed.{unlisted_in, missing_in}
-use Rattle.policy_file.specs.Outcomes.{Gives, then_do, unless}
+use Rattle.policies.specs.Outcomes.{Gives, then_do, unless}
 use Rattle.policy_file.specs.Reading.{document_of, draft_of, fits, policy_in_bytes, policy_of, policy_of_document}
 use Rattle.policy_file.specs.Reading.{whole}
 

@@ -22,12 +22,12 @@ use Rattle.policy_file.specs.Members.{region_in}
 use Rattle.policy_file.specs.Regions.{all_headers, at, box, box_of, boxes, ether, fields_named, if_normal, is_normal}
 use Rattle.policy_file.specs.Regions.{link_fields, names_fields, prefix, tos, vlan, with_box, with_network_fields}
 use Rattle.policy_file.specs.Regions.{with_transport_fields}
-use Rattle.policy_file.specs.Sound.{EachToEarlier, IsSoundBox, LiesApart, has_at_side, is_at_side}
+use Rattle.policies.specs.Sound.{EachToEarlier, IsSoundBox, LiesApart, has_at_side, is_at_side}
 use Rattle.policy_file.specs.Values.{all_after, number}
-use Rattle.policy_file.specs.Views.{inserted, is_named, on_side, rising_with, side}
+use Rattle.policies.specs.Views.{inserted, is_named, on_side, rising_with, side}
 use Rattle.policy_file.proofs.Options.{mapped, through}
 use Rattle.policy_file.proofs.Ranged.{named_in_range}
-use Rattle.policy_file.proofs.Rising.{increasing_from, inserted_rises}
+use Rattle.policies.proofs.Rising.{increasing_from, inserted_rises}
 use Rattle.policy_file.proofs.Unlike.{all_end, earlier_end, not_any}
 
 -- boxes

@@ -1,12 +1,12 @@
 -- Items, one after the other.
 use Rattle.std.proofs.Common.{◌≡◌, ◌∙◌, ◌⊎◌, inl, inr, sym, ap, ℕ, List, ◌∷◌, Result, Ok, Err}
 use Rattle.toml.specs.Data.{Data, Members}
-use Rattle.policy_file.specs.declared.fault.PolicyFault.{PolicyFault}
-use Rattle.policy_file.specs.declared.fault.PolicyFault.TheVariants.{Memory}
+use Rattle.policies.specs.declared.fault.PolicyFault.{PolicyFault}
+use Rattle.policies.specs.declared.fault.PolicyFault.TheVariants.{Memory}
 use Rattle.policy_file.specs.declared.keys.ItemKind.{ItemKind}
 use Rattle.policy_file.specs.declared.section.Section.{Section}
 use Rattle.policy_file.specs.declared.section.Section.TheVariants.{Item}
-use Rattle.policy_file.specs.Outcomes.{then_do}
+use Rattle.policies.specs.Outcomes.{then_do}
 use Rattle.policy_file.specs.Plans.{with_item, items_after}
 
 -- one that can't be read ends the list

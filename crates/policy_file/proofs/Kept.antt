@@ -6,16 +6,17 @@ use Rattle.std.specs.List.{AllByRecursion, enumerate_from}
 use Rattle.std.specs.Prelude.{slice_get, option_and_then, option_map, nat_lt, if◌then◌else◌}
 use Rattle.std.proofs.lemmas.Bool.Decides.{nat_tests}
 use Rattle.toml.specs.Data.{Data, string, integer, float, boolean, datetime, array, table, Members, get_member, as_str}
-use Rattle.policy_file.specs.declared.fault.PolicyFault.{PolicyFault}
+use Rattle.policies.specs.declared.fault.PolicyFault.{PolicyFault}
 use Rattle.policy_file.specs.declared.keys.ItemKind.{ItemKind}
 use Rattle.policy_file.specs.declared.section.Section.{Section}
 use Rattle.policy_file.specs.declared.section.Section.TheVariants.{Item}
 use Rattle.policy_file.specs.Heads.{or_absent}
-use Rattle.policy_file.specs.Outcomes.{then_do, found}
+use Rattle.policy_file.specs.Outcomes.{found}
+use Rattle.policies.specs.Outcomes.{then_do}
 use Rattle.policy_file.specs.Plans.{read_at, with_item, items_after}
 use Rattle.policy_file.specs.Regions.{if_there}
 use Rattle.policy_file.specs.Values.{within, within_range, number, if_fits, text_that}
-use Rattle.policy_file.proofs.Outcomes.{done}
+use Rattle.policies.proofs.Outcomes.{done}
 
 -- a number in a range
 pub record IsWithin (least greatest n : ℕ) : Type 0 where

@@ -1,15 +1,10 @@
 pub mod Lists
 pub mod Texts
-pub mod Numbered
 pub mod Outcomes
 pub mod Together
 pub mod Kept
 pub mod Standing
-pub mod Widths
-pub mod Expressions
-pub mod Shows
 pub mod Distinct
-pub mod Rising
 pub mod ItemSteps
 pub mod Each
 pub mod Passing

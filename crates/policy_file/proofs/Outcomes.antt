@@ -1,36 +1,8 @@
--- What stands where steps and checks find no fault.
-use Rattle.std.proofs.Common.{◌≡◌, ◌⊎◌, inl, inr, List, ℕ, Option, Some, None, Result, Ok, Err, arith, refl}
-use Rattle.policy_file.specs.declared.fault.PolicyFault.{PolicyFault}
+-- What was read of a key, where there is no fault.
+use Rattle.std.proofs.Common.{◌≡◌, List, ℕ, Option, Some, None, Ok}
 use Rattle.policy_file.specs.declared.section.Section.{Section}
-use Rattle.policy_file.specs.Outcomes.{then_do, unless, found}
-
--- a first step that answered, and what the next made of it
-pub record AreDone {A B : Type 0} (r : Result A PolicyFault) (next : A → Result B PolicyFault) (y : B) : Type 0 where
-  pub value : A
-  pub first : r ≡ Ok value
-  pub second : next value ≡ Ok y
-
-pub done : {A B : Type 0} (r : Result A PolicyFault) (next : A → Result B PolicyFault) (y : B) → then_do r next ≡ Ok y
-    → AreDone r next y
-done (Ok x) next y e = record { value = x; first = refl; second = e }
-done (Err fault) next y e = absurd (cc)
+use Rattle.policy_file.specs.Outcomes.{found}
 
 pub found_some : {A : Type 0} (s : Section) (k : List ℕ) (o : Option A) (x : A) → found s k o ≡ Ok x → o ≡ Some x
 found_some s k (Some y) x e = cc
 found_some s k None x e = absurd (cc)
-
-pub record NoneBefore {A : Type 0} (fault : Option PolicyFault) (outcome : Result A PolicyFault) (x : A) : Type 0 where
-  pub none : fault ≡ None
-  pub rest : outcome ≡ Ok x
-
-pub none_before : {A : Type 0} (fault : Option PolicyFault) (outcome : Result A PolicyFault) (x : A)
-    → unless fault outcome ≡ Ok x → NoneBefore fault outcome x
-none_before None outcome x e = record { none = refl; rest = e }
-none_before (Some fault) outcome x e = absurd (cc)
-
--- where there is no fault, a fault that is answered is want of memory
-pub only_memory : {E : Type 0} (memory fault : E) (o : Option E) → (fault ≡ memory) ⊎ (o ≡ Some fault) → o ≡ None
-    → fault ≡ memory
-only_memory memory fault o (inl m) e = m
-only_memory memory fault None (inr s) e = absurd (cc)
-only_memory memory fault (Some x) (inr s) e = absurd (cc)

@@ -5,7 +5,7 @@ use Rattle.std.specs.Prelude.{option_and_then, option_map, if◌then◌else◌}
 use Rattle.toml.specs.Data.{Data, same_key}
 use Rattle.virtual_topology.specs.declared.plan.VirtualPort.{VirtualPort}
 use Rattle.virtual_topology.specs.declared.plan.PortPlace.{PortPlace}
-use Rattle.policy_file.specs.Sound.{IsPortNumber}
+use Rattle.policies.specs.Sound.{IsPortNumber}
 use Rattle.policy_file.specs.Values.{are_distinct, decimal_of, decimal_within, each_of, is_link, link_port}
 use Rattle.policy_file.specs.Values.{outside_port}
 use Rattle.policy_file.specs.Values.{place, split_at_first, virtual_port, virtual_port_at, within}

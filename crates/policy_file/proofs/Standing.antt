@@ -17,7 +17,7 @@ use Rattle.virtual_topology.specs.declared.plan.SwitchItem.{SwitchItem}
 use Rattle.virtual_topology.specs.declared.plan.TopologyPlan.{TopologyPlan}
 use Rattle.virtual_topology.specs.declared.plan.VirtualItem.{VirtualItem}
 use Rattle.virtual_topology.specs.Places.{same_name}
-use Rattle.policy_file.specs.declared.fault.PolicyFault.{PolicyFault}
+use Rattle.policies.specs.declared.fault.PolicyFault.{PolicyFault}
 use Rattle.policy_file.specs.declared.head.Head.{Head}
 use Rattle.policy_file.specs.declared.keys.ItemKind.{ItemKind}
 use Rattle.policy_file.specs.declared.keys.ItemKind.TheVariants.{Switch, Cable, Virtual, Link, Member}
@@ -25,27 +25,31 @@ use Rattle.policy_file.specs.declared.keys.Version.{Version}
 use Rattle.policy_file.specs.declared.keys.Version.TheVariants.{One, Two}
 use Rattle.policy_file.specs.declared.member.Place.{Place}
 use Rattle.policy_file.specs.declared.member.Rights.{Rights}
-use Rattle.policy_file.specs.declared.policy.MemberItem.{MemberItem}
+use Rattle.policies.specs.declared.policy.MemberItem.{MemberItem}
 use Rattle.policy_file.specs.declared.reading.Draft.{Draft}
 use Rattle.policy_file.specs.declared.section.Section.{Section}
 use Rattle.policy_file.specs.declared.section.Section.TheVariants.{Top, Item}
 use Rattle.policy_file.specs.Heads.{head_of, first_of, last_of, items_at, or_absent}
 use Rattle.policy_file.specs.Listed.{items, version_of}
-use Rattle.policy_file.specs.Members.{is_at, is_used, place, ports_at, region_in, region_key, rights, member}
+use Rattle.policy_file.specs.Members.{is_used, place, ports_at, region_in, region_key, rights, member}
+use Rattle.policies.specs.Sound.{is_at}
 use Rattle.policy_file.specs.Members.{member_with, numbered, virtual_at, number_of, next_member, members_of}
 use Rattle.policy_file.specs.Members.{new_controller}
-use Rattle.policy_file.specs.Outcomes.{then_do, found}
+use Rattle.policy_file.specs.Outcomes.{found}
+use Rattle.policies.specs.Outcomes.{then_do}
 use Rattle.policy_file.specs.Plans.{dpid_is_taken, name_is_taken, new_dpid, new_name, plan_of, switch, virtual_switch}
 use Rattle.policy_file.specs.Plans.{switches as switches_of, virtuals as virtuals_of, pairs, read_at, if_new, with_item}
 use Rattle.policy_file.specs.Plans.{items_after}
 use Rattle.policy_file.specs.Reading.{draft_of, policy_of, number_of as number_of_version}
-use Rattle.policy_file.specs.Sound.{IsSoundGrant, IsSoundMember, IsSoundSwitch, EachToEarlier, IsSoundVirtual}
-use Rattle.policy_file.specs.Sound.{AreUnlikeSwitches, AreUnlikeVirtuals, AreUnlikeMembers, KeepsLimits, StandsAt}
-use Rattle.policy_file.specs.Values.{address, dpid, expression, name, number, ports, is_name, is_address}
+use Rattle.policies.specs.Sound.{IsSoundGrant, IsSoundMember, IsSoundSwitch, EachToEarlier, IsSoundVirtual}
+use Rattle.policies.specs.Sound.{AreUnlikeSwitches, AreUnlikeVirtuals, AreUnlikeMembers, KeepsLimits, StandsAt}
+use Rattle.policy_file.specs.Values.{address, dpid, expression, name, number, ports}
+use Rattle.policies.specs.Names.{is_name, is_address}
 use Rattle.policy_file.specs.Words.{actions, fields, nothing, virtual_ports}
 use Rattle.policy_file.specs.Regions.{all_headers, if_there}
 use Rattle.policy_file.proofs.Granted.{AreApart, regions_apart, side_rises, side_there}
-use Rattle.policy_file.proofs.Outcomes.{done, found_some}
+use Rattle.policy_file.proofs.Outcomes.{found_some}
+use Rattle.policies.proofs.Outcomes.{done}
 use Rattle.policy_file.proofs.PortNumbers.{virtual_ports_within}
 use Rattle.policy_file.proofs.Unlike.{IsReadApart, items_apart, not_any, not_taken, unlike_all, ports_once}
 use Rattle.policy_file.proofs.Unlike.{ports_within}

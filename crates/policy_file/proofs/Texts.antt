@@ -4,7 +4,7 @@ use Rattle.std.specs.Char.{is_ascii, is_ascii_graphic, is_ascii_lowercase, is_as
 use Rattle.std.specs.List.{list_all}
 use Rattle.std.proofs.lemmas.List.Sums.{AllPass-from_list_all}
 use Rattle.cv_io.specs.Text.{IsAsciiText}
-use Rattle.policy_file.specs.Values.{is_printable, is_address, is_name_byte, is_name}
+use Rattle.policies.specs.Names.{is_printable, is_address, is_name_byte, is_name}
 
 pub ascii_by : (p : ℕ → Bool) → ((b : ℕ) → p b ≡ true → b < 128) → (s : List ℕ) → list_all p s ≡ true → IsAsciiText s
 ascii_by p low s e = λ k d lt. low _ (AllPass-from_list_all p s e k d lt)

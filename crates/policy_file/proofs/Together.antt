@@ -2,17 +2,17 @@
 use Rattle.std.proofs.Common.{◌≡◌, ◌∙◌, sym, List, ℕ, Option, Some, None, Result, Ok, Err, IsOk, IfOk, rules, refl}
 use Rattle.std.specs.Option.{option_map}
 use Rattle.policy_expr.specs.Policy as expr
-use Rattle.policy_file.specs.declared.fault.PolicyFault.{PolicyFault}
-use Rattle.policy_file.specs.Exprs.{exprs_of}
-use Rattle.policy_file.specs.Outcomes.{then_do, unless}
-use Rattle.policy_file.specs.Policies.{PolicyOf, plan}
+use Rattle.policies.specs.declared.fault.PolicyFault.{PolicyFault}
+use Rattle.policies.specs.Exprs.{exprs_of}
+use Rattle.policies.specs.Outcomes.{then_do, unless}
+use Rattle.policies.specs.Policies.{PolicyOf, plan}
 use Rattle.policy_file.specs.Reading.{draft_of, fits, policy_of, topology_fault, path_fault}
-use Rattle.policy_file.specs.Sound.{FitsTogether, IsSound}
-use Rattle.policy_file.specs.Widths.{too_wide_in}
+use Rattle.policies.specs.Sound.{FitsTogether, IsSound}
+use Rattle.policies.specs.Widths.{too_wide_in}
 use Rattle.toml.specs.Data.{Members}
 use Rattle.policy_file.specs.declared.reading.Draft.{Draft}
 use Rattle.policy_file.proofs.Standing.{limits_kept}
-use Rattle.policy_file.proofs.Outcomes.{done, none_before}
+use Rattle.policies.proofs.Outcomes.{done, none_before}
 
 none_mapped : {A B : Type 0} (f : A → B) (o : Option A) → option_map f o ≡ None → o ≡ None
 none_mapped f None e = refl

@@ -8,17 +8,18 @@ use Rattle.toml.specs.Data.{Data, string, integer, float, boolean, datetime, arr
 use Rattle.virtual_topology.specs.declared.plan.SwitchItem.{SwitchItem}
 use Rattle.virtual_topology.specs.declared.plan.VirtualItem.{VirtualItem}
 use Rattle.virtual_topology.specs.Places.{same_name}
-use Rattle.policy_file.specs.declared.fault.PolicyFault.{PolicyFault}
+use Rattle.policies.specs.declared.fault.PolicyFault.{PolicyFault}
 use Rattle.policy_file.specs.declared.keys.ItemKind.{ItemKind}
-use Rattle.policy_file.specs.declared.policy.MemberItem.{MemberItem}
+use Rattle.policies.specs.declared.policy.MemberItem.{MemberItem}
 use Rattle.policy_file.specs.declared.section.Section.{Section}
 use Rattle.policy_file.specs.declared.section.Section.TheVariants.{Item}
 use Rattle.policy_file.specs.Documents.{as_list}
-use Rattle.policy_file.specs.Outcomes.{then_do, found}
+use Rattle.policy_file.specs.Outcomes.{found}
+use Rattle.policies.specs.Outcomes.{then_do}
 use Rattle.policy_file.specs.Plans.{read_at, is_taken, if_new, with_item, items_after}
-use Rattle.policy_file.specs.Sound.{EachToEarlier, IsOtherPort, IsPortNumber}
+use Rattle.policies.specs.Sound.{EachToEarlier, IsOtherPort, IsPortNumber}
 use Rattle.policy_file.specs.Values.{number, are_distinct, each_of, port, ports, if_distinct}
-use Rattle.policy_file.proofs.Outcomes.{done}
+use Rattle.policies.proofs.Outcomes.{done}
 use Rattle.policy_file.proofs.Kept.{number_within}
 
 -- each item that is read is so to those before it

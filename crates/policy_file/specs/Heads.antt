@@ -5,7 +5,7 @@ use Rattle.std.specs.List.{list_all}
 use Rattle.std.specs.Option.{option_map_or}
 use Rattle.toml.specs.Data.{Data, string, integer, float, boolean, datetime, array, table, as_table, Members}
 use Rattle.toml.specs.Data.{get_member}
-use Rattle.policy_file.specs.declared.fault.PolicyFault.{PolicyFault}
+use Rattle.policies.specs.declared.fault.PolicyFault.{PolicyFault}
 use Rattle.policy_file.specs.declared.head.Head.{Head}
 use Rattle.policy_file.specs.declared.keys.ItemKind.{ItemKind}
 use Rattle.policy_file.specs.declared.keys.ItemKind.TheVariants.{Switch, Cable, Virtual, Link, Member}
@@ -14,7 +14,8 @@ use Rattle.policy_file.specs.declared.section.Section.TheVariants.{Top}
 use Rattle.policy_file.specs.Documents.{as_list}
 use Rattle.policy_file.specs.Keys.{kind_key}
 use Rattle.policy_file.specs.Listed.{version_of}
-use Rattle.policy_file.specs.Outcomes.{found, then_do}
+use Rattle.policy_file.specs.Outcomes.{found}
+use Rattle.policies.specs.Outcomes.{then_do}
 use Rattle.policy_file.specs.Regions.{if_there}
 use Rattle.policy_file.specs.Values.{number, address}
 

@@ -9,11 +9,5 @@ pub mod Outcomes
 pub mod Listed
 pub mod Heads
 pub mod Plans
-pub mod Views
 pub mod Members
-pub mod Exprs
-pub mod Widths
-pub mod Policies
-pub mod Sound
 pub mod Reading
-pub mod Terse

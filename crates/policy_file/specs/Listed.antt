@@ -6,8 +6,8 @@ use Rattle.std.specs.Option.{option_or}
 use Rattle.toml.specs.Data.{Data, string, integer, float, boolean, datetime, array, table, as_integer, Members}
 use Rattle.toml.specs.Data.{get_member, same_key}
 use Rattle.virtual_topology.specs.Faults.{first_answer}
-use Rattle.policy_file.specs.declared.fault.PolicyFault.{PolicyFault}
-use Rattle.policy_file.specs.declared.fault.PolicyFault.TheVariants as faults
+use Rattle.policies.specs.declared.fault.PolicyFault.{PolicyFault}
+use Rattle.policies.specs.declared.fault.PolicyFault.TheVariants as faults
 use Rattle.policy_file.specs.declared.keys.ItemKind.{ItemKind}
 use Rattle.policy_file.specs.declared.keys.Version.{Version}
 use Rattle.policy_file.specs.declared.keys.Version.TheVariants.{One, Two}

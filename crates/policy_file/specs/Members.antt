@@ -11,22 +11,24 @@ use Rattle.grants.specs.declared.grant.Grant.{Grant}
 use Rattle.virtual_topology.specs.Places.{same_name}
 use Rattle.virtual_topology.specs.declared.plan.VirtualItem.{VirtualItem}
 use Rattle.virtual_topology.specs.declared.plan.VirtualPort.{VirtualPort}
-use Rattle.policy_file.specs.declared.fault.PolicyFault.{PolicyFault}
-use Rattle.policy_file.specs.declared.fault.PolicyFault.TheVariants as faults
+use Rattle.policies.specs.declared.fault.PolicyFault.{PolicyFault}
+use Rattle.policies.specs.declared.fault.PolicyFault.TheVariants as faults
 use Rattle.policy_file.specs.declared.keys.ItemKind.TheVariants.{Member}
 use Rattle.policy_file.specs.declared.keys.Version.{Version}
 use Rattle.policy_file.specs.declared.keys.Version.TheVariants.{One, Two}
 use Rattle.policy_file.specs.declared.member.Place.{Place}
 use Rattle.policy_file.specs.declared.member.Rights.{Rights}
-use Rattle.policy_file.specs.declared.policy.MemberItem.{MemberItem}
+use Rattle.policies.specs.declared.policy.MemberItem.{MemberItem}
 use Rattle.policy_file.specs.declared.section.Section.{Section}
 use Rattle.policy_file.specs.declared.section.Section.TheVariants.{Top, Item}
 use Rattle.policy_file.specs.Heads.{or_absent}
-use Rattle.policy_file.specs.Outcomes.{found, then_do}
+use Rattle.policies.specs.Sound.{is_at}
+use Rattle.policy_file.specs.Outcomes.{found}
+use Rattle.policies.specs.Outcomes.{then_do}
 use Rattle.policy_file.specs.Plans.{items_of, read_at, if_new}
 use Rattle.policy_file.specs.Regions.{region, regions, all_headers, if_there}
 use Rattle.policy_file.specs.Sections.{section_name}
-use Rattle.policy_file.specs.Views.{has_port, view_of}
+use Rattle.policies.specs.Views.{has_port, view_of}
 use Rattle.policy_file.specs.Values.{number, name, address, ports}
 use Rattle.policy_file.specs.declared.words.Nameable.{Nameable}
 use Rattle.policy_file.specs.Words.{actions, fields, nothing}
@@ -35,10 +37,6 @@ use Rattle.policy_file.specs.Words.{actions, fields, nothing}
 abbrev pub virtual_at : List VirtualItem → Members → Option ℕ
 virtual_at virtuals ms = option_and_then (λ s. position (λ (v : VirtualItem). same_name v.name s) virtuals)
     (read_at as_str (codes "virtual") ms)
-
--- a member has a controller at a virtual switch of this name
-abbrev pub is_at : List ℕ → List ℕ → MemberItem → Bool
-is_at controller vsw m = same_name controller m.controller && same_name vsw m.vsw
 
 -- an earlier member has the controller at the virtual switch that is named
 abbrev pub is_used : List MemberItem → List ℕ → Option (List ℕ) → Bool

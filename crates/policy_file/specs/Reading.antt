@@ -7,21 +7,21 @@ use Rattle.virtual_topology.specs.declared.plan.TopologyPlan.{TopologyPlan}
 use Rattle.virtual_topology.specs.Faults.{fault_of}
 use Rattle.inner_paths.specs.Cuts.{cut_fault}
 use Rattle.policy_expr.specs.Policy as expr
-use Rattle.policy_file.specs.declared.fault.PolicyFault.{PolicyFault}
-use Rattle.policy_file.specs.declared.fault.PolicyFault.TheVariants as faults
+use Rattle.policies.specs.declared.fault.PolicyFault.{PolicyFault}
+use Rattle.policies.specs.declared.fault.PolicyFault.TheVariants as faults
 use Rattle.policy_file.specs.declared.head.Head.{Head}
 use Rattle.policy_file.specs.declared.keys.Version.{Version}
 use Rattle.policy_file.specs.declared.keys.Version.TheVariants.{One, Two}
-use Rattle.policy_file.specs.declared.policy.MemberItem.{MemberItem}
+use Rattle.policies.specs.declared.policy.MemberItem.{MemberItem}
 use Rattle.policy_file.specs.declared.reading.Draft.{Draft}
-use Rattle.policy_file.specs.Policies.{PolicyOf, plan}
-use Rattle.policy_file.specs.Outcomes.{then_do, unless}
+use Rattle.policies.specs.Policies.{PolicyOf, plan}
+use Rattle.policies.specs.Outcomes.{then_do, unless}
 use Rattle.policy_file.specs.Listed.{unlisted_in, missing_in}
 use Rattle.policy_file.specs.Heads.{head_of}
 use Rattle.policy_file.specs.Plans.{plan_of}
 use Rattle.policy_file.specs.Members.{members_of}
-use Rattle.policy_file.specs.Exprs.{exprs_of}
-use Rattle.policy_file.specs.Widths.{too_wide_in}
+use Rattle.policies.specs.Exprs.{exprs_of}
+use Rattle.policies.specs.Widths.{too_wide_in}
 
 -- 4: what the keys of a file say, or the first value that can't be so
 abbrev pub draft_of : Members → Result Draft PolicyFault

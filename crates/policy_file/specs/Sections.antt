@@ -1,18 +1,11 @@
 -- Where in a policy file something stands, and its name.
-use Rattle.std.specs.Prelude.{ℕ, List, [], ◌∷◌, ◌++◌, map, if◌then◌else◌}
-use Rattle.std.specs.Char.{is_ascii_graphic}
+use Rattle.std.specs.Prelude.{ℕ, List, [], ◌∷◌, ◌++◌}
 use Rattle.std.specs.Fmt.{decimal}
 use Rattle.policy_file.specs.declared.keys.ItemKind.{ItemKind}
 use Rattle.policy_file.specs.declared.section.Section.{Section}
 use Rattle.policy_file.specs.declared.section.Section.TheVariants.{Top, Item}
+use Rattle.policies.specs.Showing.{shown}
 use Rattle.policy_file.specs.Keys.{Row, top_rows, item_rows, kind_key}
-
--- a byte of a key as a fault shows it: `?` (63) in place of what isn't printable ASCII, or is a blank
-abbrev pub shown_byte : ℕ → ℕ
-shown_byte b = if is_ascii_graphic b then b else 63
-
-abbrev pub shown : List ℕ → List ℕ
-shown = map shown_byte
 
 -- the keys that may stand there
 abbrev pub rows_of : Section → List Row

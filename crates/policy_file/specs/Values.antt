@@ -1,12 +1,13 @@
 -- What the values of keys stand for, where they can be so.
-use Rattle.std.specs.Prelude.{codes, ℕ, zero, suc, ℤ, pos, negsuc, ◌+◌, ◌-◌, ◌*◌, ◌==◌, ◌&&◌, ◌||◌, not, Bool, true}
+use Rattle.std.specs.Prelude.{codes, ℕ, zero, suc, ℤ, pos, negsuc, ◌+◌, ◌-◌, ◌*◌, ◌==◌, ◌&&◌, not, Bool, true}
 use Rattle.std.specs.Prelude.{false, List, [], ◌∷◌, Option, Some, None, if◌then◌else◌, nat_le, nat_lt, length}
 use Rattle.std.specs.Prelude.{option_map, option_and_then, position, take, drop}
-use Rattle.std.specs.Char.{is_ascii_graphic, is_ascii_lowercase, is_ascii_digit, is_ascii}
+use Rattle.std.specs.Char.{is_ascii_digit, is_ascii}
 use Rattle.std.specs.List.{list_all, list_any}
 use Rattle.toml.specs.Data.{Data, string, integer, float, boolean, datetime, array, table, as_integer, as_str, same_key}
 use Rattle.virtual_topology.specs.declared.plan.PortPlace.{PortPlace}
 use Rattle.virtual_topology.specs.declared.plan.VirtualPort.{VirtualPort}
+use Rattle.policies.specs.Names.{is_address, is_name}
 use Rattle.policy_file.specs.Documents.{as_list}
 
 -- a number in a range
@@ -27,25 +28,8 @@ if_fits test s = if test s then Some s else None
 abbrev pub text_that : (List ℕ → Bool) → Data → Option (List ℕ)
 text_that test d = option_and_then (if_fits test) (as_str d)
 
--- ASCII from the blank to the tilde
-abbrev pub is_printable : ℕ → Bool
-is_printable b = (b == 32) || is_ascii_graphic b
-
--- 1 to 64 bytes of printable ASCII
-abbrev pub is_address : List ℕ → Bool
-is_address s = (nat_lt 0 (length s) && nat_le (length s) 64) && list_all is_printable s
-
 abbrev pub address : Data → Option (List ℕ)
 address = text_that is_address
-
--- a to z, 0 to 9, `_` (95)
-abbrev pub is_name_byte : ℕ → Bool
-is_name_byte b = (is_ascii_lowercase b || is_ascii_digit b) || (b == 95)
-
--- a letter a to z and up to 15 of a to z, 0 to 9 and `_`
-abbrev pub is_name : List ℕ → Bool
-is_name [] = false
-is_name (b ∷ bs) = (is_ascii_lowercase b && nat_lt (length bs) 16) && list_all is_name_byte bs
 
 abbrev pub name : Data → Option (List ℕ)
 name = text_that is_name

@@ -9,15 +9,16 @@ ghost use Rattle.policy_file.specs.Regions.{if_there};
 ghost use Rattle.policy_file.specs.Heads.{or_absent, is_table, lists_tables as lists_tables_of, tables as tables_of};
 ghost use Rattle.policy_file.specs.Heads.{items_at, first_of, last_of, head_of};
 ghost use Rattle.policy_file.specs.Keys.{kind_key};
-ghost use Rattle.policy_file.specs.Outcomes.{Gives, found};
+ghost use Rattle.policy_file.specs.Outcomes.{found};
+ghost use Rattle.policies.specs.Outcomes.{Gives};
 
-use crate::fault::PolicyFault;
 use crate::keys::{ItemKind, Version};
 use crate::listed::version_of;
 use crate::section::Section;
 use crate::tables::{at, list};
 use crate::values::{address, number};
 use cv_io::{Memory, Text};
+use policies::PolicyFault;
 use std::alloc::Global;
 use toml::{Table, Value};
 

@@ -1,13 +1,13 @@
 //! Lists of items, each read after those before it.
 ghost use Rattle.toml.specs.View.{view, table_view};
-ghost use Rattle.policy_file.specs.Outcomes.{Gives, with_value};
+ghost use Rattle.policies.specs.Outcomes.{Gives, with_value};
 ghost use Rattle.policy_file.specs.Plans.{items_of, with_item};
 
-use crate::fault::PolicyFault;
 use crate::keys::ItemKind;
 use crate::listed::items;
 use crate::section::Section;
 use cv_io::List;
+use policies::PolicyFault;
 use std::alloc::Global;
 use toml::{Table, Value};
 
@@ -17,7 +17,7 @@ pub(crate) trait ItemReader {
 
     ghost use Rattle.std.specs.Prelude.{List as TheList, Result};
     ghost use Rattle.toml.specs.Data.{Members};
-    ghost use Rattle.policy_file.specs.declared.fault.PolicyFault.{PolicyFault as TheFault};
+    ghost use Rattle.policies.specs.declared.fault.PolicyFault.{PolicyFault as TheFault};
     ghost use Rattle.policy_file.specs.declared.section.Section.{Section as TheSection};
 
     ghost reads: { Self → TheList Self.Item → TheSection → Members → Result Self.Item TheFault };
@@ -51,7 +51,7 @@ fn add_item<R: ItemReader>(
 }
 
 /// The items of a kind.
-#[tactic(auto, using(crate::proofs::Numbered::rest_viewed, crate::proofs::Numbered::none_viewed))]
+#[tactic(auto, using(policies::proofs::Numbered::rest_viewed, policies::proofs::Numbered::none_viewed))]
 pub(crate) fn read_items<R: ItemReader>(
     alloc: Global,
     reader: &R,

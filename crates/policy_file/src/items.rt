@@ -6,9 +6,9 @@ ghost use Rattle.policy_file.specs.Values.{port_place as port_place_of, ports as
 ghost use Rattle.policy_file.specs.Words.{virtual_ports as virtual_ports_of};
 ghost use Rattle.policy_file.specs.Plans.{switch as switch_of, pair as pair_of, virtual_switch as virtual_switch_of};
 ghost use Rattle.policy_file.specs.Plans.{plan_of, read_at, dpid_is_taken, name_is_taken, new_dpid, new_name};
-ghost use Rattle.policy_file.specs.Outcomes.{Gives, found};
+ghost use Rattle.policy_file.specs.Outcomes.{found};
+ghost use Rattle.policies.specs.Outcomes.{Gives};
 
-use crate::fault::PolicyFault;
 use crate::item_reader::{ItemReader, read_items};
 use crate::keys::ItemKind;
 use crate::section::Section;
@@ -16,6 +16,7 @@ use crate::tables::at;
 use crate::values::{dpid, expression, name, port_place, ports};
 use crate::words::virtual_ports;
 use cv_io::{List, Memory, Text};
+use policies::PolicyFault;
 use std::alloc::Global;
 use toml::Table;
 use virtual_topology::{PairItem, PortPlace, SwitchItem, TopologyPlan, VirtualItem, VirtualPort};

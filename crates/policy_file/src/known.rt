@@ -2,9 +2,9 @@
 ghost use Rattle.std.specs.Prelude.{◌≡◌, IfOk, Ok};
 ghost use Rattle.policy_file.specs.Reading.{policy_in_bytes};
 
-use crate::policy::Policy;
 use crate::reading::read;
 use cv_io::Memory;
+use policies::Policy;
 use std::alloc::Global;
 
 /// One member, `app`, at a virtual switch of the four ports of a switch.

@@ -9,11 +9,11 @@ ghost use Rattle.policy_file.specs.Listed.{may_stand as may_stand_of, is_row as 
 ghost use Rattle.policy_file.specs.Listed.{unlisted, unlisted_key, missing_row, missing, of_table, among_items};
 ghost use Rattle.policy_file.specs.Listed.{in_items, unlisted_in, missing_in};
 
-use crate::fault::PolicyFault;
 use crate::keys::{ITEM_KINDS, ItemKind, KeyRow, Version};
 use crate::section::Section;
 use crate::tables::{at, list};
 use crate::values::are_same;
+use policies::PolicyFault;
 use std::alloc::Global;
 use toml::{Table, Value};
 

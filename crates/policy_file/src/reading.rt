@@ -3,22 +3,19 @@ ghost use Rattle.std.specs.Prelude.{◌≡◌, ◌⊎◌, IfOk, IfErr, None, Som
 ghost use Rattle.policy_expr.specs.Policy.{policy_of as as_policy};
 ghost use Rattle.toml.specs.View.{table_view};
 ghost use Rattle.virtual_topology.specs.Faults.{Answers};
-ghost use Rattle.policy_file.specs.Outcomes.{Gives};
-ghost use Rattle.policy_file.specs.Sound.{IsSound};
+ghost use Rattle.policies.specs.Outcomes.{Gives};
+ghost use Rattle.policies.specs.Sound.{IsSound};
 ghost use Rattle.policy_file.specs.Reading.{draft_of, topology_fault, path_fault, fits, fits_made, fits_over};
 ghost use Rattle.policy_file.specs.Reading.{policy_of, document_of, policy_in_bytes};
 
-use crate::exprs::exprs;
-use crate::fault::PolicyFault;
 use crate::head::{Head, read_head};
 use crate::items::plan;
 use crate::keys::Version;
 use crate::listed::{check_all_listed, check_all_needed};
 use crate::member::members;
-use crate::policy::{MemberItem, Policy};
-use crate::wide::check_widths;
 use cv_io::List;
 use inner_paths::{PathFault, Paths};
+use policies::{MemberItem, Policy, PolicyFault, check_widths, exprs};
 use policy_expr::Expr;
 use std::alloc::Global;
 use toml::Table;

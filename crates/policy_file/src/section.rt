@@ -1,14 +1,15 @@
 //! Where in a policy file something stands, and its name in a fault.
 ghost use Rattle.std.specs.Prelude.{◌≡◌, ◌<◌, ◌++◌, ◌⊎◌, map, IfOk, OnOk};
 ghost use Rattle.std.specs.Fmt.{decimal};
-ghost use Rattle.policy_file.specs.Sections.{shown_byte, shown as shown_of, rows_of, item_name, section_name};
+ghost use Rattle.policy_file.specs.Sections.{rows_of, item_name, section_name};
 ghost use Rattle.policy_file.specs.Sections.{key_prefix, key_name};
-ghost use Rattle.policy_file.specs.Outcomes.{Gives, found as found_of};
+ghost use Rattle.policy_file.specs.Outcomes.{found as found_of};
+ghost use Rattle.policies.specs.Outcomes.{Gives};
 ghost use Rattle.policy_file.specs.Shown.{shown_row};
 
-use crate::fault::PolicyFault;
 use crate::keys::{ItemKind, KeyRow, TOP_KEYS};
 use cv_io::{Memory, Text};
+use policies::{PolicyFault, push_word};
 use std::alloc::Global;
 
 /// The file itself, or an item of it by its number in the file, from 0.
@@ -16,24 +17,6 @@ use std::alloc::Global;
 pub(crate) enum Section {
     Top,
     Item { kind: ItemKind, number: usize },
-}
-
-/// A byte of a key as a fault shows it: what isn't printable ASCII, or is a blank, as `?`.
-fn shown(byte: u8) -> u8
-    ensures byte { result ≡ shown_byte byte }
-    ensures ascii { result < 128 }
-{
-    if byte.is_ascii_graphic() { byte } else { b'?' }
-}
-
-/// Appends a word.
-pub(crate) fn push_word(text: &mut Text, word: &[u8]) -> Result<(), Memory>
-    ensures { OnOk result (text.new ≡ text.old ++ shown_of word.now) }
-{
-    for byte in word {
-        text.push(shown(*byte))?;
-    }
-    Ok(())
 }
 
 /// Appends a number in decimal digits.

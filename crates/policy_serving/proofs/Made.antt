@@ -4,10 +4,10 @@ use Rattle.std.proofs.Common.{min, if◌then◌else◌}
 use Rattle.std.proofs.Common.{append-nil, ap, arith, refl, subst, sym}
 use Rattle.std.proofs.lemmas.List.{take-append-le, take_min}
 use Rattle.std.proofs.lemmas.List.Concat.{flat_map-append}
-use Rattle.cv_io.specs.Connections.{Connection}
+use Rattle.outside.specs.Connections.{Connection}
 use Rattle.cv_io.specs.declared.leaf.Who.{Who}
 use Rattle.cv_io.specs.declared.leaf.Who.TheVariants as whos
-use Rattle.cv_io.specs.declared.links.Endpoint.{Endpoint}
+use Rattle.outside.specs.declared.links.Endpoint.{Endpoint}
 use Rattle.endpoint_works.specs.Audits.{audit, lines}
 use Rattle.endpoint_works.specs.Sides.{is_audit as is_audit_there}
 use Rattle.events.specs.declared.event.Event.{Event}

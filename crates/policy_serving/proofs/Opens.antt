@@ -7,7 +7,7 @@ use Rattle.event_composes.proofs.Meanings.{meanings_are_states}
 use Rattle.machine_drafts.specs.Machines.{MachineOf, state_of}
 use Rattle.event_composes.specs.Meanings.{StateData, counts_in, data_in, data_of, forgotten_in, lefts_of, total_in}
 use Rattle.machine_meaning.specs.States.{State, opening}
-use Rattle.policy_file.specs.Policies.{PolicyOf}
+use Rattle.policies.specs.Policies.{PolicyOf}
 use Rattle.stats_map.specs.Counting.{CountsOf, nothing}
 use Rattle.stats_map.proofs.SlotSums.{leaf_total}
 use Rattle.policy_serving.specs.Served.{IsOpening}

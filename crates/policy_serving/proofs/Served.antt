@@ -8,9 +8,9 @@ use Rattle.std.proofs.lemmas.List.Elements.{All-append, All-from_recursion, All-
 use Rattle.cv_io.specs.declared.leaf.Who.{Who}
 use Rattle.cv_io.specs.declared.leaf.Who.TheVariants as whos
 use Rattle.endpoint_works.specs.Sides.{IsServedSide}
-use Rattle.policy_file.specs.Policies.{PolicyOf, plan}
-use Rattle.policy_file.specs.Sound.{IsSound}
-use Rattle.policy_file.specs.declared.policy.MemberItem.{MemberItem}
+use Rattle.policies.specs.Policies.{PolicyOf, plan}
+use Rattle.policies.specs.Sound.{IsSound}
+use Rattle.policies.specs.declared.policy.MemberItem.{MemberItem}
 use Rattle.virtual_topology.proofs.Counted.{few_switches}
 use Rattle.virtual_topology.specs.declared.plan.SwitchItem.{SwitchItem}
 use Rattle.serving.specs.declared.place.Place.{Place}

@@ -5,8 +5,8 @@ use Rattle.machine_drafts.specs.Machines.{MachineOf, state_of}
 use Rattle.event_composes.specs.Meanings.{data_in}
 use Rattle.policy_serving.specs.Proxies.{HasOne}
 use Rattle.machine_meaning.specs.States.{opening}
-use Rattle.policy_file.specs.Policies.{PolicyOf}
-use Rattle.policy_file.specs.Sound.{IsSound}
+use Rattle.policies.specs.Policies.{PolicyOf}
+use Rattle.policies.specs.Sound.{IsSound}
 use Rattle.policy_serving.specs.Places.{places_of}
 use Rattle.serving.specs.declared.place.Place.{Place}
 

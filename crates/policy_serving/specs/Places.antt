@@ -1,10 +1,10 @@
 -- The endpoints of a policy.
 use Rattle.std.specs.Prelude.{ℕ, List, ◌++◌, map}
 use Rattle.std.specs.List.{enumerate_from}
-use Rattle.cv_io.specs.declared.links.Endpoint.TheVariants as ends
+use Rattle.outside.specs.declared.links.Endpoint.TheVariants as ends
 use Rattle.endpoint_works.specs.declared.side.Side.TheVariants as sides
-use Rattle.policy_file.specs.Policies.{PolicyOf}
-use Rattle.policy_file.specs.declared.policy.MemberItem.{MemberItem}
+use Rattle.policies.specs.Policies.{PolicyOf}
+use Rattle.policies.specs.declared.policy.MemberItem.{MemberItem}
 use Rattle.serving.specs.declared.place.Place.{Place}
 use Rattle.virtual_topology.specs.declared.plan.SwitchItem.{SwitchItem}
 

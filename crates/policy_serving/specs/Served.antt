@@ -1,13 +1,13 @@
 -- What serving a policy comes to.
 use Rattle.std.specs.Prelude.{◌≡◌, ℕ, Bool, List, Option}
-use Rattle.cv_io.specs.Connections.{Connection}
-use Rattle.cv_io.specs.declared.links.Endpoint.{Endpoint}
+use Rattle.outside.specs.Connections.{Connection}
+use Rattle.outside.specs.declared.links.Endpoint.{Endpoint}
 use Rattle.events.specs.declared.event.Event.{Event}
 use Rattle.events.specs.declared.event.Reply.{Reply}
 use Rattle.event_composes.specs.Meanings.{StateData, state_in}
 use Rattle.policy_serving.specs.Histories.{lines_made}
 use Rattle.machine_meaning.specs.States.{opening}
-use Rattle.policy_file.specs.Policies.{PolicyOf}
+use Rattle.policies.specs.Policies.{PolicyOf}
 use Rattle.policy_lock.specs.declared.machine.Machine.{Ghosts}
 use Rattle.serving.specs.Runs.{Serves}
 use Rattle.serving.specs.declared.run.Served.{Served}

@@ -3,9 +3,10 @@ ghost use Rattle.std.specs.Prelude.{◌≡◌, ◌<◌, ◌^◌, ◌++◌, IfOk,
 ghost use Rattle.std.specs.List.{enumerate_from};
 ghost use Rattle.policy_serving.specs.Places.{dpid_of, member_place, places_of, switch_place};
 
-use cv_io::{Duplicate, Endpoint, List, Memory, Text};
+use cv_io::{Duplicate, List, Memory, Text};
 use endpoint_works::Side;
-use policy_file::{MemberItem, Policy};
+use outside::Endpoint;
+use policies::{MemberItem, Policy};
 use serving::Place;
 use std::alloc::Global;
 use virtual_topology::SwitchItem;

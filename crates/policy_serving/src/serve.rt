@@ -1,6 +1,6 @@
 //! Serving a policy.
 ghost use Rattle.std.specs.Prelude.{◌≡◌, ◌<◌, ◌+◌, ◌*◌, ◌^◌, All, IfOk, length, true};
-ghost use Rattle.cv_io.specs.Outside.{Rose};
+ghost use Rattle.outside.specs.Outside.{Rose};
 ghost use Rattle.endpoint_works.specs.Sides.{IsServedSide};
 ghost use Rattle.event_composes.specs.Meanings.{data_in};
 ghost use Rattle.policy_serving.specs.Proxies.{HasOne};
@@ -11,9 +11,10 @@ use crate::endpoints::places;
 use crate::laws::{places_are_few, places_are_served};
 use crate::promises::audit_is_kept;
 use crate::proxy::Proxy;
-use cv_io::{Clock, Dial, Links, List, Memory, Sink, Spawner};
+use cv_io::{List, Memory};
 use hyper_core::Hyper;
-use policy_file::Policy;
+use outside::{Clock, Dial, Links, Sink, Spawner};
+use policies::Policy;
 use policy_lock::Machine;
 use serving::{Place, Served, serve};
 use std::alloc::Global;

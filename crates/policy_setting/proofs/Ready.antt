@@ -4,13 +4,13 @@ use Rattle.std.proofs.Common.{Err, IfOk, arith, refl}
 use Rattle.std.specs.List.{AllByRecursion, enumerate_from}
 use Rattle.std.proofs.lemmas.List.FromFn.{length-enumerate_from}
 use Rattle.policy_expr.specs.Policy.{Policy}
-use Rattle.policy_file.specs.declared.fault.PolicyFault.{PolicyFault}
-use Rattle.policy_file.specs.Exprs.{all_of, expr_of, exprs_of}
-use Rattle.policy_file.specs.Outcomes.{then_do}
-use Rattle.policy_file.specs.Policies.{PolicyOf, plan}
-use Rattle.policy_file.specs.Sound.{IsPortNumber, IsSound, IsSoundSwitch}
-use Rattle.policy_file.specs.Widths.{too_wide_in}
-use Rattle.policy_file.proofs.Outcomes.{done}
+use Rattle.policies.specs.declared.fault.PolicyFault.{PolicyFault}
+use Rattle.policies.specs.Exprs.{all_of, expr_of, exprs_of}
+use Rattle.policies.specs.Outcomes.{then_do}
+use Rattle.policies.specs.Policies.{PolicyOf, plan}
+use Rattle.policies.specs.Sound.{IsPortNumber, IsSound, IsSoundSwitch}
+use Rattle.policies.specs.Widths.{too_wide_in}
+use Rattle.policies.proofs.Outcomes.{done}
 use Rattle.policy_meaning.specs.declared.leaf.LeafTable.{LeafTable}
 use Rattle.virtual_topology.specs.declared.plan.SwitchItem.{SwitchItem}
 use Rattle.agreement.specs.Agree.{Agree, AreInstalled}

@@ -23,10 +23,10 @@ use Rattle.virtual_topology.specs.declared.plan.VirtualItem.{VirtualItem}
 use Rattle.virtual_topology.specs.declared.plan.VirtualPort.{VirtualPort}
 use Rattle.virtual_topology.specs.Rows.{Spot}
 use Rattle.virtual_topology.specs.Wires.{peer_of}
-use Rattle.policy_file.specs.declared.fault.PolicyFault.{PolicyFault}
-use Rattle.policy_file.specs.declared.policy.MemberItem.{MemberItem}
-use Rattle.policy_file.specs.Widths.{bits_of, size, greatest, number_at, beyond, over_hop, width, too_wide, too_wide_at}
-use Rattle.policy_file.specs.Widths.{too_wide_in}
+use Rattle.policies.specs.declared.fault.PolicyFault.{PolicyFault}
+use Rattle.policies.specs.declared.policy.MemberItem.{MemberItem}
+use Rattle.policies.specs.Widths.{bits_of, size, greatest, number_at, beyond, over_hop, width, too_wide, too_wide_at}
+use Rattle.policies.specs.Widths.{too_wide_in}
 use Rattle.policy_setting.specs.Networks.{link, place, virtual_switch}
 use Rattle.policy_setting.specs.Settings.{expr_at, holds_at, setting, switches}
 use Rattle.policy_setting.specs.OfPolicies.{AreSized}

@@ -6,11 +6,11 @@ use Rattle.agreement.specs.Fitting.{SizesFit}
 use Rattle.agreement.specs.declared.state.Setting.{Setting}
 use Rattle.grants.specs.Ports.{sees_all}
 use Rattle.policy_expr.specs.Policy.{Policy}
-use Rattle.policy_file.specs.Exprs.{exprs_of}
-use Rattle.policy_file.specs.Policies.{PolicyOf, plan}
-use Rattle.policy_file.specs.Sound.{IsSound}
-use Rattle.policy_file.specs.Views.{view_of}
-use Rattle.policy_file.specs.declared.policy.MemberItem.{MemberItem}
+use Rattle.policies.specs.Exprs.{exprs_of}
+use Rattle.policies.specs.Policies.{PolicyOf, plan}
+use Rattle.policies.specs.Sound.{IsSound}
+use Rattle.policies.specs.Views.{view_of}
+use Rattle.policies.specs.declared.policy.MemberItem.{MemberItem}
 use Rattle.policy_meaning.specs.declared.leaf.LeafTable.{LeafTable}
 use Rattle.switch_meaning.specs.declared.entry.FlowEntry.{FlowEntry}
 use Rattle.virtual_topology.specs.declared.plan.VirtualItem.{VirtualItem}

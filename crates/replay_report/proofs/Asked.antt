@@ -8,7 +8,7 @@ use Rattle.explain_text.specs.declared.finding.Finding.{Finding}
 use Rattle.hyper_core.specs.Worlds.{installed_on, network_in}
 use Rattle.install_plan.specs.declared.written.Written.{Written}
 use Rattle.machine_meaning.specs.States.{State}
-use Rattle.policy_file.specs.Policies.{PolicyOf, plan}
+use Rattle.policies.specs.Policies.{PolicyOf, plan}
 use Rattle.policy_meaning.specs.declared.network.Network.{Network}
 use Rattle.virtual_topology.specs.declared.plan.TopologyPlan.{TopologyPlan}
 use Rattle.replay_report.specs.Explaining.{Asks, asked}

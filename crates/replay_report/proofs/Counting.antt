@@ -6,7 +6,7 @@ use Rattle.events.specs.declared.event.Reply.{Reply}
 use Rattle.event_composes.specs.Costs.{cost_of, followed_cost, unless_still}
 use Rattle.machine_meaning.specs.Glances.{glance_of}
 use Rattle.machine_meaning.specs.States.{State}
-use Rattle.policy_file.specs.Policies.{PolicyOf}
+use Rattle.policies.specs.Policies.{PolicyOf}
 
 still_takes_none : (o : Option Reply) (session : Session) (n : ℕ)
     → ◌≡◌ {A = ℕ} (unless_still 0 o (Take session) n) 0

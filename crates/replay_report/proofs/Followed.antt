@@ -4,7 +4,7 @@ use Rattle.std.proofs.Common.{Result, Ok, Err, length, take, drop, refl, sym, ap
 use Rattle.std.specs.Prelude.{if◌then◌else◌}
 use Rattle.std.proofs.lemmas.Bool.Decides.{nat_tests}
 use Rattle.std.proofs.lemmas.List.{length-append}
-use Rattle.policy_file.specs.Policies.{PolicyOf}
+use Rattle.policies.specs.Policies.{PolicyOf}
 use Rattle.script_text.specs.declared.form.Form.{Form}
 use Rattle.replay_report.specs.Playing.{Played}
 use Rattle.replay_report.specs.declared.kind.Kind.{Kind}

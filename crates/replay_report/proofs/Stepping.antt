@@ -6,8 +6,8 @@ use Rattle.std.proofs.Common.{ap, arith, length, length-append, refl, subst, sym
 use Rattle.made_script.specs.Drawing.{after, start as start_number}
 use Rattle.made_script.specs.Script.{lines_behind, made, opening}
 use Rattle.made_script.specs.declared.summary.Summary.{Summary}
-use Rattle.policy_file.specs.Policies.{PolicyOf}
-use Rattle.policy_file.specs.declared.fault.PolicyFault.{PolicyFault}
+use Rattle.policies.specs.Policies.{PolicyOf}
+use Rattle.policies.specs.declared.fault.PolicyFault.{PolicyFault}
 use Rattle.replay_report.specs.Players.{Takes, form_of, plan_of, progress_of, reported, rules_at}
 use Rattle.replay_report.specs.Playing.{Played}
 use Rattle.replay_report.specs.Reports.{Progress, further, start, steps_in, taken}

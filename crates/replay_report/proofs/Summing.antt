@@ -1,7 +1,7 @@
 -- The steps of a script as far as it was read.
 use Rattle.std.proofs.Common.{◌≡◌, ℕ, ◌+◌, ◌<◌, ◌≤◌, List, [], ◌∷◌, ◌++◌, Result, Ok, Err, length, refl, sym, ap, subst}
 use Rattle.std.proofs.Common.{◌∙◌, arith}
-use Rattle.policy_file.specs.Policies.{PolicyOf}
+use Rattle.policies.specs.Policies.{PolicyOf}
 use Rattle.script_text.specs.declared.form.Form.{Form}
 use Rattle.replay_report.specs.Playing.{Played}
 use Rattle.replay_report.specs.declared.kind.Kind.{Kind}

@@ -20,7 +20,7 @@ use Rattle.machine_meaning.specs.Takings.{audit_outbox, left_after, reply_of, ta
 use Rattle.outbox.specs.Outboxes.{OutboxOf, first, later, taken, taking}
 use Rattle.outbox.specs.declared.outbox.Taking.{Taking}
 use Rattle.outbox.specs.declared.outbox.Taking.TheVariants.{Taken, Empty, Closed}
-use Rattle.policy_file.specs.Policies.{PolicyOf}
+use Rattle.policies.specs.Policies.{PolicyOf}
 use Rattle.replay_report.specs.Playing.{present}
 use Rattle.replay_report.specs.Takings.{TakesFirst, emptied, emptied_member, emptied_outbox, emptied_switch, taken_in}
 use Rattle.replay_report.specs.Takings.{waiting_in, waits_for}

@@ -1,8 +1,8 @@
 -- The policy of benchmarks, by its text: two members in parallel at a virtual switch of the four ports of a switch.
 use Rattle.std.specs.Prelude.{◌≡◌, ℕ, List, [], ◌∷◌, Result, Ok, codes}
 use Rattle.std.specs.List.{flat_map}
-use Rattle.policy_file.specs.Policies.{PolicyOf}
-use Rattle.policy_file.specs.declared.fault.PolicyFault.{PolicyFault}
+use Rattle.policies.specs.Policies.{PolicyOf}
+use Rattle.policies.specs.declared.fault.PolicyFault.{PolicyFault}
 use Rattle.policy_file.specs.Reading.{policy_in_bytes}
 use Rattle.replay_report.specs.Takings.{as_line}
 

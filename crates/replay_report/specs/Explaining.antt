@@ -3,7 +3,7 @@ use Rattle.std.specs.Prelude.{◌≡◌, ℕ, Bool, true, false, List, ◌++◌,
 use Rattle.explain_text.specs.Answers.{asked_text}
 pub use Rattle.hyper_core.specs.Worlds.{installed_on, network_in}
 use Rattle.machine_meaning.specs.States.{State}
-use Rattle.policy_file.specs.Policies.{PolicyOf}
+use Rattle.policies.specs.Policies.{PolicyOf}
 
 -- why a packet that comes in at a port of a switch goes where it goes, over what stands now; None where no virtual
 -- switch has that port

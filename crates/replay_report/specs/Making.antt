@@ -2,8 +2,8 @@
 use Rattle.std.specs.Prelude.{ℕ, ◌+◌, List, [], ◌∷◌, Option, Result, Ok, Err, fold, length}
 use Rattle.made_script.specs.Script.{made}
 use Rattle.made_script.specs.declared.summary.Summary.{Summary}
-use Rattle.policy_file.specs.Policies.{PolicyOf}
-use Rattle.policy_file.specs.declared.fault.PolicyFault.{PolicyFault}
+use Rattle.policies.specs.Policies.{PolicyOf}
+use Rattle.policies.specs.declared.fault.PolicyFault.{PolicyFault}
 use Rattle.replay_report.specs.Players.{Takes, plan_of, progress_of, reported, rules_at}
 use Rattle.replay_report.specs.Playing.{Played}
 use Rattle.replay_report.specs.Reports.{Progress, further, start, steps_in, taken}

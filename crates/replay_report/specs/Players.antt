@@ -2,7 +2,7 @@
 -- machine.
 use Rattle.std.specs.Prelude.{◌≡◌, ℕ, true, List, ◌++◌, Option, Some, None, Result, Ok, Err}
 use Rattle.hyper_core.specs.Worlds.{rule_count}
-use Rattle.policy_file.specs.Policies.{PolicyOf}
+use Rattle.policies.specs.Policies.{PolicyOf}
 use Rattle.script_text.specs.declared.form.Form.{Form}
 use Rattle.replay_report.specs.Playing.{Played}
 use Rattle.replay_report.specs.Plays.{stand_in}

@@ -9,7 +9,7 @@ use Rattle.events.specs.declared.event.Event.TheVariants as events
 use Rattle.machine_meaning.specs.Sessions.{round_of}
 use Rattle.machine_meaning.specs.States.{State}
 use Rattle.of10_frames.specs.Wire.{length_field}
-use Rattle.policy_file.specs.Policies.{PolicyOf}
+use Rattle.policies.specs.Policies.{PolicyOf}
 use Rattle.script_text.specs.declared.line.Line.{Line}
 use Rattle.script_text.specs.declared.line.Line.TheVariants as lines
 use Rattle.replay_report.specs.Explaining.{asked}

@@ -14,7 +14,7 @@ use Rattle.machine_meaning.specs.Runs.{after}
 use Rattle.machine_meaning.specs.Sessions.{outbox_of}
 use Rattle.machine_meaning.specs.States.{MemberOf, State, SwitchOf}
 use Rattle.outbox.specs.Outboxes.{OutboxOf}
-use Rattle.policy_file.specs.Policies.{PolicyOf}
+use Rattle.policies.specs.Policies.{PolicyOf}
 use Rattle.script_text.specs.Lines.{report_text}
 use Rattle.replay_report.specs.Sessions.{sessions_of}
 use Rattle.replay_report.specs.declared.sessions.Named.{Named}

@@ -3,7 +3,7 @@ ghost use Rattle.std.specs.Prelude.{IfOk};
 ghost use Rattle.replay_report.specs.Bench.{IsBench};
 
 use cv_io::Memory;
-use policy_file::Policy;
+use policies::Policy;
 use std::alloc::Global;
 
 /// The policy over which scripts are made.

@@ -6,7 +6,7 @@ use crate::telling::add_line;
 use cv_io::{Bytes, List, Memory};
 use explain_text::{Finding, finding_line};
 use install_plan::Written;
-use policy_file::Policy;
+use policies::Policy;
 use std::alloc::Global;
 
 /// The entries that stand, if it is known which.

@@ -13,7 +13,7 @@ use crate::made_counts::Counts;
 use crate::player::Player;
 use cv_io::{Memory, Steps};
 use made_script::{Made, Summary};
-use policy_file::Policy;
+use policies::Policy;
 use script_text::Form;
 use std::alloc::Global;
 use std::sync::ledger::Ledger;

@@ -10,7 +10,7 @@ use crate::sessions::{Named, sessions};
 use crate::streams::Stream;
 use crate::telling::Stage;
 use cv_io::{List, Memory, Steps};
-use policy_file::Policy;
+use policies::Policy;
 use script_text::{Form, Line, read_line};
 use std::alloc::Global;
 use std::sync::ledger::Ledger;

@@ -5,7 +5,7 @@ ghost use Rattle.replay_report.specs.Sessions.{found_from, member_name, named_me
 ghost use Rattle.replay_report.specs.Sessions.{virtual_from};
 
 use cv_io::{Duplicate, List, Memory, Text, Who};
-use policy_file::{MemberItem, Policy};
+use policies::{MemberItem, Policy};
 use std::alloc::Global;
 use virtual_topology::{SwitchItem, VirtualItem};
 

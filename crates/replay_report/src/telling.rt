@@ -16,7 +16,7 @@ use cv_io::{Bytes, List, Memory, Session, Steps, Text, Who};
 use events::{Event, Reply};
 use explain_text::{answer, find_entrance};
 use hyper_core::Hyper;
-use policy_file::Policy;
+use policies::Policy;
 use script_text::report_line;
 use std::alloc::Global;
 use std::sync::ledger::Ledger;

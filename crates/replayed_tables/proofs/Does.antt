@@ -10,8 +10,8 @@ use Rattle.std.specs.List.{AllByRecursion, enumerate_from}
 use Rattle.std.specs.Option.{option_map_or}
 use Rattle.cv_io.specs.declared.leaf.Who.TheVariants.{Audit, Switch}
 use Rattle.events.specs.declared.event.Event.{Event}
-use Rattle.policy_file.specs.Policies.{PolicyOf}
-use Rattle.policy_file.specs.Sound.{IsSound}
+use Rattle.policies.specs.Policies.{PolicyOf}
+use Rattle.policies.specs.Sound.{IsSound}
 use Rattle.report_lines.specs.ReadBack.{IsPlain, MessagesAreReadBack, Other, ReportsAreReadBack, Told, read_back}
 use Rattle.report_lines.specs.ReadBack.{report_with, said_by, said_to}
 use Rattle.report_lines.specs.Reading.{messages_to}

@@ -19,8 +19,8 @@ use Rattle.explain_text.specs.declared.entrance.Entrance.{Entrance}
 use Rattle.explain_text.specs.declared.finding.Finding.{Finding}
 use Rattle.install_plan.specs.declared.written.Written.{Written}
 use Rattle.of10_frames.specs.Wire.{length_field}
-use Rattle.policy_file.specs.Policies.{PolicyOf, plan}
-use Rattle.policy_file.specs.Sound.{IsSound}
+use Rattle.policies.specs.Policies.{PolicyOf, plan}
+use Rattle.policies.specs.Sound.{IsSound}
 use Rattle.policy_meaning.proofs.Booleans.{some_injective, split_and}
 use Rattle.policy_meaning.specs.declared.network.Network.{Network}
 use Rattle.script_text.specs.declared.line.Line.{Line}

@@ -9,10 +9,10 @@ use Rattle.std.specs.Cmp.Lexicographic.{pointwise}
 use Rattle.std.specs.List.{AllByRecursion, enumerate_from, list_all}
 use Rattle.std.specs.Option.{option_map_or}
 use Rattle.member_state.proofs.Lists.{eqb_flip}
-use Rattle.policy_file.specs.Policies.{PolicyOf}
-use Rattle.policy_file.specs.Sound.{AreUnlikeSwitches, EachToEarlier, IsSound, IsSoundMember, IsSoundSwitch}
-use Rattle.policy_file.specs.Values.{is_name, is_name_byte}
-use Rattle.policy_file.specs.declared.policy.MemberItem.{MemberItem}
+use Rattle.policies.specs.Policies.{PolicyOf}
+use Rattle.policies.specs.Sound.{AreUnlikeSwitches, EachToEarlier, IsSound, IsSoundMember, IsSoundSwitch}
+use Rattle.policies.specs.Names.{is_name, is_name_byte}
+use Rattle.policies.specs.declared.policy.MemberItem.{MemberItem}
 use Rattle.policy_meaning.proofs.Booleans.{some_injective, split_and}
 use Rattle.report_lines.specs.Lines.{is_word}
 use Rattle.switch_state.proofs.Fitting.{all_joined}

@@ -27,9 +27,9 @@ use Rattle.hex.specs.Hex.{encode_lower}
 use Rattle.member_replies.specs.Audit.{session_name}
 use Rattle.member_replies.specs.Refusals.{deny_line, detail_text, name_of, reason_text, rule_text}
 use Rattle.policy_expr.specs.declared.fault.ExprFault.TheVariants as expr
-use Rattle.policy_file.specs.Policies.{PolicyOf}
-use Rattle.policy_file.specs.Sound.{IsSound, IsSoundMember, IsSoundVirtual}
-use Rattle.policy_file.specs.declared.policy.MemberItem.{MemberItem}
+use Rattle.policies.specs.Policies.{PolicyOf}
+use Rattle.policies.specs.Sound.{IsSound, IsSoundMember, IsSoundVirtual}
+use Rattle.policies.specs.declared.policy.MemberItem.{MemberItem}
 use Rattle.policy_meaning.proofs.Booleans.{some_injective}
 use Rattle.pkt_bytes.specs.Rewritten.{rewritten}
 use Rattle.report_lines.specs.Lines.{is_line, is_word}

@@ -10,7 +10,7 @@ use Rattle.std.specs.Cmp.Lexicographic.{pointwise}
 use Rattle.std.specs.List.{AllByRecursion, enumerate_from}
 use Rattle.std.specs.Option.{option_map_or}
 use Rattle.cv_io.specs.declared.leaf.Who.TheVariants.{Member, Switch}
-use Rattle.policy_file.specs.declared.policy.MemberItem.{MemberItem}
+use Rattle.policies.specs.declared.policy.MemberItem.{MemberItem}
 use Rattle.policy_meaning.proofs.Booleans.{some_injective}
 use Rattle.report_lines.specs.Lines.{as_line, is_word}
 use Rattle.report_lines.specs.ReadBack.{IsPlain, Other, To, Told, line_of, report_with, said_by, said_to}

@@ -4,8 +4,8 @@ use Rattle.std.specs.Prelude.{length, option_map}
 use Rattle.std.specs.List.{AllByRecursion}
 use Rattle.std.specs.Option.{option_map_or}
 use Rattle.agreement.specs.Agree.{Agree}
-use Rattle.policy_file.specs.Policies.{PolicyOf}
-use Rattle.policy_file.specs.Sound.{IsSound}
+use Rattle.policies.specs.Policies.{PolicyOf}
+use Rattle.policies.specs.Sound.{IsSound}
 use Rattle.script_text.specs.declared.line.Line.{Line}
 use Rattle.script_text.specs.declared.line.Line.TheVariants as lines
 use Rattle.switch_meaning.specs.declared.entry.FlowEntry.{FlowEntry}

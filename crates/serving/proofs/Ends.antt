@@ -5,9 +5,9 @@ use Rattle.std.proofs.Common.{inr, arith}
 use Rattle.std.proofs.Math.Seq.{take-append-add}
 use Rattle.std.proofs.lemmas.List.{append-nil, length-append, map-append, take_all}
 use Rattle.std.proofs.lemmas.List.Elements.{All-append, All-cons, All-head, All-nil, All-tail}
-use Rattle.cv_io.specs.Connections.{Connection}
-use Rattle.cv_io.specs.Outside.{Rose}
-use Rattle.cv_io.specs.declared.links.Endpoint.{Endpoint}
+use Rattle.outside.specs.Connections.{Connection}
+use Rattle.outside.specs.Outside.{Rose}
+use Rattle.outside.specs.declared.links.Endpoint.{Endpoint}
 use Rattle.cv_io.specs.declared.memory.Memory.{Memory}
 use Rattle.endpoint_works.specs.declared.audit.AuditEnd.{AuditEnd}
 use Rattle.events.specs.declared.event.Event.{Event}

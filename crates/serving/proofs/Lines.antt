@@ -2,9 +2,9 @@
 use Rattle.std.proofs.Common.{◌≡◌, ◌≤◌, ◌+◌, ◌⊎◌, ◌<◌, ℕ, nat_lt, Bool, true, false, List, [], ◌∷◌, ◌++◌, Option}
 use Rattle.std.proofs.Common.{length, All, refl, ap, sym, subst, ◌∙◌, inl, inr, arith}
 use Rattle.std.proofs.lemmas.List.Elements.{All-cons, All-head, All-nil, All-tail}
-use Rattle.cv_io.specs.Connections.{Connection}
-use Rattle.cv_io.specs.Outside.{Rose}
-use Rattle.cv_io.specs.declared.links.Endpoint.{Endpoint}
+use Rattle.outside.specs.Connections.{Connection}
+use Rattle.outside.specs.Outside.{Rose}
+use Rattle.outside.specs.declared.links.Endpoint.{Endpoint}
 use Rattle.cv_io.specs.declared.leaf.Who.{Who}
 use Rattle.endpoint_works.specs.Sides.{IsServedSide}
 use Rattle.serving.specs.Lines.{AreLinesOf, IsLineOf}

@@ -2,7 +2,7 @@
 use Rattle.std.proofs.Common.{◌≡◌, ◌⊎◌, ℕ, Bool, true, false, List, [], ◌∷◌, ◌++◌, Option, All, map, if◌then◌else◌}
 use Rattle.std.proofs.Common.{refl, sym, ap, ◌∙◌, subst, inl, inr, append_assoc, append-nil}
 use Rattle.std.proofs.lemmas.List.Elements.{All-append, All-cons, All-head, All-nil, All-tail}
-use Rattle.cv_io.specs.Connections.{Connection}
+use Rattle.outside.specs.Connections.{Connection}
 use Rattle.cv_io.specs.declared.leaf.Session.{Session}
 use Rattle.sessions.specs.Posts.{Leaves, coming_up, going, message, messages, second_told, taking}
 use Rattle.sessions.specs.Reading.{HasFoundEnded, HasPosted, HasPostedAll, HasPostedSome, ReaderPosts}

@@ -1,8 +1,8 @@
 -- What the works of endpoints came to, by their seats.
 use Rattle.std.proofs.Common.{◌≡◌, Bool, true, false, List, Option, All, map, refl, sym, ap, ◌∙◌, subst, Some}
 use Rattle.std.specs.List.{list_any}
-use Rattle.cv_io.specs.Connections.{Connection}
-use Rattle.cv_io.specs.Works.{AllChanged}
+use Rattle.outside.specs.Connections.{Connection}
+use Rattle.outside.specs.Works.{AllChanged}
 use Rattle.events.specs.declared.event.Event.{Event}
 use Rattle.events.specs.declared.event.Reply.{Reply}
 use Rattle.policy_lock.specs.Seat.{LockOf, SeatOf}

@@ -3,7 +3,7 @@ use Rattle.std.proofs.Common.{◌≡◌, ◌<◌, ◌+◌, ◌*◌, ℕ, zero, s
 use Rattle.std.proofs.Common.{length, map, refl, sym, ap, ◌∙◌, subst, arith}
 use Rattle.std.specs.List.{list_any}
 use Rattle.std.proofs.lemmas.List.Elements.{All-cons, All-head, All-nil, All-tail}
-use Rattle.cv_io.specs.Works.{AllChanged}
+use Rattle.outside.specs.Works.{AllChanged}
 use Rattle.serving.specs.Works.{AreTeams, IsTeam}
 
 module _ {L S T : Type 0} (IsReader : L → S → T → Type 0) (IsWriter : S → T → Type 0) where

@@ -1,6 +1,6 @@
 -- What is written at the end of a run of what still waits of the audit.
 use Rattle.std.specs.Prelude.{◌≡◌, ℕ, true, false, List, Option, Some, None, All, take}
-use Rattle.cv_io.specs.Outside.{Rose}
+use Rattle.outside.specs.Outside.{Rose}
 use Rattle.events.specs.declared.event.Event.{Event}
 use Rattle.events.specs.declared.event.Event.TheVariants.{Take}
 use Rattle.events.specs.declared.event.Reply.{Reply}

@@ -1,7 +1,7 @@
 -- The endpoints that have a dial.
 use Rattle.std.specs.Prelude.{◌≡◌, ◌⊎◌, Bool, true, List, [], ◌∷◌, Option}
-use Rattle.cv_io.specs.Connections.{Connection}
-use Rattle.cv_io.specs.declared.links.Endpoint.{Endpoint}
+use Rattle.outside.specs.Connections.{Connection}
+use Rattle.outside.specs.declared.links.Endpoint.{Endpoint}
 use Rattle.serving.specs.declared.dialling.Line.{Line}
 use Rattle.serving.specs.declared.place.Place.{Place}
 

@@ -1,9 +1,9 @@
 -- What a run comes to: the history of its lock, whose works posted it, and what is written.
 use Rattle.std.specs.Prelude.{◌≡◌, ◌⊎◌, ℕ, Bool, true, false, List, [], ◌∷◌, ◌++◌, Option, All, IsTrue, take}
-use Rattle.cv_io.specs.Connections.{Connection}
-use Rattle.cv_io.specs.Outside.{Rose}
+use Rattle.outside.specs.Connections.{Connection}
+use Rattle.outside.specs.Outside.{Rose}
 use Rattle.cv_io.specs.declared.leaf.Session.{Session}
-use Rattle.cv_io.specs.declared.links.Endpoint.{Endpoint}
+use Rattle.outside.specs.declared.links.Endpoint.{Endpoint}
 use Rattle.events.specs.declared.event.Event.{Event}
 use Rattle.events.specs.declared.event.Event.TheVariants.{Take}
 use Rattle.events.specs.declared.event.Reply.{Reply}

@@ -1,6 +1,6 @@
 -- What the works of a run came to, by their seats.
 use Rattle.std.specs.Prelude.{◌≡◌, ℕ, Bool, true, false, All, List, [], ◌∷◌, ◌++◌, IfOk, Option, Some, Result}
-use Rattle.cv_io.specs.Connections.{Connection}
+use Rattle.outside.specs.Connections.{Connection}
 use Rattle.cv_io.specs.declared.memory.Memory.{Memory}
 use Rattle.events.specs.declared.event.Event.{Event}
 use Rattle.events.specs.declared.event.Reply.{Reply}

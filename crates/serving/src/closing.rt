@@ -2,10 +2,11 @@
 ghost use Rattle.std.specs.Prelude.{◌≡◌, ◌<◌, IfOk, OnErr, OnOk};
 ghost use Rattle.serving.specs.Endings.{EndsRest, TakesNext};
 
-use cv_io::{Bytes, Memory, Sink, Steps};
+use cv_io::{Bytes, Memory, Steps};
 use endpoint_works::{AUDIT, write_line};
 use events::{Event, Reply};
 use lock_desk::Host;
+use outside::Sink;
 use policy_lock::Machine;
 use std::marker::Brand;
 use std::sync::Wait;

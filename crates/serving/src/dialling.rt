@@ -1,12 +1,13 @@
 //! The dials of the endpoints.
 ghost use Rattle.std.specs.Prelude.{◌≡◌, ◌≤◌, IfOk, MatchOption, true};
-ghost use Rattle.cv_io.specs.Outside.{Rose};
-ghost use Rattle.cv_io.specs.declared.links.Endpoint.{Endpoint};
+ghost use Rattle.outside.specs.Outside.{Rose};
+ghost use Rattle.outside.specs.declared.links.Endpoint.{Endpoint};
 ghost use Rattle.serving.specs.Lines.{AreLinesOf, IsLineOf};
 
 use crate::place::Place;
-use cv_io::{Links, List, Memory};
+use cv_io::{List, Memory};
 use endpoint_works::Side;
+use outside::Links;
 use std::alloc::Global;
 
 /// An endpoint that has a dial.

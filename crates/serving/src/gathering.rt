@@ -4,9 +4,10 @@ ghost use Rattle.std.specs.List.{list_any};
 ghost use Rattle.serving.specs.Works.{failed_of, has_failed, has_wanted, pass_of, wanted_of};
 
 use crate::staff::Job;
-use cv_io::{Clock, Dial, List};
+use cv_io::List;
 use endpoint_works::{Received, Sent, Task};
 use lock_desk::Host;
+use outside::{Clock, Dial};
 use policy_lock::Seat;
 use std::collections::VecDeque;
 use std::sync::Wait;

@@ -1,6 +1,6 @@
 //! The endpoints of a run.
-use cv_io::Endpoint;
 use endpoint_works::Side;
+use outside::Endpoint;
 
 /// An endpoint, and who is at the other end of its connections.
 #[derive(Drop, Debug)]

@@ -1,6 +1,6 @@
 //! A run: every endpoint is served.
 ghost use Rattle.std.specs.Prelude.{◌≡◌, ◌<◌, ◌+◌, ◌*◌, ◌^◌, All, IfOk, OnErr, length, true};
-ghost use Rattle.cv_io.specs.Outside.{Rose};
+ghost use Rattle.outside.specs.Outside.{Rose};
 ghost use Rattle.endpoint_works.specs.Sides.{IsServedSide};
 ghost use Rattle.serving.specs.Histories.{lines_taken};
 ghost use Rattle.serving.specs.Runs.{Serves};
@@ -8,9 +8,10 @@ ghost use Rattle.serving.specs.Runs.{Serves};
 use crate::attending::attend;
 use crate::dialling::dial_all;
 use crate::place::Place;
-use cv_io::{Clock, Dial, Links, List, Memory, Sink, Spawner};
+use cv_io::{List, Memory};
 use endpoint_works::Handover;
 use lock_desk::Host;
+use outside::{Clock, Dial, Links, Sink, Spawner};
 use policy_lock::{Machine, open};
 use std::alloc::Global;
 use std::sync::Wait;

@@ -3,9 +3,10 @@ ghost use Rattle.std.specs.Prelude.{◌≡◌, ◌<◌, ◌*◌, IfOk, length};
 ghost use Rattle.serving.specs.Works.{AreTeams, IsReaderFor, IsWriterFor};
 
 use crate::dialling::Line;
-use cv_io::{Clock, Dial, List, Memory, Sink};
+use cv_io::{List, Memory};
 use endpoint_works::{Dialled, Handover, Others, Reader, Shared, SharedClock, Task, Writer};
 use lock_desk::{Host, LockDesk};
+use outside::{Clock, Dial, Sink};
 use policy_lock::{PolicyLock, Seat};
 use std::alloc::Global;
 use std::collections::VecDeque;

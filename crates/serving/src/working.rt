@@ -1,7 +1,7 @@
 //! The works at work.
 ghost use Rattle.std.specs.Prelude.{◌≡◌, ◌<◌, ◌+◌, ◌*◌, All, IfOk, OnErr, [], length, vec_capacity};
 ghost use Rattle.std.specs.Thread.{IsSync};
-ghost use Rattle.cv_io.specs.Works.{AllChanged, AllReady};
+ghost use Rattle.outside.specs.Works.{AllChanged, AllReady};
 ghost use Rattle.endpoint_works.specs.Audits.{IsDrained, audit};
 ghost use Rattle.endpoint_works.specs.Sides.{IsServedSide};
 ghost use Rattle.endpoint_works.specs.Tasks.{HasWrittenAudit};
@@ -11,9 +11,10 @@ ghost use Rattle.serving.specs.Working.{HaveWorked};
 use crate::dialling::Line;
 use crate::gathering::gather;
 use crate::staff::{Office, hire};
-use cv_io::{Clock, Dial, List, Memory, ScopeSpawner, Sink, Spawner, Work};
+use cv_io::{List, Memory};
 use endpoint_works::{AuditEnd, Others, write_audit};
 use lock_desk::Host;
+use outside::{Clock, Dial, ScopeSpawner, Sink, Spawner, Work};
 use policy_lock::{Machine, Seat};
 use sessions::Desk;
 use std::sync::Wait;

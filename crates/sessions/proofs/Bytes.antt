@@ -6,7 +6,7 @@ use Rattle.std.specs.Result.{is_err}
 use Rattle.std.proofs.Math.Seq.{take-add, take-append-add}
 use Rattle.std.proofs.lemmas.List.{append-nil, take_all, take-append-drop}
 use Rattle.std.proofs.lemmas.List.Concat.{flat_map-append}
-use Rattle.cv_io.specs.Outside.{AppendsFirst, Rose, TakesNext}
+use Rattle.outside.specs.Outside.{AppendsFirst, Rose, TakesNext}
 use Rattle.of10_frames.specs.Frames.{BeginsWithFrame, IsShort}
 use Rattle.of10_frames.specs.Wire.{length_field}
 use Rattle.of10_frames.proofs.Fronts.{length_field-append}

@@ -1,6 +1,6 @@
 -- The next frame is kept, or read for.
 use Rattle.std.proofs.Common.{◌≡◌, ℕ, Bool, List, ◌++◌, Option, take, sym, ap, subst, ◌∙◌, append_assoc}
-use Rattle.cv_io.specs.Outside.{Rose, TakesNext}
+use Rattle.outside.specs.Outside.{Rose, TakesNext}
 use Rattle.of10_frames.specs.Frames.{IsUnfinished}
 use Rattle.sessions.specs.declared.incoming.Stop.{Stop}
 use Rattle.sessions.specs.declared.incoming.Stop.TheVariants as stops

@@ -1,6 +1,6 @@
 -- Steps of a reading.
 use Rattle.std.specs.Prelude.{◌≡◌, ℕ, Bool, false, List, Option, ⊤}
-use Rattle.cv_io.specs.Outside.{Rose}
+use Rattle.outside.specs.Outside.{Rose}
 use Rattle.sessions.specs.declared.ends.OpenEnd.{OpenEnd}
 use Rattle.sessions.specs.declared.ends.OpenEnd.TheVariants as ends
 use Rattle.sessions.specs.declared.incoming.Stop.{Stop}

@@ -1,7 +1,7 @@
 -- What is read of a source and written to a sink, and what is kept of what was read.
 use Rattle.std.specs.Prelude.{◌≡◌, ℕ, Bool, true, false, List, [], ◌++◌, Option, Some, None, take, ⊤}
 use Rattle.std.specs.List.{flat_map}
-use Rattle.cv_io.specs.Outside.{Rose}
+use Rattle.outside.specs.Outside.{Rose}
 use Rattle.of10_frames.specs.Frames.{IsShort, IsUnfinished}
 use Rattle.of10_frames.specs.Wire.{length_field}
 

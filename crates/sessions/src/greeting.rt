@@ -7,8 +7,9 @@ ghost use Rattle.sessions.specs.Streams.{Appends};
 use crate::ends::OpenEnd;
 use crate::writing::write_all;
 use byteorder::{BigEndian, ByteOrder};
-use cv_io::{Bytes, Failed, Sink};
+use cv_io::Bytes;
 use of10_frames::VERSION;
+use outside::{Failed, Sink};
 
 /// A HELLO of version 1, of transaction id 0.
 pub(crate) const HELLO: [u8; 8] = [1, 0, 0, 8, 0, 0, 0, 0];

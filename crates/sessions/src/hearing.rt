@@ -4,8 +4,9 @@ ghost use Rattle.sessions.specs.Reading.{HasFoundEnded, HasHeard};
 
 use crate::desk::{Desk, Heard};
 use crate::incoming::{Stop, chunk, next_frame};
-use cv_io::{Session, Source};
+use cv_io::Session;
 use of10_frames::Framer;
+use outside::Source;
 use std::alloc::Global;
 use std::sync::Wait;
 

@@ -1,13 +1,14 @@
 //! The next frame of a source.
 ghost use Rattle.std.specs.Prelude.{◌≡◌, ◌++◌, ◌<◌, ◌≤◌, IfOk, IfErr, IfSome, Ok, None, OnErr, OnOk, length};
-ghost use Rattle.cv_io.specs.Outside.{TakesNext};
+ghost use Rattle.outside.specs.Outside.{TakesNext};
 ghost use Rattle.of10_frames.specs.Frames.{IsFrame, IsUnfinished};
 ghost use Rattle.sessions.specs.InsideReading.{IsKeptStop, IsReadStop};
 ghost use Rattle.sessions.specs.Reading.{HasNext, HasStopped, read_end};
 
 use crate::ends::{OpenEnd, ReadEnd};
-use cv_io::{Bytes, Failed, Memory, Source};
+use cv_io::{Bytes, Memory};
 use of10_frames::{FrameFault, Framer};
+use outside::{Failed, Source};
 use std::alloc::Global;
 use std::sync::Wait;
 

@@ -10,8 +10,9 @@ use crate::greeting::{
     GREETING, HELLO, answer, dpid_of, is_features, is_hello, matches_arp, place_of, send,
 };
 use crate::incoming::{chunk, next_frame};
-use cv_io::{List, Sink, Source};
+use cv_io::List;
 use of10_frames::Framer;
+use outside::{Sink, Source};
 use std::alloc::Global;
 use std::sync::Wait;
 

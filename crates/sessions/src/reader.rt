@@ -6,8 +6,9 @@ use crate::desk::Desk;
 use crate::ends::ReadEnd;
 use crate::hearing::hear_all;
 use crate::leaving::leave;
-use cv_io::{Memory, Session, Source};
+use cv_io::{Memory, Session};
 use of10_frames::Framer;
+use outside::Source;
 use std::alloc::Global;
 use std::sync::Wait;
 

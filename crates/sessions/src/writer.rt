@@ -7,7 +7,8 @@ use crate::desk::{Desk, Taken};
 use crate::ends::WriteEnd;
 use crate::leaving::leave;
 use crate::writing::write_all;
-use cv_io::{Clock, Memory, Session, Sink};
+use cv_io::{Memory, Session};
+use outside::{Clock, Sink};
 use std::sync::Wait;
 
 /// Takes what waits for a session and writes it, until the session has ended. Where nothing waits it posts the second,

@@ -2,7 +2,7 @@
 ghost use Rattle.std.specs.Prelude.{◌≡◌, OnOk, OnErr};
 ghost use Rattle.sessions.specs.Streams.{Appends, AppendsSome, SinkFailed};
 
-use cv_io::{Failed, Sink};
+use outside::{Failed, Sink};
 
 /// Writes all of the bytes. Where the sink fails some of the first ones are written.
 pub fn write_all<K: Sink>(sink: &mut K, bytes: &[u8]) -> Result<(), Failed>

@@ -7,8 +7,8 @@ use Rattle.cv_io.specs.declared.leaf.Who.TheVariants.{Switch}
 use Rattle.events.specs.declared.event.Event.{Event}
 use Rattle.events.specs.declared.event.Event.TheVariants as events
 use Rattle.member_state.specs.States.{MemberStateOf}
-use Rattle.policy_file.specs.Policies.{PolicyOf}
-use Rattle.policy_file.specs.declared.policy.MemberItem.{MemberItem}
+use Rattle.policies.specs.Policies.{PolicyOf}
+use Rattle.policies.specs.declared.policy.MemberItem.{MemberItem}
 use Rattle.waitings.specs.Waitings.{asker_of}
 use Rattle.waitings.specs.declared.state.Asker.{Asker}
 use Rattle.waitings.specs.declared.state.Part.{Part}

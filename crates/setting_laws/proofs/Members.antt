@@ -8,8 +8,8 @@ use Rattle.composed_tables.specs.Composing.{Changes}
 use Rattle.incr_compile.specs.Compiling.{rules_after}
 use Rattle.incr_compile.specs.declared.compiled.LeafDelta.{LeafDelta}
 use Rattle.member_state.specs.Leaves.{leaf_of}
-use Rattle.policy_file.specs.Policies.{PolicyOf, plan}
-use Rattle.policy_file.specs.declared.policy.MemberItem.{MemberItem}
+use Rattle.policies.specs.Policies.{PolicyOf, plan}
+use Rattle.policies.specs.declared.policy.MemberItem.{MemberItem}
 use Rattle.policy_meaning.specs.CentralFact.{EachMember}
 use Rattle.policy_meaning.specs.Networks.{ports_of, table_rules, table_size}
 use Rattle.policy_meaning.specs.Switches.{SwitchOf as VirtualOf}

@@ -4,8 +4,8 @@ use Rattle.std.proofs.Common.{Option, Some, refl, sym, ap, subst, take}
 use Rattle.std.specs.Prelude.{slice_get, zip}
 use Rattle.std.specs.List.{enumerate_from}
 use Rattle.member_state.specs.Leaves.{leaf_of}
-use Rattle.policy_file.specs.Policies.{PolicyOf}
-use Rattle.policy_file.specs.declared.policy.MemberItem.{MemberItem}
+use Rattle.policies.specs.Policies.{PolicyOf}
+use Rattle.policies.specs.declared.policy.MemberItem.{MemberItem}
 use Rattle.policy_meaning.specs.declared.leaf.LeafTable.{LeafTable}
 use Rattle.machine_meaning.specs.Settings.{table_of, tables_with}
 use Rattle.machine_meaning.specs.Sound.{IsSoundMember}

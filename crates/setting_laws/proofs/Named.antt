@@ -12,10 +12,10 @@ use Rattle.policy_expr.specs.Signs.{Sign, chain, fallback, plus, signs_of}
 use Rattle.policy_expr.specs.declared.fault.ExprFault.TheVariants.{Twice, Unknown, Unused}
 use Rattle.policy_expr.specs.declared.member.MemberName.{MemberName}
 use Rattle.policy_expr.proofs.Accepted.{reading_accepted}
-use Rattle.policy_file.specs.Exprs.{name_at, name_of, names}
-use Rattle.policy_file.specs.Policies.{PolicyOf}
-use Rattle.policy_file.specs.Sound.{AreUnlikeMembers, EachToEarlier, IsSound, IsSoundMember as IsSoundItem, StandsAt}
-use Rattle.policy_file.specs.declared.policy.MemberItem.{MemberItem}
+use Rattle.policies.specs.Exprs.{name_at, name_of, names}
+use Rattle.policies.specs.Policies.{PolicyOf}
+use Rattle.policies.specs.Sound.{AreUnlikeMembers, EachToEarlier, IsSound, IsSoundMember as IsSoundItem, StandsAt}
+use Rattle.policies.specs.declared.policy.MemberItem.{MemberItem}
 use Rattle.policy_setting.specs.Settings.{expr_at}
 use Rattle.virtual_topology.proofs.Counted.{neither}
 use Rattle.virtual_topology.specs.declared.plan.VirtualItem.{VirtualItem}

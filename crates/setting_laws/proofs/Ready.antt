@@ -16,9 +16,9 @@ use Rattle.composed_tables.specs.Rules.{CanCompile, IsOutside, IsReadyFor}
 use Rattle.member_state.specs.Leaves.{leaf_of}
 use Rattle.member_state.specs.Sound.{IsSoundLeaf}
 use Rattle.member_state.proofs.LeafFacts.{leaf_is_plain, leaf_is_sound, leaf_keeps_to}
-use Rattle.policy_file.specs.Policies.{PolicyOf, plan}
-use Rattle.policy_file.specs.Sound.{EachToEarlier, IsOtherPort, IsSound, IsSoundSwitch}
-use Rattle.policy_file.specs.declared.policy.MemberItem.{MemberItem}
+use Rattle.policies.specs.Policies.{PolicyOf, plan}
+use Rattle.policies.specs.Sound.{EachToEarlier, IsOtherPort, IsSound, IsSoundSwitch}
+use Rattle.policies.specs.declared.policy.MemberItem.{MemberItem}
 use Rattle.policy_meaning.specs.CentralFact.{EachMember}
 use Rattle.policy_meaning.specs.Disjoint.{HasOrderlyTable}
 use Rattle.policy_meaning.specs.Fitting.{IsFittingTable, levels_of}

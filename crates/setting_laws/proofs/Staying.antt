@@ -13,8 +13,8 @@ use Rattle.member_state.specs.Leaves.{leaf_of}
 use Rattle.member_state.specs.States.{MemberStateOf}
 use Rattle.outbox.specs.Outboxes.{taken}
 use Rattle.policy_expr.specs.Policy.{Policy}
-use Rattle.policy_file.specs.Policies.{PolicyOf}
-use Rattle.policy_file.specs.declared.policy.MemberItem.{MemberItem}
+use Rattle.policies.specs.Policies.{PolicyOf}
+use Rattle.policies.specs.declared.policy.MemberItem.{MemberItem}
 use Rattle.policy_meaning.specs.declared.leaf.LeafTable.{LeafTable}
 use Rattle.policy_setting.specs.OfPolicies as of_policies
 use Rattle.switch_meaning.specs.Keys.{installed}

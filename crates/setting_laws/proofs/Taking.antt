@@ -21,8 +21,8 @@ use Rattle.of10_match.specs.Normal.{IsNormal}
 use Rattle.op_compose.specs.declared.op.Op.{Op}
 use Rattle.op_compose.specs.declared.op.Op.TheVariants.{Hop, Over, Par, Seq}
 use Rattle.policy_expr.specs.Policy.{Policy, member, members_of}
-use Rattle.policy_file.specs.Policies.{PolicyOf, plan}
-use Rattle.policy_file.specs.Sound.{IsSound, IsSoundMember as IsSoundItem}
+use Rattle.policies.specs.Policies.{PolicyOf, plan}
+use Rattle.policies.specs.Sound.{IsSound, IsSoundMember as IsSoundItem}
 use Rattle.policy_meaning.specs.Best.{IsSound as IsSoundRule}
 use Rattle.policy_meaning.specs.Fitting.{IsFittingTable}
 use Rattle.policy_meaning.specs.LeafFact.{IsSoundTable}

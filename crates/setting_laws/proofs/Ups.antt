@@ -11,7 +11,7 @@ use Rattle.agreement.specs.declared.state.Setting.{Setting}
 use Rattle.composed_tables.specs.Composing.{ComposedOf, IsOf}
 use Rattle.composed_tables.specs.Rules.{AreRulesOf, RulesOf}
 use Rattle.policy_expr.specs.Policy.{Policy}
-use Rattle.policy_file.specs.Policies.{PolicyOf}
+use Rattle.policies.specs.Policies.{PolicyOf}
 use Rattle.policy_setting.specs.Settings.{physical}
 use Rattle.switch_meaning.specs.Fixed.{drops, fixed_entries}
 use Rattle.switch_meaning.specs.declared.entry.PhysEntry.{PhysEntry}

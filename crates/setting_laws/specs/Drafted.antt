@@ -2,8 +2,8 @@
 use Rattle.std.specs.Prelude.{◌≡◌, ℕ, ◌+◌, ◌<◌, ◌^◌, false, List, Some, None, length, slice_get}
 use Rattle.std.specs.List.{AllByRecursion}
 use Rattle.events.specs.declared.event.Event.{Event}
-use Rattle.policy_file.specs.Policies.{PolicyOf}
-use Rattle.policy_file.specs.Sound.{IsSound}
+use Rattle.policies.specs.Policies.{PolicyOf}
+use Rattle.policies.specs.Sound.{IsSound}
 use Rattle.switch_state.specs.Known.{nothing_known}
 use Rattle.machine_meaning.specs.Events.{IsEvent}
 use Rattle.machine_meaning.specs.Glances.{glance_of}

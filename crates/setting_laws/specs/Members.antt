@@ -4,9 +4,9 @@ use Rattle.composed_tables.specs.Composing.{Changes}
 use Rattle.incr_compile.specs.Compiling.{rules_after}
 use Rattle.incr_compile.specs.declared.compiled.LeafDelta.{LeafDelta}
 use Rattle.member_state.specs.Leaves.{leaf_of}
-use Rattle.policy_file.specs.Policies.{PolicyOf}
-use Rattle.policy_file.specs.Sound.{IsSound}
-use Rattle.policy_file.specs.declared.policy.MemberItem.{MemberItem}
+use Rattle.policies.specs.Policies.{PolicyOf}
+use Rattle.policies.specs.Sound.{IsSound}
+use Rattle.policies.specs.declared.policy.MemberItem.{MemberItem}
 use Rattle.policy_meaning.specs.LeafRules.{leaf_rules}
 use Rattle.policy_meaning.specs.Networks.{ports_of}
 use Rattle.policy_meaning.specs.Switches.{SwitchOf as VirtualOf}

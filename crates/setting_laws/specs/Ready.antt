@@ -4,8 +4,8 @@ use Rattle.agreement.specs.Fitting.{IsFittingSetting}
 use Rattle.composed_tables.specs.Composing.{ComposedOf, IsGood, IsOf}
 use Rattle.composed_tables.specs.Rules.{IsReadyFor}
 use Rattle.policy_expr.specs.Policy.{Policy}
-use Rattle.policy_file.specs.Policies.{PolicyOf, plan}
-use Rattle.policy_file.specs.Sound.{IsSound}
+use Rattle.policies.specs.Policies.{PolicyOf, plan}
+use Rattle.policies.specs.Sound.{IsSound}
 use Rattle.machine_meaning.specs.Settings.{setting_of, setting_with}
 use Rattle.machine_meaning.specs.Sound.{AreSoundTables}
 use Rattle.machine_meaning.specs.States.{MemberOf, State, SwitchOf}

@@ -4,7 +4,7 @@ use Rattle.composed_tables.specs.Composing.{ComposedOf, IsOf}
 use Rattle.cv_io.specs.declared.leaf.Session.{Session}
 use Rattle.events.specs.declared.event.Event.{Event}
 use Rattle.member_state.specs.States.{MemberStateOf}
-use Rattle.policy_file.specs.Policies.{PolicyOf}
+use Rattle.policies.specs.Policies.{PolicyOf}
 use Rattle.machine_meaning.specs.Composing.{compose}
 use Rattle.machine_meaning.specs.Drafts.{Draft}
 use Rattle.machine_meaning.specs.Phases.{draft_of, settled_of}

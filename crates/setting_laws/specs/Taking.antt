@@ -5,8 +5,8 @@ use Rattle.composed_tables.specs.Composing.{ComposedOf, IsOf}
 use Rattle.composed_tables.specs.Rules.{CanTake, RulesOf}
 use Rattle.incr_compile.specs.declared.compiled.LeafDelta.{LeafDelta}
 use Rattle.member_state.specs.Leaves.{leaf_of}
-use Rattle.policy_file.specs.Policies.{PolicyOf}
-use Rattle.policy_file.specs.Sound.{IsSound}
+use Rattle.policies.specs.Policies.{PolicyOf}
+use Rattle.policies.specs.Sound.{IsSound}
 use Rattle.policy_meaning.specs.LeafRules.{leaf_rules}
 use Rattle.policy_meaning.specs.Networks.{ports_of}
 use Rattle.policy_meaning.specs.Switches.{SwitchOf as VirtualOf}

@@ -3,7 +3,8 @@ ghost use Rattle.std.specs.Prelude.{◌≡◌, ◌<◌};
 
 use crate::wires::{Party, RowLinks, RowSpawner, Wire, Written};
 use covisor_proxy::run;
-use cv_io::{Bytes, List, MemClock, MemFile, MemFiles, MemSink, MemSource, Memory, Steps, Text};
+use cv_io::{Bytes, List, Memory, Steps, Text};
+use outside::{MemClock, MemFile, MemFiles, MemSink, MemSource};
 use std::alloc::Global;
 use std::marker::Brand;
 use std::sync::Wait;

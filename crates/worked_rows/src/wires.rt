@@ -2,7 +2,8 @@
 //! written is then the same however the works of the program take turns.
 ghost use Rattle.std.specs.Prelude.{◌≡◌, ◌<◌, ◌≤◌, length};
 
-use cv_io::{Bytes, Dial, Endpoint, Failed, Links, Memory, Sink, Source, Spawner};
+use cv_io::{Bytes, Memory};
+use outside::{Dial, Endpoint, Failed, Links, Sink, Source, Spawner};
 use std::sync::{Condvar, Mutex, Wait};
 
 /// Who is at the other end, by its number in the policy.

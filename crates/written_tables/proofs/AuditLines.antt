@@ -12,8 +12,8 @@ use Rattle.events.specs.declared.event.Reply.{Reply}
 use Rattle.member_replies.specs.Audit.{down_line, note_line, slow_line}
 use Rattle.member_replies.specs.Refusals.{deny_line}
 use Rattle.outbox.specs.Outboxes.{is_open, later}
-use Rattle.policy_file.specs.Policies.{PolicyOf}
-use Rattle.policy_file.specs.declared.policy.MemberItem.{MemberItem}
+use Rattle.policies.specs.Policies.{PolicyOf}
+use Rattle.policies.specs.declared.policy.MemberItem.{MemberItem}
 use Rattle.switch_state.proofs.Fitting.{all_joined}
 use Rattle.machine_meaning.specs.Drafts.{Draft}
 use Rattle.machine_meaning.specs.Glances.{glance_of}

@@ -10,8 +10,8 @@ use Rattle.grants.specs.declared.denial.Denial.{Denial}
 use Rattle.member_replies.specs.Audit.{note_line, policy_line}
 use Rattle.member_replies.specs.Refusals.{deny_line}
 use Rattle.outbox.specs.Outboxes.{OutboxOf, closed, opened}
-use Rattle.policy_file.specs.Policies.{PolicyOf}
-use Rattle.policy_file.specs.declared.policy.MemberItem.{MemberItem}
+use Rattle.policies.specs.Policies.{PolicyOf}
+use Rattle.policies.specs.declared.policy.MemberItem.{MemberItem}
 use Rattle.machine_meaning.specs.Drafts.{Draft}
 use Rattle.machine_meaning.specs.Lists.{changed_at}
 use Rattle.machine_meaning.specs.Names.{switch_name, virtual_name}

@@ -8,7 +8,7 @@ use Rattle.member_state.specs.Changes.{touched, without}
 use Rattle.member_table.specs.Entries.{has_serial}
 use Rattle.member_table.specs.declared.entry.Entry.{Entry}
 use Rattle.outbox.specs.Outboxes.{OutboxOf, closed}
-use Rattle.policy_file.specs.Policies.{PolicyOf}
+use Rattle.policies.specs.Policies.{PolicyOf}
 use Rattle.script_text.specs.declared.audit.DownCause.{DownCause}
 use Rattle.script_text.specs.declared.audit.DownCause.TheVariants as causes
 use Rattle.switch_meaning.specs.Keys.{installed}

@@ -10,8 +10,8 @@ use Rattle.agreement.specs.Agree.{AreInstalled, SameEntries}
 use Rattle.agreement.specs.Entries.{table_of}
 use Rattle.agreement.specs.declared.state.PhysicalSwitch.{PhysicalSwitch}
 use Rattle.events.specs.declared.event.Event.{Event}
-use Rattle.policy_file.specs.Policies.{PolicyOf}
-use Rattle.policy_file.specs.Sound.{IsSound}
+use Rattle.policies.specs.Policies.{PolicyOf}
+use Rattle.policies.specs.Sound.{IsSound}
 use Rattle.policy_meaning.proofs.Booleans.{some_injective}
 use Rattle.policy_setting.specs.Settings.{holds_at, physical}
 use Rattle.switch_meaning.specs.BatchLaw.{IsTableOf}

@@ -12,7 +12,7 @@ use Rattle.of10_actions.specs.Spelling.{IsBytes}
 use Rattle.of10_msgs.specs.Reading.{reading}
 use Rattle.of10_msgs.specs.declared.message.Body.{Body}
 use Rattle.of10_msgs.specs.declared.message.Body.TheVariants.{BarrierRequest}
-use Rattle.policy_file.specs.Policies.{PolicyOf}
+use Rattle.policies.specs.Policies.{PolicyOf}
 use Rattle.switch_state.specs.Frames.{IsQuiet, said_by}
 use Rattle.switch_state.specs.Writing.{changes_of}
 use Rattle.switch_state.proofs.Fitting.{all_joined}

@@ -10,9 +10,9 @@ use Rattle.std.specs.List.{AllByRecursion, list_all}
 use Rattle.std.specs.Option.{option_map_or}
 use Rattle.events.specs.declared.event.Event.{Event}
 use Rattle.of10_msgs.specs.Reading.{reading}
-use Rattle.policy_file.specs.Policies.{PolicyOf}
-use Rattle.policy_file.specs.Sound.{IsSound, IsSoundSwitch}
-use Rattle.policy_file.specs.Values.{is_name, is_name_byte}
+use Rattle.policies.specs.Policies.{PolicyOf}
+use Rattle.policies.specs.Sound.{IsSound, IsSoundSwitch}
+use Rattle.policies.specs.Names.{is_name, is_name_byte}
 use Rattle.policy_meaning.proofs.Booleans.{split_and}
 use Rattle.report_lines.specs.Lines.{is_word}
 use Rattle.report_lines.specs.ReadBack.{MessagesAreReadBack, ReportsAreReadBack, read_back, report_with}

@@ -12,7 +12,7 @@ use Rattle.events.specs.declared.event.Event.{Event}
 use Rattle.events.specs.declared.event.Event.TheVariants as events
 use Rattle.events.specs.declared.event.Reply.{Reply}
 use Rattle.outbox.specs.Outboxes.{OutboxOf, closed, is_open, later, opened, taken, with_more}
-use Rattle.policy_file.specs.Policies.{PolicyOf}
+use Rattle.policies.specs.Policies.{PolicyOf}
 use Rattle.machine_meaning.specs.Acting.{act}
 use Rattle.machine_meaning.specs.Coming.{end_first, noting}
 use Rattle.machine_meaning.specs.Drafts.{Draft, untouched}

@@ -3,8 +3,8 @@ use Rattle.std.specs.Prelude.{◌≡◌, ℕ, List, Option, Some, option_map, sl
 use Rattle.grants.specs.declared.denial.Denial.{Denial}
 use Rattle.member_replies.specs.Audit.{down_line, note_line, policy_line, slow_line}
 use Rattle.member_replies.specs.Refusals.{deny_line}
-use Rattle.policy_file.specs.Policies.{PolicyOf}
-use Rattle.policy_file.specs.declared.policy.MemberItem.{MemberItem}
+use Rattle.policies.specs.Policies.{PolicyOf}
+use Rattle.policies.specs.declared.policy.MemberItem.{MemberItem}
 use Rattle.script_text.specs.declared.audit.DownCause.{DownCause}
 use Rattle.events.specs.declared.event.PolicyRefusal.{PolicyRefusal}
 use Rattle.machine_meaning.specs.Names.{switch_name, virtual_name}

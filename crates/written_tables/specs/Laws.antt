@@ -5,8 +5,8 @@ use Rattle.agreement.specs.Agree.{Agree}
 use Rattle.events.specs.declared.event.Event.{Event}
 use Rattle.of10_actions.specs.Spelling.{IsBytes}
 use Rattle.outbox.specs.Outboxes.{OutboxOf}
-use Rattle.policy_file.specs.Policies.{PolicyOf}
-use Rattle.policy_file.specs.Sound.{IsSound}
+use Rattle.policies.specs.Policies.{PolicyOf}
+use Rattle.policies.specs.Sound.{IsSound}
 use Rattle.switch_meaning.specs.declared.entry.FlowEntry.{FlowEntry}
 use Rattle.switch_state.specs.Frames.{bodies_in}
 use Rattle.switch_state.specs.Writing.{changes_of}

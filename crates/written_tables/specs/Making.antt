@@ -4,7 +4,7 @@ use Rattle.std.specs.Prelude.{slice_get}
 use Rattle.cv_io.specs.declared.leaf.Who.TheVariants.{Switch}
 use Rattle.events.specs.declared.event.Event.{Event}
 use Rattle.events.specs.declared.event.Event.TheVariants.{Up}
-use Rattle.policy_file.specs.Policies.{PolicyOf}
+use Rattle.policies.specs.Policies.{PolicyOf}
 use Rattle.switch_meaning.specs.BatchLaw.{IsTableOf}
 use Rattle.switch_meaning.specs.Tables.{table_after_all}
 use Rattle.switch_meaning.specs.declared.entry.FlowEntry.{FlowEntry}

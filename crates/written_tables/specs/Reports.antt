@@ -3,8 +3,8 @@ use Rattle.std.specs.Prelude.{◌≡◌, ℕ, List}
 use Rattle.std.specs.List.{AllByRecursion}
 use Rattle.agreement.specs.Agree.{Agree}
 use Rattle.events.specs.declared.event.Event.{Event}
-use Rattle.policy_file.specs.Policies.{PolicyOf}
-use Rattle.policy_file.specs.Sound.{IsSound}
+use Rattle.policies.specs.Policies.{PolicyOf}
+use Rattle.policies.specs.Sound.{IsSound}
 use Rattle.report_lines.specs.ReadBack.{IsPlain, Told, report_with, said_to}
 use Rattle.report_lines.specs.Reading.{messages_to}
 use Rattle.switch_meaning.specs.declared.entry.FlowEntry.{FlowEntry}

@@ -1,5 +1,5 @@
 use Rattle.std.proofs.Common.{◌≡◌, ℕ, List, ◌++◌, Option, inl, inr, subst, sym, take}
-use Rattle.cv_io.specs.Outside.{Rose}
+use Rattle.outside.specs.Outside.{Rose}
 use Rattle.replay_report.specs.Players.{reported}
 use Rattle.covisor_proxy.specs.Following.{StopsWith, Writes}
 use Rattle.covisor_proxy.specs.Written.{Appends}

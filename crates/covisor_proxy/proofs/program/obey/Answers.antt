@@ -1,5 +1,5 @@
 use Rattle.std.proofs.Common.{Err, Some, refl, subst, sym}
-use Rattle.cv_io.specs.declared.files.FileFault.TheVariants as faults
+use Rattle.outside.specs.declared.files.FileFault.TheVariants as faults
 use Rattle.made_script.specs.Summary.{summary_text}
 use Rattle.replay_report.specs.Making.{made_of}
 use Rattle.hyper_core.specs.contracts.machine.HyperMachine.TheImpl.{ghosts as hyper}

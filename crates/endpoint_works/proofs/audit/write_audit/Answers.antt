@@ -1,5 +1,5 @@
 use Rattle.std.proofs.Common.{◌∷◌, ◌++◌, [], subst, sym, ◌∙◌}
-use Rattle.cv_io.specs.Outside.{Rose}
+use Rattle.outside.specs.Outside.{Rose}
 use Rattle.sessions.proofs.Bytes.{after-err, after-ok}
 use Rattle.sessions.specs.Streams.{Appends, AppendsSome}
 use Rattle.endpoint_works.proofs.Audits.{audited-more, audited-part}

@@ -1,5 +1,5 @@
 use Rattle.std.proofs.Common.{◌∷◌, ◌++◌, [], inl, inr, refl, subst, sym, true, ◌∙◌}
-use Rattle.cv_io.specs.Connections.{Gives}
+use Rattle.outside.specs.Connections.{Gives}
 use Rattle.endpoint_works.specs.Chains.{AreRounds}
 use Rattle.endpoint_works.proofs.Chains.{rounds-more, rounds-wanted}
 use Rattle.endpoint_works.proofs.receiving.receive.Goals.{in-Ok, in-Err-serve_round}

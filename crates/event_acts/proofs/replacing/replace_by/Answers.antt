@@ -1,8 +1,8 @@
 use Rattle.std.proofs.Common.{◌∙◌, Option, ap, map, sym}
 use Rattle.std.proofs.lemmas.Result.{on_ok_weaker}
 use Rattle.policy_expr.specs.Policy.{policy_of}
-use Rattle.policy_file.specs.Policies.{plan}
-use Rattle.policy_file.specs.Widths.{too_wide_in}
+use Rattle.policies.specs.Policies.{plan}
+use Rattle.policies.specs.Widths.{too_wide_in}
 use Rattle.events.specs.declared.event.PolicyRefusal.{PolicyRefusal}
 use Rattle.machine_meaning.specs.Replacing.{replace_unless, width_refusal}
 use Rattle.machine_drafts.specs.Outcomes.{draft_in}

@@ -1,5 +1,5 @@
 use Rattle.std.proofs.Common.{◌≡◌, ◌∙◌, List, Some, ◌≤◌, ap, drop, length, slice_get, subst, sym}
-use Rattle.policy_file.specs.declared.policy.MemberItem.{MemberItem}
+use Rattle.policies.specs.declared.policy.MemberItem.{MemberItem}
 use Rattle.event_acts.proofs.Doubting.{more_doubts, none_left}
 use Rattle.machine_drafts.proofs.Expiring.{stands_there}
 use Rattle.machine_drafts.specs.Outcomes.{state_in}

@@ -2,7 +2,7 @@ use Rattle.std.proofs.Common.{◌<◌, ◌^◌, length, subst, sym}
 use Rattle.agreement.specs.declared.state.Setting.{Setting}
 use Rattle.composed_tables.specs.Composing.{IsGood}
 use Rattle.composed_tables.specs.Rules.{IsReadyFor}
-use Rattle.policy_file.specs.Policies.{plan}
+use Rattle.policies.specs.Policies.{plan}
 use Rattle.virtual_topology.specs.declared.plan.TopologyPlan.{TopologyPlan}
 use Rattle.machine_drafts.specs.Machines.{state_in_held}
 use Rattle.event_composes.proofs.Bounds.{built_steps}

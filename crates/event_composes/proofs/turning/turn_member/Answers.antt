@@ -1,6 +1,6 @@
 use Rattle.std.proofs.Common.{◌<◌, List, Option, ap, arith, length, subst, sym}
 use Rattle.std.specs.Prelude.{IfSome}
-use Rattle.policy_file.specs.declared.policy.MemberItem.{MemberItem}
+use Rattle.policies.specs.declared.policy.MemberItem.{MemberItem}
 use Rattle.machine_meaning.proofs.Grants.{grant_sound, item_of}
 use Rattle.incr_compile.specs.declared.compiled.LeafDelta.{LeafDelta}
 use Rattle.machine_drafts.specs.MemberDrafts.{IsLeafDelta}

@@ -1,8 +1,8 @@
 use Rattle.std.proofs.Common.{◌∙◌, All, List, ap, map, refl, subst, sym}
 use Rattle.policy_expr.specs.Policy.{policy_of}
-use Rattle.policy_file.specs.Exprs.{exprs_of}
-use Rattle.policy_file.specs.Policies.{PolicyOf}
-use Rattle.policy_file.specs.declared.policy.MemberItem.{MemberItem}
+use Rattle.policies.specs.Exprs.{exprs_of}
+use Rattle.policies.specs.Policies.{PolicyOf}
+use Rattle.policies.specs.declared.policy.MemberItem.{MemberItem}
 use Rattle.stats_map.specs.Told.{told}
 use Rattle.virtual_topology.specs.declared.plan.SwitchItem.{SwitchItem}
 use Rattle.machine_meaning.specs.States.{State, exprs_read, new_member, new_switch, nothing_stands, opening}

@@ -1,7 +1,7 @@
 use Rattle.std.proofs.Common.{subst, sym}
 use Rattle.std.proofs.lemmas.List.Elements.{All-get_or}
 use Rattle.of10_actions.specs.Ports.{AreRising}
-use Rattle.policy_file.specs.declared.policy.MemberItem.{MemberItem}
+use Rattle.policies.specs.declared.policy.MemberItem.{MemberItem}
 use Rattle.machine_drafts.proofs.settings.tables.Goals as goal
 
 pub table-requires : goal.table-requires

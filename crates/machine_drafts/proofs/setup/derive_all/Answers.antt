@@ -1,5 +1,5 @@
 use Rattle.std.proofs.Common.{◌∙◌, ap, map, sym}
-use Rattle.policy_file.specs.Policies.{PolicyOf}
+use Rattle.policies.specs.Policies.{PolicyOf}
 use Rattle.virtual_topology.specs.declared.plan.TopologyPlan.{TopologyPlan}
 use Rattle.machine_drafts.proofs.Seen.{seen_all}
 use Rattle.machine_meaning.specs.Lists.{places}

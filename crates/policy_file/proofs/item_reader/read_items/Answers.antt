@@ -6,7 +6,7 @@ use Rattle.toml.specs.View.{table_view, view}
 use Rattle.policy_file.specs.Listed.{items}
 use Rattle.policy_file.specs.Plans.{items_of}
 use Rattle.policy_file.proofs.ItemSteps.{items_stopped}
-use Rattle.policy_file.proofs.Numbered.{rest_viewed}
+use Rattle.policies.proofs.Numbered.{rest_viewed}
 use Rattle.policy_file.proofs.item_reader.read_items.Goals as goal
 
 pub returns-in_err-add_item : goal.returns-in_err-add_item

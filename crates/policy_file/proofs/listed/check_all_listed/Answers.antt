@@ -2,8 +2,8 @@ use Rattle.std.proofs.Common.{◌≡◌, Option, Some, None, sym, subst}
 use Rattle.std.specs.Option.{option_or}
 use Rattle.toml.specs.View.{table_view}
 use Rattle.virtual_topology.specs.Faults.{Answers, first_answer}
-use Rattle.policy_file.specs.declared.fault.PolicyFault.{PolicyFault}
-use Rattle.policy_file.specs.declared.fault.PolicyFault.TheVariants.{Memory}
+use Rattle.policies.specs.declared.fault.PolicyFault.{PolicyFault}
+use Rattle.policies.specs.declared.fault.PolicyFault.TheVariants.{Memory}
 use Rattle.policy_file.specs.declared.keys.Version.{Version}
 use Rattle.policy_file.specs.declared.section.Section.TheVariants.{Top}
 use Rattle.policy_file.specs.Keys.{item_kinds}

@@ -5,7 +5,7 @@ use Rattle.std.specs.List.{enumerate_from}
 use Rattle.toml.specs.View.{view}
 use Rattle.virtual_topology.proofs.Checks.{ended, passed_on, stopped_at}
 use Rattle.virtual_topology.proofs.Steps.{as_many_mapped, mapped_at, numbered_at}
-use Rattle.policy_file.specs.declared.fault.PolicyFault.TheVariants.{Memory}
+use Rattle.policies.specs.declared.fault.PolicyFault.TheVariants.{Memory}
 use Rattle.policy_file.specs.Listed.{in_item, missing}
 use Rattle.policy_file.proofs.listed.check_items_needed.Goals as goal
 

@@ -3,7 +3,7 @@ use Rattle.std.proofs.lemmas.List.{drop_more}
 use Rattle.std.proofs.lemmas.Result.{err_from_is_err_and}
 use Rattle.toml.specs.View.{table_view}
 use Rattle.virtual_topology.proofs.Checks.{ended, passed_on, stopped_at}
-use Rattle.policy_file.specs.declared.fault.PolicyFault.TheVariants.{Memory}
+use Rattle.policies.specs.declared.fault.PolicyFault.TheVariants.{Memory}
 use Rattle.policy_file.specs.declared.keys.ItemKind.TheVariants.{Switch}
 use Rattle.policy_file.specs.Keys.{item_kinds}
 use Rattle.policy_file.specs.Listed.{in_items, missing}

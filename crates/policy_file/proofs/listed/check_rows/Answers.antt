@@ -2,7 +2,7 @@ use Rattle.std.proofs.Common.{◌+◌, drop}
 use Rattle.std.proofs.lemmas.List.{drop_more}
 use Rattle.std.proofs.lemmas.Result.{err_from_is_err_and}
 use Rattle.toml.specs.View.{table_view}
-use Rattle.policy_file.specs.declared.fault.PolicyFault.TheVariants.{Memory}
+use Rattle.policies.specs.declared.fault.PolicyFault.TheVariants.{Memory}
 use Rattle.policy_file.specs.Listed.{missing_row}
 use Rattle.policy_file.specs.Shown.{shown_row}
 use Rattle.policy_file.proofs.Passing.{passed_first, stopped_first}

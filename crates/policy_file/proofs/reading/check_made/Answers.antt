@@ -1,6 +1,6 @@
 use Rattle.std.proofs.Common.{map, subst}
 use Rattle.policy_expr.specs.Policy as expr
-use Rattle.policy_file.specs.Outcomes.{Gives}
+use Rattle.policies.specs.Outcomes.{Gives}
 use Rattle.policy_file.specs.Reading.{fits_over, topology_fault}
 use Rattle.policy_file.proofs.Checked.{pass_gives}
 use Rattle.policy_file.proofs.reading.check_made.Goals as goal

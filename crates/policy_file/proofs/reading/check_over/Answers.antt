@@ -1,8 +1,8 @@
 use Rattle.std.proofs.Common.{Ok, map, refl}
 use Rattle.policy_expr.specs.Policy as expr
-use Rattle.policy_file.specs.Outcomes.{unless}
+use Rattle.policies.specs.Outcomes.{unless}
 use Rattle.policy_file.specs.Reading.{path_fault}
-use Rattle.policy_file.specs.Widths.{too_wide_in}
+use Rattle.policies.specs.Widths.{too_wide_in}
 use Rattle.policy_file.proofs.Checked.{last_gives, pass_gives}
 use Rattle.policy_file.proofs.reading.check_over.Goals as goal
 

@@ -1,7 +1,7 @@
 use Rattle.std.proofs.Common.{◌≡◌, ◌∙◌, Ok, map, subst, sym}
 use Rattle.policy_expr.specs.Policy as expr
-use Rattle.policy_file.specs.Exprs.{exprs_of}
-use Rattle.policy_file.specs.Outcomes.{Gives}
+use Rattle.policies.specs.Exprs.{exprs_of}
+use Rattle.policies.specs.Outcomes.{Gives}
 use Rattle.policy_file.specs.Reading.{fits_made}
 use Rattle.policy_file.proofs.Checked.{step_gives}
 use Rattle.policy_file.proofs.reading.check_whole.Goals as goal

@@ -1,6 +1,6 @@
 use Rattle.std.proofs.Common.{◌∙◌, ◌++◌, ◌∷◌, [], ℕ, List, ap, append_assoc, map, sym, take, arith}
 use Rattle.std.specs.List.{enumerate_from}
-use Rattle.cv_io.specs.declared.links.Endpoint.TheVariants as ends
+use Rattle.outside.specs.declared.links.Endpoint.TheVariants as ends
 use Rattle.endpoint_works.specs.declared.side.Side.TheVariants as sides
 use Rattle.virtual_topology.proofs.Steps.{numbered_all, numbered_mapped}
 use Rattle.serving.specs.declared.place.Place.{Place}

@@ -1,5 +1,5 @@
 use Rattle.std.proofs.Common.{◌∙◌, ap, arith}
-use Rattle.policy_file.specs.Policies.{PolicyOf, plan}
+use Rattle.policies.specs.Policies.{PolicyOf, plan}
 use Rattle.virtual_topology.proofs.Counted.{few_switches}
 use Rattle.policy_serving.proofs.endpoints.places.Goals as goal
 

@@ -3,8 +3,8 @@ use Rattle.endpoint_works.specs.Sides.{IsServedSide}
 use Rattle.event_composes.specs.Meanings.{data_in}
 use Rattle.policy_serving.specs.Proxies.{HasOne}
 use Rattle.machine_meaning.specs.States.{opening}
-use Rattle.policy_file.specs.Policies.{PolicyOf}
-use Rattle.policy_file.specs.Sound.{IsSound}
+use Rattle.policies.specs.Policies.{PolicyOf}
+use Rattle.policies.specs.Sound.{IsSound}
 use Rattle.serving.specs.declared.place.Place.{Place}
 use Rattle.policy_serving.specs.Places.{places_of}
 use Rattle.policy_serving.proofs.Opens.{is_opening}

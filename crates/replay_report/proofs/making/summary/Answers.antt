@@ -1,6 +1,6 @@
 use Rattle.std.proofs.Common.{◌≡◌, ◌≤◌, ◌+◌, ◌∙◌, ap, subst, sym}
 use Rattle.std.specs.Prelude.{IfOk}
-use Rattle.policy_file.specs.Policies.{PolicyOf}
+use Rattle.policies.specs.Policies.{PolicyOf}
 use Rattle.replay_report.specs.Making.{first, script_steps, summary_in}
 use Rattle.replay_report.proofs.Stepping.{none_counted, unowed}
 use Rattle.replay_report.proofs.making.summary.Goals as goal

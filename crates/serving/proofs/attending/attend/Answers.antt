@@ -1,5 +1,5 @@
 use Rattle.std.proofs.Common.{◌≡◌, ◌∙◌, None, ap, arith, refl, subst, sym, true}
-use Rattle.cv_io.specs.Outside.{Rose}
+use Rattle.outside.specs.Outside.{Rose}
 use Rattle.policy_lock.specs.Number.{missing}
 use Rattle.serving.specs.Attending.{settled}
 use Rattle.serving.specs.Histories.{lines_taken}

@@ -1,6 +1,6 @@
 use Rattle.std.proofs.Common.{◌≡◌, ◌≤◌, true}
-use Rattle.cv_io.specs.Outside.{Rose}
-use Rattle.cv_io.specs.declared.links.Endpoint.{Endpoint}
+use Rattle.outside.specs.Outside.{Rose}
+use Rattle.outside.specs.declared.links.Endpoint.{Endpoint}
 use Rattle.serving.specs.Lines.{AreLinesOf}
 use Rattle.serving.proofs.dialling.dial_all.Given as goal
 

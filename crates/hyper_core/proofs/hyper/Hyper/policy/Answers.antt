@@ -1,5 +1,5 @@
 use Rattle.std.proofs.Common.{subst}
-use Rattle.policy_file.specs.Sound.{IsSound}
+use Rattle.policies.specs.Sound.{IsSound}
 use Rattle.machine_drafts.specs.Machines.{MachineOf}
 use Rattle.hyper_core.proofs.hyper.Hyper.policy.Goals as goal
 

@@ -1,6 +1,6 @@
 use Rattle.std.proofs.Common.{◌<◌, ◌≡◌, ◌↔◌, IfSome, IsSome, length, slice_get, subst, arith}
 use Rattle.of10_actions.specs.declared.effects.PortView.{PortView}
-use Rattle.policy_file.specs.Policies.{PolicyOf}
+use Rattle.policies.specs.Policies.{PolicyOf}
 use Rattle.machine_drafts.proofs.Found.{as_many_ports, copied_each, copied_some, ports_found, some_copied, some_within}
 use Rattle.machine_drafts.proofs.Found.{within_some}
 use Rattle.machine_meaning.specs.Names.{all_ports}

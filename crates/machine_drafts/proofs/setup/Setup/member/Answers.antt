@@ -1,6 +1,6 @@
 use Rattle.std.proofs.Common.{◌∙◌, ◌<◌, List, ap, length, slice_get}
 use Rattle.of10_actions.specs.Ports.{AreRising}
-use Rattle.policy_file.specs.declared.policy.MemberItem.{MemberItem}
+use Rattle.policies.specs.declared.policy.MemberItem.{MemberItem}
 use Rattle.machine_drafts.proofs.Found.{copied_each, each_there}
 use Rattle.machine_drafts.proofs.setup.Setup.member.Goals as goal
 

@@ -1,5 +1,5 @@
 use Rattle.std.proofs.Common.{subst}
-use Rattle.policy_file.specs.Sound.{IsSound}
+use Rattle.policies.specs.Sound.{IsSound}
 use Rattle.machine_drafts.proofs.setup.Setup.policy.Goals as goal
 
 pub returns-clause-sound : goal.returns-clause-sound

@@ -1,5 +1,5 @@
 use Rattle.std.proofs.Common.{◌∙◌, ◌<◌, ◌≡◌, length, slice_get, subst, sym, ap, arith}
-use Rattle.policy_file.specs.Policies.{PolicyOf}
+use Rattle.policies.specs.Policies.{PolicyOf}
 use Rattle.machine_drafts.proofs.Found.{as_many_made, made_found}
 use Rattle.machine_meaning.specs.Ways.{switches_of}
 use Rattle.machine_drafts.proofs.setup.Setup.switches_of.Goals as goal

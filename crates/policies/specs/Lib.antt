@@ -1,0 +1,9 @@
+pub mod Exprs
+pub mod Names
+pub mod Outcomes
+pub mod Policies
+pub mod Showing
+pub mod Sound
+pub mod Terse
+pub mod Views
+pub mod Widths

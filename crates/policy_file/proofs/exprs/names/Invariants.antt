@@ -1,8 +1,0 @@
-use Rattle.std.proofs.Common.{◌≡◌, take}
-use Rattle.std.specs.Prelude.{filter_map}
-use Rattle.std.specs.List.{enumerate_from}
-use Rattle.policy_file.specs.Exprs.{name_at}
-use Rattle.policy_file.proofs.exprs.names.Given as goal
-
-abbrev pub invariant-loop-index : goal.invariant-loop-index
-invariant-loop-index l = l.names ≡ filter_map (name_at l.v) (take l.index (enumerate_from 0 l.members))

@@ -1,6 +1,0 @@
-use Rattle.std.proofs.Common.{◌≡◌, ◌++◌, drop}
-use Rattle.policy_file.specs.Sections.{shown}
-use Rattle.policy_file.proofs.section.push_word.Given as goal
-
-abbrev pub invariant-loop-byte : goal.invariant-loop-byte
-invariant-loop-byte l = l.text ++ shown (drop l.byte-index l.word) ≡ l.initial.text ++ shown l.word
