@@ -6,7 +6,7 @@ mod denials;
 #[cfg(test)]
 mod explanations;
 #[cfg(test)]
-mod policies;
+mod policy_files;
 #[cfg(test)]
 mod polls;
 #[cfg(test)]

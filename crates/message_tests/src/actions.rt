@@ -1,4 +1,6 @@
 //! Lists of actions as bytes, and what they do.
+ghost use Rattle.of10_actions.specs.Actions.{AreInRange};
+ghost use Rattle.of10_actions.specs.Ports.{AreRising};
 ghost use Rattle.std.specs.Prelude.{◌≤◌, ◌<◌, ◌^◌, length};
 
 use cv_io::List;
@@ -44,17 +46,56 @@ fn ports(alloc: Global, outside: &[u16]) -> Result<PortView, Fail> {
     })
 }
 
-/// The effects of written actions for member 3, at these outside ports, or none where the ports do not rise.
+/// The effects of written actions for member 3.
+fn effects_of(alloc: Global, bytes: &[u8], ports: &PortView) -> Result<Effects, Fail>
+    requires fits { length bytes.now < 2 ^ 32 }
+    requires rising { AreRising ports.now }
+{
+    let list = read_list(alloc, bytes)?;
+    let found = effects(alloc, &list, ports, 3);
+    drop(list);
+    Ok(found?)
+}
+
+/// The effects for member 3 at these outside ports, or none where the ports do not rise.
 fn effects_at(alloc: Global, bytes: &[u8], outside: &[u16]) -> Result<Option<Effects>, Fail>
     requires { length bytes.now < 2 ^ 32 }
 {
-    let list = read_list(alloc, bytes)?;
     let ports = ports(alloc, outside)?;
     if ports.is_rising() {
-        Ok(Some(effects(alloc, &list, &ports, 3)?))
+        let found = effects_of(alloc, bytes, &ports);
+        drop(ports);
+        Ok(Some(found?))
     } else {
         Ok(None)
     }
+}
+
+/// Whether a list is written as these bytes.
+fn is_written(alloc: Global, list: &List<Action>, right: &[u8]) -> Result<bool, Fail>
+    requires { AreInRange list.now }
+{
+    let bytes = write_list(alloc, list)?;
+    let same = bytes.as_slice() == right;
+    drop(bytes);
+    Ok(same)
+}
+
+/// Whether the bytes on the left are read as the actions, how many bytes these have, and whether they
+/// are written as those on the right.
+fn read_and_written(
+    alloc: Global,
+    left: &[u8],
+    right: &[u8],
+    actions: &[Action],
+) -> Result<(bool, usize, bool), Fail>
+    requires { length left.now < 2 ^ 32 }
+{
+    let list = read_list(alloc, left)?;
+    let found = (list.as_slice() == actions, list_length(&list));
+    let written = is_written(alloc, &list, right);
+    drop(list);
+    Ok((found.0, found.1, written?))
 }
 
 /// The bytes on the left are read as the actions, which are written as those on the right.
@@ -66,11 +107,8 @@ fn are_read_and_written(
 ) -> Result<(), Fail>
     requires { length left.now < 2 ^ 32 }
 {
-    let list = read_list(rt.alloc(), left)?;
-    assert_eq!(rt; list.as_slice(), actions);
-    assert_eq!(rt; list_length(&list), right.len());
-    let bytes = write_list(rt.alloc(), &list)?;
-    assert_eq!(rt; bytes.as_slice(), right);
+    let found = read_and_written(rt.alloc(), left, right, actions)?;
+    assert_eq!(rt; found, (true, right.len(), true));
     Ok(())
 }
 

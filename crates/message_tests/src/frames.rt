@@ -89,30 +89,40 @@ fn short_lengths(rt: HostRuntime) -> Result<(), Fail> {
     Ok(())
 }
 
+fn add(alloc: Global, pieces: &mut List<Bytes>, piece: &[u8]) -> Result<(), Fail> {
+    pieces.push(Bytes::from_slice(alloc, piece)?)?;
+    Ok(())
+}
+
 /// The stream in pieces of at most so many bytes.
 fn pieces(alloc: Global, stream: &[u8], most: usize) -> Result<List<Bytes>, Fail> {
     let mut pieces = List::new(alloc);
     for piece in stream.chunks(most.max(1)) {
-        pieces.push(Bytes::from_slice(alloc, piece)?)?;
+        add(alloc, &mut pieces, piece)?;
     }
     Ok(pieces)
 }
 
-/// The frames are those of the two messages.
-fn are_two(rt: &impl Abort, frames: &List<Bytes>, most: usize) {
-    assert_eq!(rt; frames.len(), 2, "in pieces of {most}");
-    for (frame, want) in frames.as_slice().iter().zip([&TWO[..8], &TWO[8..]]) {
-        assert_eq!(rt; frame.as_slice(), want, "in pieces of {most}");
+/// Whether the frames are those of the two messages.
+fn are_two(frames: &[Bytes]) -> bool {
+    match frames {
+        [first, second] => first.as_slice() == &TWO[..8] && second.as_slice() == &TWO[8..],
+        _ => false,
     }
+}
+
+/// Whether the stream is cut into the two frames, and nothing more, in such pieces.
+fn is_cut_in_two(alloc: Global, most: usize) -> Result<(bool, bool), Fail> {
+    let cut = pieces(alloc, &TWO, most)?;
+    let (frames, mut rest) = frames_of(alloc, cut.as_slice())?;
+    Ok((are_two(frames.as_slice()), is_waiting(&mut rest)))
 }
 
 #[test]
 fn any_pieces(rt: HostRuntime) -> Result<(), Fail> {
     for most in 1..21 {
-        let cut = pieces(rt.alloc(), &TWO, most)?;
-        let (frames, mut rest) = frames_of(rt.alloc(), cut.as_slice())?;
-        are_two(&rt, &frames, most);
-        assert!(rt; is_waiting(&mut rest));
+        let cut = is_cut_in_two(rt.alloc(), most)?;
+        assert_eq!(rt; cut, (true, true), "in pieces of {most}");
     }
     Ok(())
 }

@@ -1,4 +1,5 @@
 //! The script of a seed, and the line that tells what it gave.
+use cv_io::Text;
 use made_script::{Made, Summary, summary_line};
 use std::alloc::Global;
 use std::test::*;
@@ -14,22 +15,43 @@ const LINES: [&str; 7] = [
     "from rt@v1 010e005000000004003220ef000000000000000000000000000000000000080000000000000000000a006b000000000000000000000000000000000000000064ffffffffffff00000000000800010000",
 ];
 
+/// A line as text.
+fn shown(alloc: Global, line: Text) -> Result<String, Fail> {
+    let shown = format!(in alloc; "{line}");
+    drop(line);
+    Ok(shown?)
+}
+
 /// The next line of a script, or its end.
 fn next(alloc: Global, script: &mut Made) -> Result<String, Fail> {
     match script.next()? {
-        Some(line) => Ok(format!(in alloc; "{line}")?),
-        None => Ok(format!(in alloc; "end")?),
+        Some(line) => shown(alloc, line),
+        None => Ok(String::from_str(alloc, "end")?),
     }
+}
+
+/// Whether the next line is this one.
+fn is_next(alloc: Global, script: &mut Made, expected: &str) -> Result<bool, Fail> {
+    let shown = next(alloc, script)?;
+    Ok(shown.as_str() == expected)
+}
+
+/// Whether the lines come, one after the other, and no other comes then.
+fn has_lines(alloc: Global, script: &mut Made) -> Result<bool, Fail> {
+    for expected in &LINES {
+        if !is_next(alloc, script, expected)? {
+            return Ok(false);
+        }
+    }
+    Ok(script.next()?.is_none())
 }
 
 #[test]
 fn a_script_of_four_messages(rt: HostRuntime) -> Result<(), Fail> {
     let mut script = Made::new(rt.alloc(), 1, 4);
-    for expected in LINES {
-        let shown = next(rt.alloc(), &mut script)?;
-        assert_eq!(rt; shown.as_str(), expected);
-    }
-    assert!(rt; script.next()?.is_none());
+    let same = has_lines(rt.alloc(), &mut script);
+    drop(script);
+    assert!(rt; same?);
     Ok(())
 }
 
@@ -42,7 +64,7 @@ fn a_summary(rt: HostRuntime) -> Result<(), Fail> {
         sent: 17,
     };
     let line = summary_line(rt.alloc(), &summary)?;
-    let shown = format!(in rt.alloc(); "{line}")?;
+    let shown = shown(rt.alloc(), line)?;
     assert_eq!(rt; shown.as_str(), "make lines=7 accepted=4 rules=9 sent=17");
     Ok(())
 }

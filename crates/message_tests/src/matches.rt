@@ -125,9 +125,8 @@ fn to(addr: u32, len: u32) -> Match
 
 /// What a match has in common with another, and whether it covers it.
 fn compare(rt: &impl Abort, a: &Match, b: &Match, meet: Option<&Match>, covers: bool) {
-    assert_eq!(rt; a.meet(b).as_ref(), meet, "{a} and {b}");
-    assert_eq!(rt; a.overlaps(b), meet.is_some(), "{a} and {b}");
-    assert_eq!(rt; a.covers(b), covers, "{a} and {b}");
+    let found = (a.meet(b).as_ref() == meet, a.overlaps(b), a.covers(b));
+    assert_eq!(rt; found, (true, meet.is_some(), covers), "{a} and {b}");
 }
 
 #[test]

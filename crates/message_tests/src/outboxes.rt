@@ -4,10 +4,14 @@ use outbox::{Letters, Outbox, Taking};
 use std::alloc::Global;
 use std::test::Fail;
 
+fn add(alloc: Global, letters: &mut Letters, text: &[u8]) -> Result<(), Memory> {
+    letters.push(Bytes::from_slice(alloc, text)?)
+}
+
 fn letters(alloc: Global, texts: &[&[u8]]) -> Result<Letters, Memory> {
     let mut made = Letters::new(alloc);
     for text in texts {
-        made.push(Bytes::from_slice(alloc, text)?)?;
+        add(alloc, &mut made, text)?;
     }
     Ok(made)
 }

@@ -45,6 +45,21 @@ fn reply_of(alloc: Global, frame: &[u8]) -> Result<StatsReply, StatsFault>
     read_reply(alloc, body)
 }
 
+/// Whether a request is written as these bytes.
+fn is_request_written(
+    alloc: Global,
+    request: &StatsRequest,
+    xid: u32,
+    want: &[u8],
+) -> Result<bool, Memory>
+    requires { CanWriteRequest request.now }
+{
+    let written = write_request(alloc, request, xid)?;
+    let same = written.as_slice() == want;
+    drop(written);
+    Ok(same)
+}
+
 /// Reads a request, and writes it as these bytes.
 fn is_request(
     rt: &(impl Abort + AllocGlobal),
@@ -56,8 +71,8 @@ fn is_request(
     assert!(rt; frame.len() <= 65535);
     let request = request_of(frame)?;
     assert_eq!(rt; request, *want);
-    let written = write_request(rt.alloc(), &request, xid_of(frame))?;
-    assert_eq!(rt; written.as_slice(), plain);
+    let same = is_request_written(rt.alloc(), &request, xid_of(frame), plain)?;
+    assert!(rt; same);
     Ok(())
 }
 
@@ -82,6 +97,24 @@ fn requests(rt: HostRuntime) -> Result<(), Fail> {
     Ok(())
 }
 
+/// Whether there is one message, of these bytes.
+fn is_one(messages: &List<Bytes>, want: &[u8]) -> bool {
+    match messages.as_slice() {
+        [message] => message.as_slice() == want,
+        _ => false,
+    }
+}
+
+/// Whether a reply is written as one message, of these bytes.
+fn is_written(alloc: Global, reply: &StatsReply, xid: u32, want: &[u8]) -> Result<bool, Memory>
+    requires { CanWriteReply reply.now }
+{
+    let written = write_reply(alloc, reply, xid)?;
+    let same = is_one(&written, want);
+    drop(written);
+    Ok(same)
+}
+
 /// A reply is written as one message, of these bytes.
 fn writes_one(
     rt: &(impl Abort + AllocGlobal),
@@ -92,9 +125,8 @@ fn writes_one(
     requires { CanWriteBody reply.now.body }
 {
     assert!(rt; !reply.more);
-    let written = write_reply(rt.alloc(), reply, xid)?;
-    let first = written.as_slice().first().ok_or("nothing is written")?;
-    assert_eq!(rt; (written.len(), first.as_slice()), (1, want));
+    let same = is_written(rt.alloc(), reply, xid, want)?;
+    assert!(rt; same);
     Ok(())
 }
 
@@ -124,7 +156,9 @@ fn is_reply(
     want: &StatsReply,
 ) -> Result<(), Fail> {
     let reply = reply_again(rt, plain, frame)?;
-    assert_eq!(rt; reply, *want, "at {plain:?}");
+    let same = reply == *want;
+    drop(reply);
+    assert!(rt; same, "at {plain:?}");
     Ok(())
 }
 
@@ -174,19 +208,29 @@ fn entries(alloc: Global, count: usize) -> Result<StatsReply, Memory>
     })
 }
 
+/// Whether all entries of a message are this one.
+fn are_entries(entries: &[u8], entry: &[u8]) -> bool {
+    for found in entries.chunks_exact(96) {
+        if found != entry {
+            return false;
+        }
+    }
+    true
+}
+
 /// Checks a message: its length, its lower byte of flags, and its entries.
 fn part_is(
     rt: &(impl Abort + AllocGlobal),
     message: &Bytes,
     want: (usize, u8),
 ) -> Result<(), Fail> {
-    let entry = hex::decode(rt.alloc(), vectors::ENTRY)?;
     let bytes = message.as_slice();
     assert!(rt; bytes.len() >= 12);
     assert_eq!(rt; (bytes.len(), bytes[11]), want);
-    for found in bytes[12..].chunks_exact(96) {
-        assert_eq!(rt; found, entry.as_slice());
-    }
+    let entry = hex::decode(rt.alloc(), vectors::ENTRY)?;
+    let same = are_entries(&bytes[12..], &entry);
+    drop(entry);
+    assert!(rt; same);
     Ok(())
 }
 
@@ -224,17 +268,20 @@ fn push_text(frame: &mut Vec<u8>, text: &str, width: usize) -> Result<(), Fail> 
     Ok(())
 }
 
+/// Texts and their widths.
+const TEXTS: [(&str, usize); 5] = [
+    ("Maker", 256),
+    ("Hardware", 256),
+    ("Software", 256),
+    ("77", 32),
+    ("A switch", 256),
+];
+
 /// The texts that describe a switch, of 1056 bytes.
 fn description(alloc: Global) -> Result<Vec<u8>, Fail> {
     let mut frame = hex::decode(alloc, "0111042c0000001200000000")?;
-    for (text, width) in [
-        ("Maker", 256),
-        ("Hardware", 256),
-        ("Software", 256),
-        ("77", 32),
-        ("A switch", 256),
-    ] {
-        push_text(&mut frame, text, width)?;
+    for (text, width) in &TEXTS {
+        push_text(&mut frame, text, *width)?;
     }
     Ok(frame)
 }
@@ -257,6 +304,19 @@ fn texts(rt: HostRuntime) -> Result<(), Fail> {
     Ok(())
 }
 
+/// The faults of a body, as a request's and as a reply's.
+fn faults_of(
+    rt: &(impl Abort + AllocGlobal),
+    digits: &str,
+) -> Result<(Option<StatsFault>, Option<StatsFault>), Fail> {
+    let body = hex::decode(rt.alloc(), digits)?;
+    assert!(rt; body.len() >= 4 && body.len() <= 65535);
+    let request = read_request(&body).err();
+    let reply = read_reply(rt.alloc(), &body).err();
+    drop(body);
+    Ok((request, reply))
+}
+
 /// The fault of a request's and of a reply's body.
 fn refused(
     rt: &(impl Abort + AllocGlobal),
@@ -264,10 +324,8 @@ fn refused(
     request: Option<StatsFault>,
     reply: Option<StatsFault>,
 ) -> Result<(), Fail> {
-    let body = hex::decode(rt.alloc(), digits)?;
-    assert!(rt; body.len() >= 4 && body.len() <= 65535);
-    assert_eq!(rt; read_request(&body).err(), request, "at {digits}");
-    assert_eq!(rt; read_reply(rt.alloc(), &body).err(), reply, "at {digits}");
+    let faults = faults_of(rt, digits)?;
+    assert_eq!(rt; faults, (request, reply), "at {digits}");
     Ok(())
 }
 
@@ -292,16 +350,29 @@ fn faults(rt: HostRuntime) -> Result<(), Fail> {
     Ok(())
 }
 
-/// The fault of a reply of one entry that says its length, where so many bytes are there.
-fn fault_of_entry(alloc: Global, says: u8, there: u32) -> Result<Option<StatsFault>, Fail> {
+/// The body of a reply of one entry that says its length, where so many bytes are there.
+fn body_of_entry(alloc: Global, says: u8, there: u32) -> Result<Bytes, Memory> {
     let mut body = Bytes::from_slice(alloc, &[0, 1, 0, 0, 0, says])?;
     for _ in 2..there {
         body.push(0)?;
     }
+    Ok(body)
+}
+
+/// The fault of a reply's body, if it has one.
+fn fault_of_body(alloc: Global, body: &[u8]) -> Option<StatsFault> {
     if body.len() < 4 || body.len() > 65535 {
-        return Ok(None);
+        return None;
     }
-    Ok(read_reply(alloc, body.as_slice()).err())
+    read_reply(alloc, body).err()
+}
+
+/// The fault of the reply of such an entry.
+fn fault_of_entry(alloc: Global, says: u8, there: u32) -> Result<Option<StatsFault>, Fail> {
+    let body = body_of_entry(alloc, says, there)?;
+    let fault = fault_of_body(alloc, body.as_slice());
+    drop(body);
+    Ok(fault)
 }
 
 /// An entry's length is at least 88, and isn't past the end.

@@ -13,6 +13,7 @@ use op_compose::RuleDelta;
 use policy_expr::Expr;
 use policy_meaning::{LeafTable, Rule, expression_rules, expression_size, listed, tables_fit};
 use std::alloc::Global;
+use std::mem;
 use std::sync::ledger::{Blank, Ledger};
 use std::thread::Threads;
 
@@ -99,9 +100,10 @@ fn turn_copy<G: Ledger>(
     delta: LeafDelta,
     steps: &mut Steps<G>,
 ) -> Result<RuleDelta, Memory> {
-    let mut copied = composer.copy()?;
-    let told = turn(&mut copied, delta, steps);
-    *composer = copied;
+    let copied = composer.copy()?;
+    let before = mem::replace(composer, copied);
+    let told = turn(composer, delta, steps);
+    drop(before);
     told
 }
 

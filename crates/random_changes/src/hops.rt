@@ -1,5 +1,5 @@
 //! Changes of the rules of the ports of two virtual switches that links join, against those from scratch.
-ghost use Rattle.std.specs.Prelude.{◌≡◌, ◌==◌, ◌<◌, ℕ, [], IfOk, IsPermutation, List as ListOf, OnOk, ◌++◌, false};
+ghost use Rattle.std.specs.Prelude.{◌≡◌, ◌==◌, ◌<◌, ◌∷◌, ℕ, [], IfOk, IsPermutation, List as ListOf, OnOk, ◌++◌, false};
 ghost use Rattle.std.specs.Prelude.{option_to_list};
 ghost use Rattle.std.specs.List.{AllByRecursion};
 ghost use Rattle.policy_meaning.specs.declared.rule.Rule.{Rule as RuleOf};
@@ -18,19 +18,56 @@ use of10_match::Match;
 use op_compose::{RuleDelta, leaf};
 use policy_meaning::{Network, Rule, listed};
 use std::alloc::Global;
+use std::mem;
 use std::sync::ledger::{Blank, Ledger};
 use virtual_topology::Topology;
 
-/// The rules of ports before any rule comes.
-fn empty(alloc: Global, topology: Topology) -> Result<HopTable, Memory>
+/// The rules of ports of two virtual switches before any rule comes.
+fn empty(
+    alloc: Global,
+    topology: Topology,
+    sizes: List<u64>,
+    whole: List<bool>,
+) -> Result<HopTable, Memory>
+    requires sizes { sizes ≡ 8 ∷ 8 ∷ [] }
+    requires whole { whole ≡ false ∷ false ∷ [] }
     ensures { IfOk result (λ t. AreHeld t [] []) }
 {
     if topology.plan().virtuals.len() != 2 {
+        drop(topology);
         return Err(Memory);
     }
+    HopTable::new(alloc, topology, sizes, HOPS, whole)
+}
+
+/// The network of the policy, and the rules of its ports before any rule comes.
+fn start(alloc: Global) -> Result<(Network, HopTable), Memory>
+    ensures { IfOk result (λ made. AreHeld made.1 [] []) }
+{
     let sizes = List::from_slice(alloc, &[SIZE, SIZE])?;
     let whole = List::from_slice(alloc, &[false, false])?;
-    HopTable::new(alloc, topology, sizes, HOPS, whole)
+    let topology = topology(alloc)?;
+    match network(alloc, &topology) {
+        Ok(network) => beside(network, empty(alloc, topology, sizes, whole)),
+        Err(memory) => {
+            drop(topology);
+            Err(memory)
+        }
+    }
+}
+
+/// Both, if the second could be made.
+fn beside(network: Network, table: Result<HopTable, Memory>) -> Result<(Network, HopTable), Memory>
+    requires { IfOk table (λ t. AreHeld t [] []) }
+    ensures { IfOk result (λ made. AreHeld made.1 [] []) }
+{
+    match table {
+        Ok(table) => Ok((network, table)),
+        Err(memory) => {
+            drop(network);
+            Err(memory)
+        }
+    }
 }
 
 /// The rule at a place goes, if it is there.
@@ -135,10 +172,9 @@ fn turn_copy<G: Ledger>(
     requires { AreHeld table.old first.old second.old }
     ensures { OnOk result (AreHeld table.new first.new second.new) }
 {
-    let mut copied = table.copy()?;
-    let deltas = turn_either(alloc, &mut copied, first, second, v, change, steps);
-    *table = copied;
-    deltas
+    let copied = table.copy()?;
+    drop(mem::replace(table, copied));
+    turn_either(alloc, table, first, second, v, change, steps)
 }
 
 /// Whether a rule is one of a port of a virtual switch.
@@ -357,9 +393,7 @@ pub fn folded<G: Ledger>(alloc: Global, changes: u32, blank: Blank) -> Result<Co
     requires { (blank.name ≡ G.name) × (blank.parts ≡ G.parts) × (0 < blank.parts) }
 {
     let mut steps = Steps::<G>::new(blank);
-    let topology = topology(alloc)?;
-    let mut network = network(alloc, &topology)?;
-    let mut table = empty(alloc, topology)?;
+    let (mut network, mut table) = start(alloc)?;
     let count = counted(alloc, changes, &mut table, &mut network, &mut steps);
     drop(table);
     drop(network);

@@ -1,11 +1,15 @@
-//! Tests of the outside, of sessions over connections, and of the lock.
+//! Tests of the outside, of sessions over connections, of the lock, and of a run.
 #![tactic(auto)]
 
+#[cfg(test)]
+mod diary;
+#[cfg(test)]
+mod forms;
 #[cfg(test)]
 mod locks;
 #[cfg(test)]
 mod loops;
 #[cfg(test)]
-mod outside;
+mod runs;
 #[cfg(test)]
 mod works;

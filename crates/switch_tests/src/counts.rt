@@ -7,7 +7,8 @@ use install_plan::Written;
 use of10_match::Match;
 use stats_map::{Changes, Counts, Known, Pending};
 use std::alloc::Global;
-use std::test::Fail;
+use std::process::Abort;
+use std::test::*;
 use switch_meaning::PhysEntry;
 
 fn leaf(kind: u64) -> Leaf {
@@ -145,7 +146,9 @@ fn prepare(alloc: Global, counts: &mut Counts) -> Result<Option<(u64, u64)>, Fai
 }
 
 /// The numbers of the cookie that ends, the new one, and the other.
-fn cookies(counts: &Counts) -> (Option<(u64, u64)>, Option<(u64, u64)>, Option<(u64, u64)>) {
+type Cookies = (Option<(u64, u64)>, Option<(u64, u64)>, Option<(u64, u64)>);
+
+fn cookies(counts: &Counts) -> Cookies {
     (
         counts.numbers(0, 6),
         counts.numbers(0, 7),
@@ -153,25 +156,46 @@ fn cookies(counts: &Counts) -> (Option<(u64, u64)>, Option<(u64, u64)>, Option<(
     )
 }
 
+/// The cookies, and the counts of the third and the fourth leaf.
+type Counted = (Cookies, (u64, u64), (u64, u64));
+
+fn counted(counts: &Counts) -> Counted {
+    (
+        cookies(counts),
+        counts.count(&leaf(3)),
+        counts.count(&leaf(4)),
+    )
+}
+
+/// The counts are as before.
+fn are_kept(rt: &impl Abort, counted: &Counted, before: Option<(u64, u64)>) {
+    let (cookies, _, fourth) = *counted;
+    assert_eq!(rt; cookies, (before, None, Some((0, 0))));
+    assert_eq!(rt; fourth, (3, 300));
+}
+
+/// Makes the draft; where that fails, the counts are as before.
+fn draft_of(rt: &(impl Abort + AllocGlobal), counts: &mut Counts) -> Result<Counted, Fail> {
+    let before = prepare(rt.alloc(), counts)?;
+    let made = drafted(rt.alloc(), counts);
+    let counted = counted(counts);
+    match made {
+        Ok(()) => Ok(counted),
+        Err(fail) => {
+            are_kept(rt, &counted, before);
+            Err(fail)
+        }
+    }
+}
+
 /// The counts are those of the draft, or as before where it fails.
 #[test]
 fn a_draft_is_made(rt: HostRuntime) -> Result<(), Fail> {
     let mut counts = replaced(rt.alloc())?;
-    let before = prepare(rt.alloc(), &mut counts)?;
-    let made = drafted(rt.alloc(), &mut counts);
-    let cookies = cookies(&counts);
-    let (third, fourth) = (counts.count(&leaf(3)), counts.count(&leaf(4)));
+    let counted = draft_of(&rt, &mut counts);
     drop(counts);
-    match made {
-        Ok(()) => {
-            assert_eq!(rt; cookies, (None, Some((0, 0)), None));
-            assert_eq!(rt; (third, fourth), ((10, 1000), (0, 0)));
-            Ok(())
-        }
-        Err(fail) => {
-            assert_eq!(rt; cookies, (before, None, Some((0, 0))));
-            assert_eq!(rt; fourth, (3, 300));
-            Err(fail)
-        }
-    }
+    let (cookies, third, fourth) = counted?;
+    assert_eq!(rt; cookies, (None, Some((0, 0)), None));
+    assert_eq!(rt; (third, fourth), ((10, 1000), (0, 0)));
+    Ok(())
 }

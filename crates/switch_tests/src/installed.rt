@@ -151,29 +151,38 @@ fn filled(alloc: Global) -> Result<(List<Row>, List<Row>), Fail> {
     rows(alloc, &batch)
 }
 
+/// Whether these rows were deleted, and those added.
+fn are_rows(rows: &(List<Row>, List<Row>), deletes: &[Row], adds: &[Row]) -> (bool, bool) {
+    (rows.0.as_slice() == deletes, rows.1.as_slice() == adds)
+}
+
+/// The rows that the net's pairs take from the host's, and those of the net's pairs.
+const TAKEN: [Row; 4] = [(11, 1, 5), (11, 2, 6), (11, 3, 7), (11, 4, 8)];
+
+const OF_NET: [Row; 8] = [
+    (9, 1, 13),
+    (9, 2, 14),
+    (9, 3, 15),
+    (9, 4, 16),
+    (11, 1, 17),
+    (11, 2, 18),
+    (11, 3, 19),
+    (11, 4, 20),
+];
+
+fn is_filled(alloc: Global) -> Result<(bool, bool), Fail> {
+    let rows = filled(alloc)?;
+    let same = are_rows(&rows, &TAKEN, &OF_NET);
+    drop(rows);
+    Ok(same)
+}
+
 /// What the second change added: pairs of the net where none has their key, and where their ancestry
 /// is the smaller one.
 #[test]
 fn a_smaller_ancestry_takes_the_key(rt: HostRuntime) -> Result<(), Fail> {
-    let (deletes, adds) = filled(rt.alloc())?;
-    assert_eq!(rt;
-        deletes.as_slice(),
-        [(11, 1, 5), (11, 2, 6), (11, 3, 7), (11, 4, 8)].as_slice()
-    );
-    assert_eq!(rt;
-        adds.as_slice(),
-        [
-            (9, 1, 13),
-            (9, 2, 14),
-            (9, 3, 15),
-            (9, 4, 16),
-            (11, 1, 17),
-            (11, 2, 18),
-            (11, 3, 19),
-            (11, 4, 20)
-        ]
-        .as_slice()
-    );
+    let same = is_filled(rt.alloc())?;
+    assert_eq!(rt; same, (true, true));
     Ok(())
 }
 
@@ -183,31 +192,29 @@ fn gone(alloc: Global, table: &mut Installed) -> Result<(List<Row>, List<Row>), 
     rows(alloc, &batch)
 }
 
+/// The rows of the host's pairs whose keys are free again.
+const FREED: [Row; 4] = [(11, 1, 21), (11, 2, 22), (11, 3, 23), (11, 4, 24)];
+
+/// Whether the net's pairs are deleted from a table, and those added whose keys are free.
+fn is_gone(alloc: Global, table: &mut Installed) -> Result<(bool, bool), Fail> {
+    let rows = gone(alloc, table)?;
+    let same = are_rows(&rows, &OF_NET, &FREED);
+    drop(rows);
+    Ok(same)
+}
+
+fn is_gone_from_full(alloc: Global) -> Result<(bool, bool), Fail> {
+    let mut table = full(alloc)?;
+    let same = is_gone(alloc, &mut table);
+    drop(table);
+    same
+}
+
 /// The net's pairs go: eight deletes, and four adds of the pairs whose keys are free.
 #[test]
 fn a_key_goes_to_the_next_ancestry(rt: HostRuntime) -> Result<(), Fail> {
-    let mut table = full(rt.alloc())?;
-    let gone = gone(rt.alloc(), &mut table);
-    drop(table);
-    let (deletes, adds) = gone?;
-    assert_eq!(rt;
-        deletes.as_slice(),
-        [
-            (9, 1, 13),
-            (9, 2, 14),
-            (9, 3, 15),
-            (9, 4, 16),
-            (11, 1, 17),
-            (11, 2, 18),
-            (11, 3, 19),
-            (11, 4, 20)
-        ]
-        .as_slice()
-    );
-    assert_eq!(rt;
-        adds.as_slice(),
-        [(11, 1, 21), (11, 2, 22), (11, 3, 23), (11, 4, 24)].as_slice()
-    );
+    let same = is_gone_from_full(rt.alloc())?;
+    assert_eq!(rt; same, (true, true));
     Ok(())
 }
 
@@ -219,13 +226,18 @@ fn is_made_again(alloc: Global, table: &mut Installed) -> Result<bool, Fail> {
     Ok(first == second)
 }
 
+fn is_full_made_again(alloc: Global) -> Result<bool, Fail> {
+    let mut table = full(alloc)?;
+    let same = is_made_again(alloc, &mut table);
+    drop(table);
+    same
+}
+
 /// What is taken back is changed again as before.
 #[test]
 fn an_undone_change_is_made_again(rt: HostRuntime) -> Result<(), Fail> {
-    let mut table = full(rt.alloc())?;
-    let same = is_made_again(rt.alloc(), &mut table);
-    drop(table);
-    assert!(rt; same?);
+    let same = is_full_made_again(rt.alloc())?;
+    assert!(rt; same);
     Ok(())
 }
 
@@ -234,14 +246,20 @@ fn count_adds(table: &mut Installed) -> Result<usize, Memory> {
     Ok(table.whole(100)?.adds.len())
 }
 
-/// The installation numbers all that stands, and can be taken back.
-#[test]
-fn all_is_installed(rt: HostRuntime) -> Result<(), Fail> {
-    let mut table = full(rt.alloc())?;
+/// How many entries are added, after which it is taken back.
+fn count_of_full(alloc: Global) -> Result<usize, Fail> {
+    let mut table = full(alloc)?;
     let count = count_adds(&mut table);
     table.undo();
     drop(table);
-    assert_eq!(rt; count?, 16);
+    Ok(count?)
+}
+
+/// The installation numbers all that stands, and can be taken back.
+#[test]
+fn all_is_installed(rt: HostRuntime) -> Result<(), Fail> {
+    let count = count_of_full(rt.alloc())?;
+    assert_eq!(rt; count, 16);
     Ok(())
 }
 
@@ -277,15 +295,29 @@ fn used_of_both(table: &Installed) -> Result<((u16, u64), (u16, u64)), Fail> {
     Ok((host, used(table, &to(9))?))
 }
 
-/// Of the entries that hold a packet the one of the greatest priority is used.
-#[test]
-fn the_greatest_priority_is_used(rt: HostRuntime) -> Result<(), Fail> {
-    let table = full(rt.alloc())?;
+/// The priorities of what a full table uses for them.
+fn used_of_full(alloc: Global) -> Result<(u16, u16), Fail> {
+    let table = full(alloc)?;
     let both = used_of_both(&table);
     drop(table);
     let (host, net) = both?;
-    assert_eq!(rt; (host.0, net.0), (13, 9));
-    let empty = Installed::new(rt.alloc());
-    assert_eq!(rt; used(&empty, &to(1))?, (0, 0));
+    Ok((host.0, net.0))
+}
+
+/// What an empty table uses for the host.
+fn used_of_empty(alloc: Global) -> Result<(u16, u64), Fail> {
+    let empty = Installed::new(alloc);
+    let used = used(&empty, &to(1));
+    drop(empty);
+    used
+}
+
+/// Of the entries that hold a packet the one of the greatest priority is used.
+#[test]
+fn the_greatest_priority_is_used(rt: HostRuntime) -> Result<(), Fail> {
+    let full = used_of_full(rt.alloc())?;
+    assert_eq!(rt; full, (13, 9));
+    let empty = used_of_empty(rt.alloc())?;
+    assert_eq!(rt; empty, (0, 0));
     Ok(())
 }

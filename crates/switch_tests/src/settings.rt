@@ -142,19 +142,46 @@ fn seen(alloc: Global, header: &Header) -> Result<Seen, Memory> {
     seen
 }
 
+/// Whether the packet alone left by port 1, or nothing did, and whether it alone was copied, or nothing was.
+fn is_seen(seen: &Seen, header: Header, outs: usize, copies: usize) -> (bool, bool)
+    requires one_out { outs ≤ 1 }
+    requires one_copy { copies ≤ 1 }
+{
+    let left = Left {
+        at: SwitchPort { switch: 0, port: 1 },
+        header,
+    };
+    let copied = Copied { switch: 0, header };
+    (
+        seen.outs.as_slice() == &[left][..outs],
+        seen.copies.as_slice() == &[copied][..copies],
+    )
+}
+
+/// Whether a packet that comes by a port, to this address, is seen so often.
+fn is_packet_seen(
+    alloc: Global,
+    in_port: u16,
+    address: u32,
+    outs: usize,
+    copies: usize,
+) -> Result<(bool, bool), Memory>
+    requires one_out { outs ≤ 1 }
+    requires one_copy { copies ≤ 1 }
+{
+    let header = packet(in_port, address);
+    let seen = seen(alloc, &header)?;
+    let same = is_seen(&seen, header, outs, copies);
+    drop(seen);
+    Ok(same)
+}
+
 /// To the server a packet leaves by port 1, but not where it came by it; of others a copy is made.
 #[test]
 fn packets_are_to_be_seen(rt: HostRuntime) -> Result<(), Fail> {
     for (in_port, address, outs, copies) in [(2, SERVER, 1, 0), (1, SERVER, 0, 0), (3, 5, 0, 1)] {
-        let header = packet(in_port, address);
-        let seen = seen(rt.alloc(), &header)?;
-        let left = Left {
-            at: SwitchPort { switch: 0, port: 1 },
-            header,
-        };
-        let copied = Copied { switch: 0, header };
-        assert_eq!(rt; seen.outs.as_slice(), &[left][..outs]);
-        assert_eq!(rt; seen.copies.as_slice(), &[copied][..copies]);
+        let same = is_packet_seen(rt.alloc(), in_port, address, outs, copies)?;
+        assert_eq!(rt; same, (true, true));
     }
     Ok(())
 }

@@ -84,6 +84,11 @@ fn show_written(rt: &HostRuntime, name: &str, rows: &List<Written>) -> io::Resul
     Ok(())
 }
 
+fn show_batch(rt: &HostRuntime, batch: &Batch) -> io::Result<()> {
+    show_written(rt, "delete", &batch.deletes)?;
+    show_written(rt, "add", &batch.adds)
+}
+
 fn show_change(
     rt: &HostRuntime,
     table: &mut SwitchTable,
@@ -92,8 +97,7 @@ fn show_change(
     next: u64,
 ) -> io::Result<()> {
     let batch = changed(rt.alloc(), table, gone, come, next).map_err(wanted)?;
-    show_written(rt, "delete", &batch.deletes)?;
-    show_written(rt, "add", &batch.adds)
+    show_batch(rt, &batch)
 }
 
 fn show_changes(rt: &HostRuntime, table: &mut SwitchTable) -> io::Result<()> {
@@ -104,7 +108,10 @@ fn show_changes(rt: &HostRuntime, table: &mut SwitchTable) -> io::Result<()> {
 
 /// What stands in a copy of the table.
 fn copied(table: &SwitchTable) -> Result<List<Written>, Memory> {
-    table.copy()?.standing()
+    let copied = table.copy()?;
+    let standing = copied.standing();
+    drop(copied);
+    standing
 }
 
 /// A router's entry for one packet gives way to an access list's for its goal, and comes back.

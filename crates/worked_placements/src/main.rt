@@ -4,8 +4,8 @@
 #![tactic(auto)]
 
 mod gating;
+mod networks;
 mod placing;
-mod policies;
 
 use cv_io::Memory;
 use std::io::{self, ErrorKind};

@@ -1,25 +1,27 @@
 //! Entries of rules, and the entries that stand whatever the rules are.
 ghost use Rattle.std.specs.Prelude.{◌<◌, ◌≡◌, IfOk};
 
-use crate::policies::{HALF, LINKED, ROW};
+use crate::networks::{HALF, LINKED, ROW};
 use crate::wanted;
 use cv_io::{List, Memory};
 use inner_paths::Paths;
 use of10_actions::{Dest, Out, Rewrite, Tail};
 use of10_match::Match;
 use place_rules::{fixed, place};
-use policy_file::Policy;
+use policies::{Policy, PolicyFault};
 use policy_meaning::Rule;
 use std::alloc::Global;
 use std::io::{self, ErrorKind};
 use switch_meaning::PhysEntry;
 use virtual_topology::Topology;
 
+fn unread(fault: PolicyFault) -> io::Error {
+    drop(fault);
+    io::Error::from(ErrorKind::InvalidData)
+}
+
 fn policy(alloc: Global, text: &str) -> io::Result<Policy> {
-    match policy_file::read(alloc, text.as_bytes()) {
-        Ok(policy) => Ok(policy),
-        Err(_) => Err(io::Error::from(ErrorKind::InvalidData)),
-    }
+    policy_file::read(alloc, text.as_bytes()).map_err(unread)
 }
 
 fn out(dest: Dest) -> Out {
@@ -108,6 +110,14 @@ fn show(rt: &HostRuntime, name: &str, entry: &PhysEntry) -> io::Result<()> {
     )
 }
 
+/// Shows the entry of a rule, if there is one.
+fn show_found(rt: &HostRuntime, name: &str, entry: &Option<PhysEntry>) -> io::Result<()> {
+    match entry {
+        Some(entry) => show(rt, name, entry),
+        None => println!(rt; "{name}: none"),
+    }
+}
+
 /// Shows the entry of a rule over a policy.
 fn show_placed(rt: &HostRuntime, name: &str, text: &str, port: u16, rule: &Rule) -> io::Result<()>
     requires { rule.now.level < 65535 }
@@ -115,11 +125,7 @@ fn show_placed(rt: &HostRuntime, name: &str, text: &str, port: u16, rule: &Rule)
     let topology = topology(rt.alloc(), text)?;
     let entry = placed(rt.alloc(), &topology, port, rule);
     drop(topology);
-    match entry {
-        Ok(Some(entry)) => show(rt, name, &entry),
-        Ok(None) => println!(rt; "{name}: none"),
-        Err(memory) => Err(wanted(memory)),
-    }
+    show_found(rt, name, &entry.map_err(wanted)?)
 }
 
 fn show_rule(

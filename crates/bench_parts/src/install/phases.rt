@@ -87,6 +87,26 @@ impl Bench {
             Phase::Best => self.ask(asked, round),
         }
     }
+
+    /// The entries are put on the switch.
+    fn fill(&mut self, alloc: Global, asked: &Asked) -> Result<(), Memory> {
+        let all = entries(alloc, 0, asked.entries, asked.priorities, 1)?;
+        let first = self.table.change(&List::new(alloc), &all, 1)?;
+        self.note(&first);
+        if matches!(asked.phase, Phase::Report) {
+            install_all(&mut self.counts, &first)?;
+        }
+        Ok(())
+    }
+
+    /// The same, and then what is asked for is done in each round.
+    fn go(&mut self, alloc: Global, asked: &Asked) -> Result<(), Memory> {
+        self.fill(alloc, asked)?;
+        for round in 0..asked.rounds {
+            self.turn(alloc, asked, round)?;
+        }
+        Ok(())
+    }
 }
 
 /// Counts the cookies of a batch.
@@ -105,14 +125,9 @@ pub fn run(alloc: Global, asked: &Asked) -> Result<Tally, Memory> {
         next: 1,
         made: Tally::new(),
     };
-    let all = entries(alloc, 0, asked.entries, asked.priorities, 1)?;
-    let first = bench.table.change(&List::new(alloc), &all, 1)?;
-    bench.note(&first);
-    if matches!(asked.phase, Phase::Report) {
-        install_all(&mut bench.counts, &first)?;
-    }
-    for round in 0..asked.rounds {
-        bench.turn(alloc, asked, round)?;
-    }
-    Ok(bench.made)
+    let gone = bench.go(alloc, asked);
+    let made = bench.made;
+    drop(bench);
+    gone?;
+    Ok(made)
 }

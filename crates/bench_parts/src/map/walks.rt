@@ -105,10 +105,31 @@ fn fill_and_count(
     count_over(alloc, asked, topology, exprs, grants, &tables)
 }
 
+/// Makes the topology too.
+fn lay_and_count(
+    alloc: Global,
+    asked: &Asked,
+    exprs: &List<Expr>,
+    grants: &List<Grant>,
+) -> Result<Tally, Fault> {
+    let topology = topology(alloc)?;
+    let tally = fill_and_count(alloc, asked, &topology, exprs, grants);
+    drop(topology);
+    tally
+}
+
+/// Makes the members' grants too.
+fn grant_and_count(alloc: Global, asked: &Asked, exprs: &List<Expr>) -> Result<Tally, Fault> {
+    let grants = grants(alloc, asked.members)?;
+    let tally = lay_and_count(alloc, asked, exprs, &grants);
+    drop(grants);
+    tally
+}
+
 /// Makes a network and its members' tables, and counts what headers give.
 pub fn run(alloc: Global, asked: &Asked) -> Result<Tally, Fault> {
-    let topology = topology(alloc)?;
     let exprs = exprs(alloc, asked.members)?;
-    let grants = grants(alloc, asked.members)?;
-    fill_and_count(alloc, asked, &topology, &exprs, &grants)
+    let tally = grant_and_count(alloc, asked, &exprs);
+    drop(exprs);
+    tally
 }

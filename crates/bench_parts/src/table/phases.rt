@@ -71,6 +71,9 @@ pub fn run(alloc: Global, asked: &Asked) -> Result<(Counts, usize), TableFault> 
         table: Table::new(alloc, LIMIT),
         counts: NOTHING,
     };
-    bench.go(alloc, asked)?;
-    Ok((bench.counts, bench.table.len()))
+    let gone = bench.go(alloc, asked);
+    let told = (bench.counts, bench.table.len());
+    drop(bench);
+    gone?;
+    Ok(told)
 }

@@ -1,6 +1,7 @@
 //! How a connection is opened.
-use cv_io::{Bytes, List, MemSink, MemSource, Memory};
+use cv_io::{Bytes, List, Memory};
 use of10_frames::Framer;
+use outside::{MemSink, MemSource};
 use sessions::{Greeted, OpenEnd, open_member, open_switch};
 use std::alloc::Global;
 use std::sync::Wait;

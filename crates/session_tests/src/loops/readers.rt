@@ -1,7 +1,8 @@
 //! The loop that posts what a peer sends.
 use super::desks::{Book, Call, Log, SESSION};
-use cv_io::{Bytes, List, MemSource, Memory};
+use cv_io::{Bytes, List, Memory};
 use of10_frames::Framer;
+use outside::MemSource;
 use sessions::{ReadEnd, run_reader};
 use std::alloc::Global;
 use std::sync::Wait;

@@ -1,6 +1,7 @@
 //! The loop that writes to a peer.
 use super::desks::{Book, Call, Log, SESSION};
-use cv_io::{Bytes, List, MemClock, MemSink, Memory};
+use cv_io::{Bytes, List, Memory};
+use outside::{MemClock, MemSink};
 use sessions::{WriteEnd, run_writer};
 use std::alloc::Global;
 use std::sync::Wait;

@@ -1,8 +1,9 @@
 //! The work that writes the audit.
 use super::desks::{Book, Log, letters};
 use counting_machine::Lines;
-use cv_io::{Bytes, Clock, List, MemClock, MemSink, Memory};
+use cv_io::{Bytes, List, Memory};
 use endpoint_works::{AuditEnd, Others, write_audit};
+use outside::{Clock, MemClock, MemSink};
 use std::alloc::Global;
 use std::sync::Wait;
 use std::sync::atomic::{AtomicU64, Ordering};

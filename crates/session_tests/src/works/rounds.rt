@@ -3,13 +3,11 @@ ghost use Rattle.std.specs.Prelude.{⊤};
 ghost use Rattle.endpoint_works.specs.Sides.{IsServedSide};
 
 use super::desks::{Book, Log, letters};
-use cv_io::{
-    Bytes, Endpoint, Links, List, MemClock, MemDial, MemEnd, MemLinks, MemSink, MemSource, Memory,
-    Text,
-};
+use cv_io::{Bytes, List, Memory, Text};
 use endpoint_works::{
     Dialled, Handover, Received, RoundEnd, Sent, Side, receive, send, serve_round,
 };
+use outside::{Endpoint, Links, MemClock, MemDial, MemEnd, MemLinks, MemSink, MemSource};
 use sessions::{OpenEnd, ReadEnd};
 use std::alloc::Global;
 use std::sync::Wait;

@@ -8,19 +8,18 @@ pub new-requires-clause-sizes : goal.new-requires-clause-sizes
 new-requires-clause-sizes c =
     let two : length c.args.topology.virtuals ≡ 2 =
     sym (ap (λ (p : TopologyPlan). length p.virtuals) c.plan.ensures.plan) ∙ (sym c.len.ensures ∙ c.if-len-ne2.false) in
-    ap length c.in_ok-sizes.ensures ∙ sym two
+    ap length c.requires.sizes ∙ sym two
 
 pub new-requires-clause-whole : goal.new-requires-clause-whole
 new-requires-clause-whole c =
     let two : length c.args.topology.virtuals ≡ 2 =
     sym (ap (λ (p : TopologyPlan). length p.virtuals) c.plan.ensures.plan) ∙ (sym c.len.ensures ∙ c.if-len-ne2.false) in
-    ap length c.in_ok-whole.ensures ∙ sym two
+    ap length c.requires.whole ∙ sym two
 
 pub new-requires-clause-fits : goal.new-requires-clause-fits
-new-requires-clause-fits c = two-fit c.args.topology c.in_ok-sizes.sizes c.in_ok-whole.whole c.in_ok-sizes.ensures
+new-requires-clause-fits c = two-fit c.args.topology c.args.sizes c.args.whole c.requires.sizes
 
 pub returns : goal.returns
 returns c =
     IfOk-weaker c.new.result _ _
-    (λ t h. none-held c.args.topology c.in_ok-sizes.sizes c.in_ok-whole.whole t c.in_ok-sizes.ensures
-    c.in_ok-whole.ensures h) c.new.ensures
+    (λ t h. none-held c.args.topology c.args.sizes c.args.whole t c.requires.sizes c.requires.whole h) c.new.ensures

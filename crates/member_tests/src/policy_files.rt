@@ -1,6 +1,7 @@
 //! Policy files, their faults, and the policies that need no file.
 use cv_io::{Duplicate, Memory};
-use policy_file::{Policy, PolicyFault, bench, built_in, read};
+use policies::{Policy, PolicyFault};
+use policy_file::{bench, built_in, read};
 use std::alloc::Global;
 use std::test::Fail;
 

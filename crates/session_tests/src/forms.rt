@@ -1,7 +1,8 @@
 //! The calls that want memory, once each with ample memory; the forms in memory; the real things.
-use cv_io::{
-    Bytes, Clock, Dial, DiskFiles, Duplicate, Endpoint, Failed, FileFault, Files, Links, List,
-    MemSink, MemSource, Memory, Sink, Source, Steps, SystemClock, TcpLinks, Text,
+use cv_io::{Bytes, Duplicate, List, Memory, Steps, Text};
+use outside::{
+    Clock, Dial, DiskFiles, Endpoint, Failed, FileFault, Files, Links, MemSink, MemSource, Sink,
+    Source, SystemClock, TcpLinks,
 };
 use std::alloc::Global;
 use std::fs;

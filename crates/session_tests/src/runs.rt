@@ -1,13 +1,13 @@
 //! A run over connections in memory, of which a line of the audit is read before it ends.
+ghost use Rattle.std.specs.Prelude.{◌≡◌, ◌∷◌, [], IfOk};
+ghost use Rattle.endpoint_works.specs.declared.side.Side.TheVariants.{Member};
 
+use crate::diary::{Diaries, Diary};
 use counting_machine::Lines;
-use cv_io::{
-    Bytes, Dial, Endpoint, Failed, Links, List, MemSink, MemSource, Memory, ScopeSpawner,
-    SystemClock,
-};
-use policy_file::read;
-use policy_serving::serve_policy;
-use serving::Served;
+use cv_io::{Bytes, List, Memory, Text};
+use endpoint_works::Side;
+use outside::{Dial, Endpoint, Failed, Links, MemSink, MemSource, ScopeSpawner, SystemClock};
+use serving::{Place, Served, serve};
 use std::alloc::Global;
 use std::sync::Wait;
 use std::sync::atomic::{AtomicU64, Ordering};
@@ -16,25 +16,7 @@ use std::thread;
 use std::thread::Threads;
 use std::time::{self, Duration};
 
-const POLICY: &str = r#"version = 1
-listen = "127.0.0.1:6653"
-rounds = 1
-[[switch]]
-name = "s1"
-dpid = "0000000000000001"
-ports = [1]
-[[virtual]]
-name = "v1"
-dpid = "00000000000000a1"
-ports = ["1=s1:1"]
-expr = "app"
-[[member]]
-controller = "app"
-virtual = "v1"
-bits = 2
-"#;
-
-// A HELLO, and a VENDOR message, which is refused: the audit has a line of it.
+// A HELLO, and a VENDOR message, of which the audit has a line.
 const SENT: &[u8] = &[1, 0, 0, 8, 0, 0, 0, 0, 1, 4, 0, 12, 0, 0, 0, 9, 0, 0, 0, 0];
 
 /// Links by which each member has one connection, and no switch has any. After its connection was read to its end a
@@ -128,12 +110,35 @@ impl<R: time::Clock> Watching<'_, R> {
     }
 }
 
-/// How a run of the policy ends, how many members saw a line before it did, and how many were written.
+/// The endpoint of one member, by which it has one connection.
+fn member(alloc: Global) -> Result<Place, Memory>
+    ensures { IfOk result (λ place. place.side ≡ Member 0) }
+{
+    Ok(Place {
+        end: Endpoint::Member {
+            index: 0,
+            address: Text::from_slice(alloc, b"10.0.0.1:6633")?,
+            rounds: 1,
+        },
+        side: Side::Member { index: 0 },
+    })
+}
+
+fn lone(alloc: Global, place: Place) -> Result<List<Place>, Memory>
+    ensures { IfOk result (λ places. places ≡ place ∷ []) }
+{
+    let mut places = List::new(alloc);
+    places.push(place)?;
+    Ok(places)
+}
+
+/// How a run ends, how many members saw a line before it did, and how many were written.
 fn served<R: Wait + Threads + time::Clock + Sync>(
     rt: &R,
     alloc: Global,
-) -> Option<(Served, u64, u64)> {
-    let policy = read(alloc, POLICY.as_bytes()).ok()?;
+) -> Result<(Served, u64, u64), Memory> {
+    let places = lone(alloc, member(alloc)?)?;
+    let line = Bytes::from_slice(alloc, b"heard")?;
     let (written, seen) = (AtomicU64::new(0), AtomicU64::new(0));
     let mut out = Lines { written: &written };
     let mut links = Watched {
@@ -144,16 +149,21 @@ fn served<R: Wait + Threads + time::Clock + Sync>(
     };
     let mut spawner = ScopeSpawner::new();
     let mut clock = SystemClock::new(rt);
-    let end = serve_policy(
+    let end = serve::<Diaries, _, _, _, _, _>(
         rt,
         alloc,
-        policy,
+        Diary {
+            line,
+            waits: false,
+            up: false,
+        },
+        places,
         &mut out,
         &mut links,
         &mut spawner,
         &mut clock,
     );
-    Some((
+    Ok((
         end,
         seen.load(Ordering::SeqCst),
         written.load(Ordering::SeqCst),
@@ -162,6 +172,6 @@ fn served<R: Wait + Threads + time::Clock + Sync>(
 
 #[test]
 fn a_line_is_written_before_the_end(rt: HostRuntime) -> Result<(), Fail> {
-    assert!(rt; served(&rt, rt.alloc()) == Some((Served::Done, 1, 1)));
+    assert!(rt; served(&rt, rt.alloc())? == (Served::Done, 1, 1));
     Ok(())
 }
