@@ -51,7 +51,8 @@ impl Diary {
     fn take(&mut self, session: &Session) -> Result<Reply, Memory>
         ensures { MatchResult result
             (λ r. (r ≡ reply_of (self.old.line, (self.old.waits, self.old.up)) (Take session.now))
-            × ((self.new.line, (self.new.waits, self.new.up)) ≡ next_of (self.old.line, (self.old.waits, self.old.up)) (Take session.now)))
+            × ((self.new.line, (self.new.waits, self.new.up))
+            ≡ next_of (self.old.line, (self.old.waits, self.old.up)) (Take session.now)))
             (λ _. self.new ≡ self.old) }
     {
         if !self.gives(session) {
