@@ -53,7 +53,7 @@ where
     let mut input = Incoming::new(host.stdin());
     let mut out = Outgoing::new(io::writer(host));
     let mut spawner = ScopeSpawner::new();
-    let mut clock = SystemClock::new(host);
+    let clock = SystemClock::new(host);
     let mut steps = Steps::<G>::new(blank);
     run(
         rt,
@@ -64,7 +64,7 @@ where
         &mut out,
         links,
         &mut spawner,
-        &mut clock,
+        &clock,
         &mut steps,
     )
 }

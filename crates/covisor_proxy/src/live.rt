@@ -10,7 +10,7 @@ use crate::ending::write_fault;
 use crate::opening::open;
 use crate::status::Status;
 use crate::telling::tell;
-use cv_io::Text;
+use cv_io::{Duplicate, Text};
 use hyper_core::Hyper;
 use outside::{Clock, Dial, Files, Links, Sink, Spawner};
 use policies::Policy;
@@ -28,7 +28,7 @@ pub(crate) fn serve_file<
     K: Sink + Send,
     L: Links,
     P: Spawner,
-    C: Clock + Send,
+    C: Clock + Duplicate + Drop + Send,
 >(
     rt: &R,
     alloc: Global,
@@ -37,7 +37,7 @@ pub(crate) fn serve_file<
     out: &mut K,
     links: &mut L,
     spawner: &mut P,
-    clock: &mut C,
+    clock: &C,
 ) -> Status
 where
     L::Dial: Drop,
@@ -61,14 +61,20 @@ where
 }
 
 /// Serves every endpoint of a policy.
-fn serve<R: Wait + Threads + Sync, K: Sink + Send, L: Links, P: Spawner, C: Clock + Send>(
+fn serve<
+    R: Wait + Threads + Sync,
+    K: Sink + Send,
+    L: Links,
+    P: Spawner,
+    C: Clock + Duplicate + Drop + Send,
+>(
     rt: &R,
     alloc: Global,
     policy: Policy,
     out: &mut K,
     links: &mut L,
     spawner: &mut P,
-    clock: &mut C,
+    clock: &C,
 ) -> Status
 where
     L::Dial: Drop,

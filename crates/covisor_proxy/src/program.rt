@@ -12,7 +12,7 @@ use crate::forms::{make, replay_built_in, replay_file};
 use crate::live::serve_file;
 use crate::status::Status;
 use command_line::{Command, asked};
-use cv_io::Steps;
+use cv_io::{Duplicate, Steps};
 use hyper_core::Hyper;
 use outside::{Clock, Dial, Files, Links, Sink, Source, Spawner};
 use policy_lock::Machine;
@@ -46,7 +46,7 @@ pub fn run<
     K: Sink + Send,
     L: Links,
     P: Spawner,
-    C: Clock + Send,
+    C: Clock + Duplicate + Drop + Send,
     G: Ledger,
 >(
     rt: &R,
@@ -57,7 +57,7 @@ pub fn run<
     out: &mut K,
     links: &mut L,
     spawner: &mut P,
-    clock: &mut C,
+    clock: &C,
     steps: &mut Steps<G>,
 ) -> u8
 where
@@ -104,7 +104,7 @@ fn answer<
     K: Sink + Send,
     L: Links,
     P: Spawner,
-    C: Clock + Send,
+    C: Clock + Duplicate + Drop + Send,
     G: Ledger,
 >(
     rt: &R,
@@ -115,7 +115,7 @@ fn answer<
     out: &mut K,
     links: &mut L,
     spawner: &mut P,
-    clock: &mut C,
+    clock: &C,
     steps: &mut Steps<G>,
 ) -> Status
 where
@@ -150,7 +150,7 @@ fn respond<
     K: Sink + Send,
     L: Links,
     P: Spawner,
-    C: Clock + Send,
+    C: Clock + Duplicate + Drop + Send,
     G: Ledger,
 >(
     rt: &R,
@@ -161,7 +161,7 @@ fn respond<
     out: &mut K,
     links: &mut L,
     spawner: &mut P,
-    clock: &mut C,
+    clock: &C,
     steps: &mut Steps<G>,
 ) -> Status
 where
@@ -196,7 +196,7 @@ fn obey<
     K: Sink + Send,
     L: Links,
     P: Spawner,
-    C: Clock + Send,
+    C: Clock + Duplicate + Drop + Send,
     G: Ledger,
 >(
     rt: &R,
@@ -207,7 +207,7 @@ fn obey<
     out: &mut K,
     links: &mut L,
     spawner: &mut P,
-    clock: &mut C,
+    clock: &C,
     steps: &mut Steps<G>,
 ) -> Status
 where

@@ -42,6 +42,7 @@ pub fn write_audit<R: Wait, D: Desk, K: Sink, C: Clock>(
     ensures memory { OnErr result (HasAudited (D.posts pass.old) (K.held out.old) (K.held out.new) (D.posts pass.new)) }
     ensures quiet { OnErr result (K.faults out.new ≡ K.faults out.old) }
 {
+    let mut turns = 0;
     for _ in rt.forever() {
         let ended = others.have_ended();
         match desk.take(pass, &AUDIT)? {
@@ -49,12 +50,14 @@ pub fn write_audit<R: Wait, D: Desk, K: Sink, C: Clock>(
                 if write_line(out, line.as_slice()).is_err() {
                     return Ok(AuditEnd::WriteFault);
                 }
+                turns = 0;
             }
             Taken::Empty { .. } => {
                 if ended {
                     return Ok(AuditEnd::Ended);
                 }
-                clock.rest();
+                clock.rest(turns);
+                turns = turns.saturating_add(1);
             }
             Taken::Closed { .. } => return Ok(AuditEnd::Ended),
         }

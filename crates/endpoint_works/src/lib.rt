@@ -12,7 +12,6 @@ mod others;
 mod receiving;
 mod round;
 mod sending;
-mod shared_clock;
 mod side;
 mod works;
 
@@ -24,6 +23,5 @@ pub use others::Others;
 pub use receiving::{Received, receive};
 pub use round::{RoundEnd, serve_round};
 pub use sending::{Sent, send};
-pub use shared_clock::{Shared, SharedClock};
 pub use side::Side;
 pub use works::{Reader, Task, Writer};

@@ -12,7 +12,6 @@ use crate::later::LaterDesk;
 use crate::others::Others;
 use crate::receiving::{Received, receive};
 use crate::sending::{Sent, send};
-use crate::shared_clock::SharedClock;
 use crate::side::Side;
 use outside::{Clock, Sink, Work};
 use std::alloc::Global;
@@ -35,25 +34,21 @@ pub struct Reader<'a, R, D: LaterDesk, A: Arrivals> {
 
 /// Writes to the connections of an endpoint.
 #[derive(Drop)]
-pub struct Writer<'a, 'b, R, D: LaterDesk, K, C> {
+pub struct Writer<'a, R, D: LaterDesk, K, C> {
     pub rt: &'a R,
     pub others: &'a Others,
     pub handover: &'a Handover<K>,
     pub desk: D,
     pub pass: D::Pass,
-    pub clock: SharedClock<'a, 'b, R, C>,
+    pub clock: C,
     pub end: Option<Sent>,
 }
 
 /// One of the two works of an endpoint.
 #[derive(Drop)]
-pub enum Task<'a, 'b, R, D: LaterDesk, A: Arrivals, C> {
-    Reader {
-        reader: Reader<'a, R, D, A>,
-    },
-    Writer {
-        writer: Writer<'a, 'b, R, D, A::Out, C>,
-    },
+pub enum Task<'a, R, D: LaterDesk, A: Arrivals, C> {
+    Reader { reader: Reader<'a, R, D, A> },
+    Writer { writer: Writer<'a, R, D, A::Out, C> },
 }
 
 impl<R: Wait, D: LaterDesk, A: Arrivals> Reader<'_, R, D, A>
@@ -86,7 +81,7 @@ where
     }
 }
 
-impl<R: Wait, D: LaterDesk, K: Sink + Drop, C: Clock> Writer<'_, '_, R, D, K, C> {
+impl<R: Wait, D: LaterDesk, K: Sink + Drop, C: Clock> Writer<'_, R, D, K, C> {
     fn run(&mut self)
         requires { D.admits self.old.desk self.old.pass }
         ensures pass { D.admits self.old.desk self.new.pass }
@@ -108,7 +103,7 @@ impl<R: Wait, D: LaterDesk, K: Sink + Drop, C: Clock> Writer<'_, '_, R, D, K, C>
 }
 
 impl<R: Wait + Sync, D: LaterDesk + Send, A: Arrivals + Send, C: Clock + Send> Work
-    for Task<'_, '_, R, D, A, C>
+    for Task<'_, R, D, A, C>
 where
     D::Pass: Send,
     A::In: Drop,

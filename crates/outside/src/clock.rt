@@ -2,12 +2,12 @@
 ghost use Rattle.std.specs.Prelude.{◌≡◌, ℕ, max};
 ghost use Rattle.outside.specs.Clock.{ClockOf, first_moment, later_moments};
 
-use cv_io::List;
+use cv_io::{Duplicate, List, Memory};
 use std::marker::Model;
 use std::thread;
 use std::time::{self, Duration, SystemTime};
 
-/// A clock of moments, in seconds. Both calls may wait, since works share one clock.
+/// A clock of moments, in seconds. Each work has a copy of its own.
 pub trait Clock {
     // The greatest moment that it answered.
     ghost greatest: { Self → ℕ };
@@ -16,8 +16,8 @@ pub trait Clock {
     fn now(&mut self) -> u64
         ensures { greatest self.new ≡ max (greatest self.old) result };
 
-    /// Rests a while.
-    fn rest(&mut self)
+    /// Rests a while, after it rested `turns` times in a row.
+    fn rest(&mut self, turns: u32)
         ensures { greatest self.new ≡ greatest self.old };
 }
 
@@ -72,10 +72,20 @@ impl Clock for MemClock {
         moment
     }
 
-    fn rest(&mut self)
+    fn rest(&mut self, _turns: u32)
         ensures { self.new ≡ self.old }
     {
         let _ = &self.at;
+    }
+}
+
+impl Duplicate for MemClock {
+    fn copy(&self) -> Result<Self, Memory> {
+        Ok(MemClock {
+            seconds: self.seconds.copy()?,
+            at: self.at,
+            greatest: self.greatest,
+        })
     }
 }
 
@@ -105,6 +115,15 @@ impl<'a, R: time::Clock> SystemClock<'a, R> {
     }
 }
 
+impl<R> Duplicate for SystemClock<'_, R> {
+    fn copy(&self) -> Result<Self, Memory> {
+        Ok(SystemClock {
+            rt: self.rt,
+            greatest: self.greatest,
+        })
+    }
+}
+
 impl<R: time::Clock> Clock for SystemClock<'_, R> {
     ghost greatest = { λ c. c.greatest };
 
@@ -114,8 +133,15 @@ impl<R: time::Clock> Clock for SystemClock<'_, R> {
         moment
     }
 
-    /// Rests a millisecond.
-    fn rest(&mut self) {
-        thread::sleep(self.rt, Duration::from_millis(1));
+    /// Rests a sixteenth of a millisecond, twice as long at each further turn, and from the fifth on a millisecond.
+    fn rest(&mut self, turns: u32) {
+        let microseconds = match turns {
+            0 => 62,
+            1 => 125,
+            2 => 250,
+            3 => 500,
+            _ => 1000,
+        };
+        thread::sleep(self.rt, Duration::from_micros(microseconds));
     }
 }

@@ -11,7 +11,7 @@ use crate::endpoints::places;
 use crate::laws::{places_are_few, places_are_served};
 use crate::promises::audit_is_kept;
 use crate::proxy::Proxy;
-use cv_io::{List, Memory};
+use cv_io::{Duplicate, List, Memory};
 use hyper_core::Hyper;
 use outside::{Clock, Dial, Links, Sink, Spawner};
 use policies::Policy;
@@ -28,7 +28,7 @@ pub fn serve_policy<
     K: Sink + Send,
     L: Links,
     P: Spawner,
-    C: Clock + Send,
+    C: Clock + Duplicate + Drop + Send,
 >(
     rt: &R,
     alloc: Global,
@@ -36,7 +36,7 @@ pub fn serve_policy<
     out: &mut K,
     links: &mut L,
     spawner: &mut P,
-    clock: &mut C,
+    clock: &C,
 ) -> Served
 where
     L::Dial: Drop,

@@ -19,8 +19,8 @@ use crate::dialling::Lines;
 use crate::run::Served;
 use crate::staff::Office;
 use crate::working::work;
-use cv_io::{List, Memory};
-use endpoint_works::{AuditEnd, Handover, Others, Shared};
+use cv_io::{Duplicate, List, Memory};
+use endpoint_works::{AuditEnd, Handover, Others};
 use lock_desk::Host;
 use outside::{Clock, Dial, Sink};
 use policy_lock::{Machine, PolicyLock, Seat};
@@ -34,7 +34,7 @@ pub(crate) fn attend<
     R: Wait + Threads + Sync,
     D: Dial + Drop + Send,
     K: Sink + Send,
-    C: Clock + Send,
+    C: Clock + Duplicate + Drop + Send,
 >(
     rt: &R,
     alloc: Global,
@@ -44,7 +44,7 @@ pub(crate) fn attend<
     handovers: Vec<Handover<D::Out>>,
     room: Vec<Seat<H::Machine>>,
     out: &mut K,
-    clock: &mut C,
+    clock: &C,
 ) -> Result<Served, Memory>
 where
     D::In: Drop + Send,
@@ -71,15 +71,7 @@ where
 {
     let Lines { lines, failed } = lines;
     let others = Others::new(2 * lines.len() as u64);
-    let shared = Shared::new(clock);
-    let office = Office::<R, H, _, C>::new(
-        rt,
-        alloc,
-        &lock,
-        &others,
-        &shared,
-        handovers.as_slice(),
-    );
+    let office = Office::<R, H, _, C>::new(rt, alloc, &lock, &others, clock, handovers.as_slice());
     let worked = work(&office, lines, seats, room, out)?;
     let Ok(mut machine) = lock.close(worked.seats) else {
         unreachable!()

@@ -33,8 +33,8 @@ struct Ended<H: Host> {
 }
 
 /// Takes the works apart.
-pub(crate) fn gather<R: Wait + Threads + Sync, H: Host, D: Dial + Drop, C: Clock>(
-    tasks: List<Job<'_, '_, R, H, D, C>>,
+pub(crate) fn gather<R: Wait + Threads + Sync, H: Host, D: Dial + Drop, C: Clock + Drop>(
+    tasks: List<Job<'_, R, H, D, C>>,
     room: Vec<Seat<H::Machine>>,
 ) -> Gathered<H>
 where
@@ -64,8 +64,8 @@ where
 }
 
 /// Takes a work apart.
-fn take_apart<R: Wait + Threads + Sync, H: Host, D: Dial + Drop, C: Clock>(
-    task: Job<'_, '_, R, H, D, C>,
+fn take_apart<R: Wait + Threads + Sync, H: Host, D: Dial + Drop, C: Clock + Drop>(
+    task: Job<'_, R, H, D, C>,
 ) -> Ended<H>
 where
     D::In: Drop,

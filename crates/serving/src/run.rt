@@ -8,7 +8,7 @@ ghost use Rattle.serving.specs.Runs.{Serves};
 use crate::attending::attend;
 use crate::dialling::dial_all;
 use crate::place::Place;
-use cv_io::{List, Memory};
+use cv_io::{Duplicate, List, Memory};
 use endpoint_works::Handover;
 use lock_desk::Host;
 use outside::{Clock, Dial, Links, Sink, Spawner};
@@ -44,7 +44,7 @@ pub fn serve<
     K: Sink + Send,
     L: Links,
     P: Spawner,
-    C: Clock + Send,
+    C: Clock + Duplicate + Drop + Send,
 >(
     rt: &R,
     alloc: Global,
@@ -53,7 +53,7 @@ pub fn serve<
     out: &mut K,
     links: &mut L,
     spawner: &mut P,
-    clock: &mut C,
+    clock: &C,
 ) -> Served
 where
     L::Dial: Drop,
@@ -82,7 +82,7 @@ fn try_serve<
     K: Sink + Send,
     L: Links,
     P: Spawner,
-    C: Clock + Send,
+    C: Clock + Duplicate + Drop + Send,
 >(
     rt: &R,
     alloc: Global,
@@ -91,7 +91,7 @@ fn try_serve<
     out: &mut K,
     links: &mut L,
     spawner: &mut P,
-    clock: &mut C,
+    clock: &C,
 ) -> Result<Served, Memory>
 where
     L::Dial: Drop,

@@ -3,8 +3,8 @@ ghost use Rattle.std.specs.Prelude.{◌≡◌, ◌<◌, ◌*◌, IfOk, length};
 ghost use Rattle.serving.specs.Works.{AreTeams, IsReaderFor, IsWriterFor};
 
 use crate::dialling::Line;
-use cv_io::{List, Memory};
-use endpoint_works::{Dialled, Handover, Others, Reader, Shared, SharedClock, Task, Writer};
+use cv_io::{Duplicate, List, Memory};
+use endpoint_works::{Dialled, Handover, Others, Reader, Task, Writer};
 use lock_desk::{Host, LockDesk};
 use outside::{Clock, Dial, Sink};
 use policy_lock::{PolicyLock, Seat};
@@ -15,34 +15,28 @@ use std::sync::Wait;
 use std::thread::Threads;
 
 /// A work of an endpoint: its desk is the lock.
-pub(crate) type Job<'a, 'b, R, H, D, C> = Task<'a, 'b, R, LockDesk<'a, R, H>, Dialled<D>, C>;
+pub(crate) type Job<'a, R, H, D, C> = Task<'a, R, LockDesk<'a, R, H>, Dialled<D>, C>;
 
 /// What the works of a run share.
 #[derive(Drop)]
-pub(crate) struct Office<'a, 'b, R, H: Host, K: Drop, C> {
+pub(crate) struct Office<'a, R, H: Host, K: Drop, C> {
     pub rt: &'a R,
     pub alloc: Global,
     pub lock: &'a PolicyLock<H::Machine>,
     pub others: &'a Others,
-    pub clock: &'a Shared<'b, C>,
+    /// Each work has a copy of it.
+    pub clock: &'a C,
     /// Between the two works of each line.
     pub handovers: &'a [Handover<K>],
 }
 
-impl<'a, 'b, R: Wait + Threads + Sync, H: Host, K: Sink + Drop, C: Clock> Office<
-    'a,
-    'b,
-    R,
-    H,
-    K,
-    C,
-> {
+impl<'a, R: Wait + Threads + Sync, H: Host, K: Sink + Drop, C: Clock> Office<'a, R, H, K, C> {
     pub(crate) fn new(
         rt: &'a R,
         alloc: Global,
         lock: &'a PolicyLock<H::Machine>,
         others: &'a Others,
-        clock: &'a Shared<'b, C>,
+        clock: &'a C,
         handovers: &'a [Handover<K>],
     ) -> Self
         ensures lock { result.lock.now ≡ lock.now }
@@ -76,15 +70,11 @@ impl<'a, 'b, R: Wait + Threads + Sync, H: Host, K: Sink + Drop, C: Clock> Office
     {
         &self.handovers[number]
     }
-
-    pub(crate) fn clock(&self) -> SharedClock<'a, 'b, R, C> {
-        SharedClock::new(self.rt, self.clock)
-    }
 }
 
 /// The work that takes the connections of the line of this number, and reads from them.
-fn reader<'a, 'b, R: Wait + Threads + Sync, H: Host, D: Dial + Drop, C: Clock>(
-    office: &Office<'a, 'b, R, H, D::Out, C>,
+fn reader<'a, R: Wait + Threads + Sync, H: Host, D: Dial + Drop, C: Clock>(
+    office: &Office<'a, R, H, D::Out, C>,
     number: usize,
     line: Line<D>,
     seat: Seat<H::Machine>,
@@ -114,11 +104,12 @@ where
 }
 
 /// The work that writes to them.
-fn writer<'a, 'b, R: Wait + Threads + Sync, H: Host, K: Sink + Drop, C: Clock>(
-    office: &Office<'a, 'b, R, H, K, C>,
+fn writer<'a, R: Wait + Threads + Sync, H: Host, K: Sink + Drop, C: Clock>(
+    office: &Office<'a, R, H, K, C>,
     number: usize,
     seat: Seat<H::Machine>,
-) -> Writer<'a, 'b, R, LockDesk<'a, R, H>, K, C>
+    clock: C,
+) -> Writer<'a, R, LockDesk<'a, R, H>, K, C>
     requires { number < length office.now.handovers.now }
     ensures pass { result.pass ≡ seat }
     ensures lock { result.desk.lock.now ≡ office.now.lock.now }
@@ -130,17 +121,23 @@ fn writer<'a, 'b, R: Wait + Threads + Sync, H: Host, K: Sink + Drop, C: Clock>(
         handover: office.handover(number),
         desk: office.desk(&seat),
         pass: seat,
-        clock: office.clock(),
+        clock,
         end: None,
     }
 }
 
 /// The works, two for each line; each has the next seat.
-pub(crate) fn hire<'a, 'b, R: Wait + Threads + Sync, H: Host, D: Dial + Drop, C: Clock>(
-    office: &Office<'a, 'b, R, H, D::Out, C>,
+pub(crate) fn hire<
+    'a,
+    R: Wait + Threads + Sync,
+    H: Host,
+    D: Dial + Drop,
+    C: Clock + Duplicate + Drop,
+>(
+    office: &Office<'a, R, H, D::Out, C>,
     lines: List<Line<D>>,
     seats: List<Seat<H::Machine>>,
-) -> Result<List<Job<'a, 'b, R, H, D, C>>, Memory>
+) -> Result<List<Job<'a, R, H, D, C>>, Memory>
 where
     D::In: Drop,
     D::Out: Drop,
@@ -153,6 +150,7 @@ where
     let mut seats = VecDeque::from(seats.into_vec());
     let mut number = 0;
     while let Some(line) = lines.pop_front() {
+        let clock = office.clock.copy()?;
         let Some(first) = seats.pop_front() else {
             unreachable!()
         };
@@ -163,7 +161,7 @@ where
             reader: reader(office, number, line, first),
         })?;
         tasks.push(Task::Writer {
-            writer: writer(office, number, second),
+            writer: writer(office, number, second, clock),
         })?;
         number += 1;
     }

@@ -11,7 +11,7 @@ ghost use Rattle.serving.specs.Working.{HaveWorked};
 use crate::dialling::Line;
 use crate::gathering::gather;
 use crate::staff::{Office, hire};
-use cv_io::{List, Memory};
+use cv_io::{Duplicate, List, Memory};
 use endpoint_works::{AuditEnd, Others, write_audit};
 use lock_desk::Host;
 use outside::{Clock, Dial, ScopeSpawner, Sink, Spawner, Work};
@@ -36,14 +36,13 @@ pub(crate) struct Worked<H: Host> {
 /// Has two works for each line, and one for the audit, done beside one another. Each has the next seat.
 pub(crate) fn work<
     'a,
-    'b,
     R: Wait + Threads + Sync,
     H: Host + Send,
     D: Dial + Drop + Send,
     K: Sink + Send,
-    C: Clock + Send,
+    C: Clock + Duplicate + Drop + Send,
 >(
-    office: &Office<'a, 'b, R, H, D::Out, C>,
+    office: &Office<'a, R, H, D::Out, C>,
     lines: List<Line<D>>,
     seats: List<Seat<H::Machine>>,
     room: Vec<Seat<H::Machine>>,
@@ -63,13 +62,13 @@ where
         (K.held out.old) (K.held out.new) (K.faults out.old) (K.faults out.new) worked.end) }
     ensures memory { OnErr result (K.held out.new ≡ K.held out.old) }
 {
+    let mut clock = office.clock.copy()?;
     let mut seats = seats;
     let Some(mut seat) = seats.pop() else {
         unreachable!()
     };
     let mut tasks = hire(office, lines, seats)?;
     let desk = office.desk(&seat);
-    let mut clock = office.clock();
     let end = all_at_work(
         office.rt,
         &desk,

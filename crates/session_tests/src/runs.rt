@@ -148,7 +148,7 @@ fn served<R: Wait + Threads + time::Clock + Sync>(
         seen: &seen,
     };
     let mut spawner = ScopeSpawner::new();
-    let mut clock = SystemClock::new(rt);
+    let clock = SystemClock::new(rt);
     let end = serve::<Diaries, _, _, _, _, _>(
         rt,
         alloc,
@@ -161,7 +161,7 @@ fn served<R: Wait + Threads + time::Clock + Sync>(
         &mut out,
         &mut links,
         &mut spawner,
-        &mut clock,
+        &clock,
     );
     Ok((
         end,

@@ -70,26 +70,32 @@ fn send_all<R: Wait, D: Desk, K: Sink, C: Clock>(
     ensures reliable { K.is_reliable sink.new ≡ K.is_reliable sink.old }
 {
     let mut last = 0;
+    let mut turns = 0;
     for _ in rt.forever() {
         match desk.take(pass, session)? {
             Taken::Message(message) => {
                 if write_all(sink, message.as_slice()).is_err() {
                     return Ok(WriteEnd::WriteFault);
                 }
+                turns = 0;
             }
-            Taken::Empty { .. } => last = rest(desk, pass, clock, last)?,
+            Taken::Empty { .. } => {
+                last = rest(desk, pass, clock, last, turns)?;
+                turns = turns.saturating_add(1);
+            }
             Taken::Closed { at } => return Ok(WriteEnd::Closed { at }),
         }
     }
     unreachable!()
 }
 
-// Posts the second if it is above the last one, and rests. Answers the greater of both.
+// Posts the second if it is above the last one, and rests, as many turns after a message. Answers the greater of both.
 fn rest<D: Desk, C: Clock>(
     desk: &D,
     pass: &mut D::Pass,
     clock: &mut C,
     last: u64,
+    turns: u32,
 ) -> Result<u64, Memory>
     requires { D.admits desk.now pass.old }
     ensures pass { D.admits desk.now pass.new }
@@ -101,6 +107,6 @@ fn rest<D: Desk, C: Clock>(
     if second > last {
         desk.tick(pass, second)?;
     }
-    clock.rest();
+    clock.rest(turns);
     Ok(second.max(last))
 }

@@ -253,7 +253,7 @@ fn run_between<R: Wait + Threads + Sync, G: Ledger>(
 ) -> u8 {
     let mut links = RowLinks::new(rt, row.wires.as_slice(), written, row.fails.dial);
     let mut spawner = RowSpawner::new(row.fails.spawn);
-    let mut clock = MemClock::new(List::new(alloc));
+    let clock = MemClock::new(List::new(alloc));
     run(
         rt,
         alloc,
@@ -263,7 +263,7 @@ fn run_between<R: Wait + Threads + Sync, G: Ledger>(
         &mut ends.out,
         &mut links,
         &mut spawner,
-        &mut clock,
+        &clock,
         steps,
     )
 }

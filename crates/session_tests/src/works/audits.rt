@@ -73,7 +73,7 @@ impl Clock for Ending<'_> {
         0
     }
 
-    fn rest(&mut self) {
+    fn rest(&mut self, _turns: u32) {
         if self.seen.is_none() {
             self.seen = Some(self.written.load(Ordering::SeqCst));
             self.others.end_one();

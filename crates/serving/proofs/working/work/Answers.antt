@@ -32,7 +32,7 @@ all_at_work-end-requires-sync-D g c κs within =
 pub all_at_work-end-requires-send-W : goal.all_at_work-end-requires-send-W
 all_at_work-end-requires-send-W g c κs within =
     let t = c.type_bounds in
-    param_send _ _ (arg_send _ no _ (task.the_send _ _ _ _ _ _ _ (param 7 g.row.D-In) _
+    param_send _ _ (arg_send _ no _ (task.the_send _ _ _ _ _ _ (param 7 g.row.D-In) _
     (desk-send _ (param 0 g.row.R) (param 1 g.row.H) (param 5 g.row.H-Machine) (param 6 g.row.H-Machine-State)
     g.H.Machine.Machine t.sync-R t.send-H-Machine)
     (dialled.the_send (param 2 g.row.D) t.send-D) t.send-C
