@@ -1,3 +1,4 @@
+pub mod Crowded
 pub mod Glanced
 pub mod Opened
 pub mod Counted

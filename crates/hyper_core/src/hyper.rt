@@ -6,12 +6,14 @@ ghost use Rattle.policies.specs.Sound.{IsSound};
 ghost use Rattle.machine_meaning.specs.Glances.{glance_of};
 ghost use Rattle.machine_drafts.specs.Machines.{state_of};
 ghost use Rattle.event_composes.specs.Costs.{cost_of, most_of, stays_kept};
+ghost use Rattle.hyper_core.specs.Crowding.{is_crowded_by};
 ghost use Rattle.hyper_core.specs.Worlds.{AreTablesOf, installed_on, network_in, rule_count};
 ghost use Rattle.machine_meaning.specs.Sessions.{round_of};
 ghost use Rattle.machine_meaning.specs.Sound.{HasNumbers};
 ghost use Rattle.machine_meaning.specs.States.{opening};
 ghost use Rattle.machine_meaning.specs.Steps.{step_of};
 
+use crate::crowding::is_crowded;
 use crate::glances::glance;
 use crate::opening::open as open_machine;
 use crate::stepping::step as step_held;
@@ -129,6 +131,14 @@ impl Hyper {
         ensures { result ≡ self.now.compiled }
     {
         self.composed.is_some()
+    }
+
+    /// Whether half as much waits as may of what the event may add to: for its session, or for a session of the other
+    /// kind.
+    pub fn is_crowded(&self, event: &Event) -> bool
+        ensures { result ≡ is_crowded_by (state_of self.now) event.now }
+    {
+        is_crowded(&self.held, event)
     }
 
     /// A machine of the same policy in the same state. Its composed part isn't copied: the first event that needs one

@@ -1,6 +1,7 @@
 //! The machine: one event in, one reply out, for any policy.
 #![tactic(auto)]
 
+mod crowding;
 mod drafting;
 mod glances;
 pub mod hyper;

@@ -66,6 +66,10 @@ impl Machine for Hyper {
         Hyper::glance(self, event)
     }
 
+    fn is_crowded(&self, event: &Event) -> bool {
+        Hyper::is_crowded(self, event)
+    }
+
     fn copy(&self) -> Result<Hyper, Memory> {
         Hyper::copy(self)
     }

@@ -8,7 +8,10 @@ use policy_lock::{Machine, PolicyLock, Seat};
 use sessions::{Desk, Heard, Taken};
 use std::snapshot::Snapshot;
 use std::sync::Wait;
-use std::thread::Threads;
+use std::thread::{self, Threads};
+
+// How often a reader lets other threads run where much waits for those that write.
+const YIELDS: u32 = 128;
 
 /// The lock over a machine of sessions, as these see it. A pass is a seat of the lock.
 #[derive(Drop)]
@@ -60,6 +63,9 @@ impl<R: Wait + Threads + Sync, H: Host> Desk for LockDesk<'_, R, H> {
             frame,
         };
         let receipt = H::post(self.rt, self.lock, seat, event)?;
+        if receipt.crowded {
+            let_others_run();
+        }
         Ok(heard(receipt))
     }
 
@@ -78,6 +84,14 @@ impl<R: Wait + Threads + Sync, H: Host> Desk for LockDesk<'_, R, H> {
         let event = Event::Take { session: *session };
         let receipt = H::post(self.rt, self.lock, seat, event)?;
         Ok(taken(receipt))
+    }
+}
+
+/// Writers take a message a post, and a frame may add several: without this a burst of frames would close a session as
+/// slow whose peer keeps up.
+fn let_others_run() {
+    for _ in 0..YIELDS {
+        thread::yield_now();
     }
 }
 

@@ -1,6 +1,7 @@
 //! The round of a session and the messages that wait for it.
 ghost use Rattle.std.specs.Prelude.{◌≡◌, ◌↔◌, ◌+◌, ◌++◌, ◌<◌, ◌^◌, IsTrue, length};
-ghost use Rattle.outbox.specs.Outboxes.{closed as closed_of, is_full as is_full_of, is_open as is_open_of, opened};
+ghost use Rattle.outbox.specs.Outboxes.{closed as closed_of, is_crowded as is_crowded_of, is_full as is_full_of};
+ghost use Rattle.outbox.specs.Outboxes.{is_open as is_open_of, opened};
 ghost use Rattle.outbox.specs.Outboxes.{taken, taking, turned, unless_taken, unopened, with_more, OutboxOf};
 
 use crate::letters::Letters;
@@ -102,6 +103,13 @@ impl Outbox {
         ensures { result ≡ is_full_of self.now }
     {
         self.waiting.len() >= SLOW
+    }
+
+    /// Half as much waits: who puts it more should do so slowly.
+    pub fn is_crowded(&self) -> bool
+        ensures { result ≡ is_crowded_of self.now }
+    {
+        self.waiting.len() >= SLOW / 2
     }
 
     /// Nothing becomes of it.

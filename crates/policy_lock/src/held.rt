@@ -47,6 +47,11 @@ impl<M: Machine> Held<M> {
         self.boxed.apply(rt, event, steps)
     }
 
+    /// As [`Machine::is_crowded`].
+    pub fn is_crowded(&self, event: &M::Event) -> bool {
+        self.boxed.machine.is_crowded(event)
+    }
+
     /// As [`Locked::after`].
     pub fn after(&self, place: u64) -> Result<After<M::Event>, Memory>
         ensures { IfOk result (λ after. IsStoredAfter ⟦<M as Machine>⟧ self.now.boxed.value place after) }

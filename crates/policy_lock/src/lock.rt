@@ -74,4 +74,6 @@ pub struct Receipt<R: Drop> {
     /// entries there were.
     pub place: u64,
     pub reply: R,
+    /// Before the event much waited of what it may have added to, as [`Machine::is_crowded`] says.
+    pub crowded: bool,
 }

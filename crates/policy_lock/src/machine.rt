@@ -53,6 +53,12 @@ pub trait Machine: Drop + Send {
             (idle (meaning self.now) event.now ≡ false)
             (λ r. (idle (meaning self.now) event.now ≡ true) × (r ≡ reply (meaning self.now) event.now)) };
 
+    /// Whether much waits already of what the event may add to, so that who posts it should be slow to post more. No
+    /// promise rests on it.
+    fn is_crowded(&self, _event: &Self::Event) -> bool {
+        false
+    }
+
     /// A machine with the same meaning.
     fn copy(&self) -> Result<Self, Memory>
         ensures { IfOk result (λ m. meaning m ≡ meaning self.now) };

@@ -46,6 +46,7 @@ impl<M: Machine> PolicyLock<M> {
             event steps.old steps.new) }
     {
         let (word, mut locked) = self.take(rt, &mut seat.token);
+        let crowded = locked.is_crowded(&event);
         match locked.apply(rt, event, steps) {
             Ok(Applied::Done(reply)) => {
                 drop(self.table.shared.exchange(&mut seat.token, 0, Some(locked)));
@@ -56,6 +57,7 @@ impl<M: Machine> PolicyLock<M> {
                 Ok(Receipt {
                     place: word / 2 + 1,
                     reply,
+                    crowded,
                 })
             }
             Ok(Applied::Idle(reply)) => {
@@ -63,6 +65,7 @@ impl<M: Machine> PolicyLock<M> {
                 Ok(Receipt {
                     place: word / 2,
                     reply,
+                    crowded,
                 })
             }
             Err(memory) => {
