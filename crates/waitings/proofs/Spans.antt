@@ -1,10 +1,11 @@
 -- Answers of numbers in a row.
 use Rattle.std.proofs.Common.{◌≡◌, ◌∙◌, ◌+◌, ◌-◌, ◌<◌, ◌≤◌, ℕ, zero, suc, Bool, true, false, List, [], ◌∷◌}
-use Rattle.std.proofs.Common.{◌++◌, Some, Result, Ok, Err}
-use Rattle.std.proofs.Common.{arith, ap, ap₂, append-nil, append_assoc, get_or, inl, inr, length, map, not}
-use Rattle.std.proofs.Common.{refl, subst, sym, take}
-use Rattle.std.specs.Prelude.{◌==◌, ◌&&◌, ◌||◌, ◌⊎◌, OnOk, filter, if◌then◌else◌, nat_le, nat_lt, slice_get, slice_set}
+use Rattle.std.proofs.Common.{◌++◌, Result, Ok, Err}
+use Rattle.std.proofs.Common.{arith, ap, ap₂, append-nil, append_assoc, cond, get_or, inl, inr, length, length-set}
+use Rattle.std.proofs.Common.{map, not, refl, subst, sym, take}
+use Rattle.std.specs.Prelude.{◌==◌, ◌&&◌, ◌||◌, ◌⊎◌, OnOk, filter, if◌then◌else◌, nat_le, nat_lt, slice_set}
 use Rattle.std.specs.List.{AllByRecursion, list_any, refill}
+use Rattle.std.specs.List.Retain.{RetainsInTurn}
 use Rattle.std.proofs.lemmas.Bool.{cases_lt}
 use Rattle.std.proofs.lemmas.Bool.Decides.{nat_tests}
 use Rattle.std.proofs.lemmas.List.{drop_all, length-map, map-append, take_all, take_more}
@@ -287,24 +288,33 @@ module _ (s : Span) (part : Part) (is : IsSpan s) (next : is_next part s ≡ tru
       ∙ (longer_row s.switch s.first (suc (s.last - s.first)) part.number at
       ∙ ap (λ (k : ℕ). spelled s ++ record { switch = k; number = part.number } ∷ []) switch)
 
-pub last_at : (ss : List Span) (s : Span) → slice_get ss (length ss - 1) ≡ Some s → suc (length ss - 1) ≡ length ss
-last_at [] s at = cc
-last_at (x ∷ ss) s at = omega arith
+-- the last of a vector's items, as its slice shows them
+pub last_at : (seen ss : List Span) (s : Span) → seen ≡ ss → 0 < length seen → s ≡ get_or seen (length seen - 1) s
+    → (suc (length seen - 1) ≡ length ss) × (s ≡ get_or ss (length seen - 1) s)
+last_at seen ss s same some at =
+    let long : suc (length seen - 1) ≡ length seen = omega (arith, some) in
+    (long ∙ ap length same, subst (λ xs. s ≡ get_or xs (length seen - 1) s) same at)
 
-pub last_is : (ss : List Span) (n : ℕ) (s : Span) → AllByRecursion IsSpan ss → slice_get ss n ≡ Some s → IsSpan s
-last_is [] n s are at = cc
-last_is (x ∷ ss) zero s are at = let same : x ≡ s = cc in subst IsSpan same are.0
-last_is (x ∷ ss) (suc n) s are at = last_is ss n s are.1 at
+pub last_is : (ss : List Span) (n : ℕ) (s : Span) → AllByRecursion IsSpan ss → suc n ≡ length ss → s ≡ get_or ss n s
+    → IsSpan s
+last_is [] n s are long at = absurd (omega (arith, long))
+last_is (x ∷ ss) zero s are long at = subst IsSpan (sym at) are.0
+last_is (x ∷ ss) (suc n) s are long at = last_is ss n s are.1 (omega (arith, long)) at
+
+-- a write through the slice is one to the items
+pub set_filled : (seen ss : List Span) (n : ℕ) (s : Span) → seen ≡ ss
+    → refill (length ss) ss (slice_set seen n s) ≡ slice_set ss n s
+set_filled seen ss n s same =
+    refilled ss (slice_set seen n s) (length-set seen n s ∙ ap length same) ∙ ap (λ xs. slice_set xs n s) same
 
 -- the last of several is longer
 module _ (part : Part) (s longer : Span) (is : IsSpan longer) (more : spelled longer ≡ spelled s ++ part ∷ []) where
-  pub last_longer : (ss : List Span) (n : ℕ) → suc n ≡ length ss → slice_get ss n ≡ Some s
+  pub last_longer : (ss : List Span) (n : ℕ) → suc n ≡ length ss → s ≡ get_or ss n s
       → all_spelled (slice_set ss n longer) ≡ all_spelled ss ++ part ∷ []
   last_longer [] n long at = absurd (omega (arith, long))
   last_longer (x ∷ []) zero long at =
-      let same : x ≡ s = cc in
       append-nil (spelled longer)
-      ∙ (more ∙ (ap (λ (y : Span). spelled y ++ part ∷ []) (sym same)
+      ∙ (more ∙ (ap (λ (y : Span). spelled y ++ part ∷ []) at
       ∙ ap (λ ps. ps ++ part ∷ []) (sym (append-nil (spelled x)))))
   last_longer (x ∷ y ∷ ss) zero long at = absurd (omega (arith, long))
   last_longer (x ∷ ss) (suc n) long at =
@@ -411,6 +421,16 @@ module _ (n : ℕ) where
           ++ filter (λ (part : Part). not (of_it part)) (all_spelled ss)
       by true e rest = rest ∙ ap (λ ps. ps ++ filter (λ (part : Part). not (of_it part)) (all_spelled ss)) (sym e)
       by false e rest = λ i. sym e i ++ rest i
+
+-- where no call changes the closure or the item, `retain` leaves what passes the test
+pub retained : {A F : Type 0} (R : F → A → Bool → F → A → Type 0) (test : A → Bool) (f : F)
+    → ((x : A) (b : Bool) (g : F) (y : A) → R f x b g y → (b ≡ test x) × (g ≡ f) × (y ≡ x))
+    → (xs ys : List A) → RetainsInTurn R f xs ys → ys ≡ filter test xs
+retained R test f says [] ys h = h
+retained R test f says (x ∷ xs) ys h =
+    let said = says x h.0 h.1 h.2 h.3 in
+    let rest = retained R test f says xs h.4 (subst (λ g. RetainsInTurn R g xs h.4) said.1 h.5) in
+    h.6 ∙ (λ i. cond (said.0 i) (said.2 i ∷ rest i) (rest i))
 
 pub kept_of : (test : Span → Bool) (ss : List Span) → AllByRecursion IsSpan ss
     → AllByRecursion IsSpan (filter test ss)

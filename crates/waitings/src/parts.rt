@@ -9,22 +9,24 @@ ghost use Rattle.waitings.specs.declared.parts.Span.{Span as SpanOf};
 ghost use Rattle.waitings.specs.declared.state.Part.{Part as PartOf};
 
 use crate::state::Part;
-use cv_io::{Duplicate, List, Memory};
+use cv_io::{Duplicate, Memory};
+use smallvec::SmallVec;
 use std::alloc::Global;
 use std::marker::Model;
 
 /// Answers of one switch, of each number from the first to the last.
-#[derive(Clone, Copy, PartialEq, Eq, Debug)]
+#[derive(Clone, Copy, PartialEq, Eq, Debug, Default)]
 pub(crate) struct Span {
     switch: u32,
     first: u64,
     last: u64,
 }
 
-/// Answers that are waited for. Barriers are numbered in a row, so those of one switch take the room of one.
+/// Answers that are waited for. Barriers are numbered in a row, so those of one switch take the room of one. Most have
+/// one span, which lies inside, so that a copy takes no allocation.
 #[derive(Debug, Drop)]
 pub struct Parts {
-    spans: List<Span>,
+    spans: SmallVec<Span, 1>,
 }
 
 impl Model for Parts {
@@ -35,9 +37,9 @@ impl Model for Parts {
 
     ghost Value = { List Part };
 
-    ghost view = { λ a. all_spelled a.spans };
+    ghost view = { λ a. all_spelled a.spans.items };
 
-    ghost invariant = { λ a. AllByRecursion IsSpan a.spans };
+    ghost invariant = { λ a. AllByRecursion IsSpan a.spans.items };
 }
 
 impl Span {
@@ -96,12 +98,12 @@ fn any_of(spans: &[Span], switch: u32) -> bool
 }
 
 /// Appends what of a span comes before a number.
-fn push_front(spans: &mut List<Span>, span: &Span, number: u64) -> Result<(), Memory>
+fn push_front(spans: &mut SmallVec<Span, 1>, span: &Span, number: u64) -> Result<(), Memory>
     requires span { IsSpan span.now }
     requires within { number ≤ span.now.last }
-    ensures front { OnOk result (all_spelled spans.new
-        ≡ all_spelled spans.old ++ row span.now.switch span.now.first (number - span.now.first)) }
-    ensures spans { AllByRecursion IsSpan spans.old → OnOk result (AllByRecursion IsSpan spans.new) }
+    ensures front { OnOk result (all_spelled spans.new.items
+        ≡ all_spelled spans.old.items ++ row span.now.switch span.now.first (number - span.now.first)) }
+    ensures spans { AllByRecursion IsSpan spans.old.items → OnOk result (AllByRecursion IsSpan spans.new.items) }
 {
     if number <= span.first {
         return Ok(());
@@ -109,15 +111,16 @@ fn push_front(spans: &mut List<Span>, span: &Span, number: u64) -> Result<(), Me
     spans.push(Span {
         last: number - 1,
         ..*span
-    })
+    })?;
+    Ok(())
 }
 
 /// Appends what of a span comes behind a number.
-fn push_back(spans: &mut List<Span>, span: &Span, number: u64) -> Result<(), Memory>
+fn push_back(spans: &mut SmallVec<Span, 1>, span: &Span, number: u64) -> Result<(), Memory>
     requires span { IsSpan span.now }
-    ensures back { OnOk result (all_spelled spans.new
-        ≡ all_spelled spans.old ++ row span.now.switch (suc number) (span.now.last - number)) }
-    ensures spans { AllByRecursion IsSpan spans.old → OnOk result (AllByRecursion IsSpan spans.new) }
+    ensures back { OnOk result (all_spelled spans.new.items
+        ≡ all_spelled spans.old.items ++ row span.now.switch (suc number) (span.now.last - number)) }
+    ensures spans { AllByRecursion IsSpan spans.old.items → OnOk result (AllByRecursion IsSpan spans.new.items) }
 {
     if span.last <= number {
         return Ok(());
@@ -125,42 +128,44 @@ fn push_back(spans: &mut List<Span>, span: &Span, number: u64) -> Result<(), Mem
     spans.push(Span {
         first: number + 1,
         ..*span
-    })
+    })?;
+    Ok(())
 }
 
 /// Appends what is left of a span without an answer.
-fn push_without(spans: &mut List<Span>, span: &Span, switch: u32, number: u64) -> Result<(), Memory>
+fn push_without(
+    spans: &mut SmallVec<Span, 1>,
+    span: &Span,
+    switch: u32,
+    number: u64,
+) -> Result<(), Memory>
     requires { IsSpan span.now }
-    ensures left { OnOk result (all_spelled spans.new
-        ≡ all_spelled spans.old ++ filter (λ (part : PartOf). not (is_part switch number part)) (spelled span.now)) }
-    ensures spans { AllByRecursion IsSpan spans.old → OnOk result (AllByRecursion IsSpan spans.new) }
+    ensures left { OnOk result (all_spelled spans.new.items ≡ all_spelled spans.old.items
+        ++ filter (λ (part : PartOf). not (is_part switch number part)) (spelled span.now)) }
+    ensures spans { AllByRecursion IsSpan spans.old.items → OnOk result (AllByRecursion IsSpan spans.new.items) }
 {
     if !span.has(switch, number) {
-        return spans.push(*span);
+        spans.push(*span)?;
+        return Ok(());
     }
     push_front(spans, span, number)?;
     push_back(spans, span, number)
 }
 
 /// The last span takes an answer that comes right behind it. Whether it did.
-fn lengthen(spans: &mut List<Span>, part: &Part) -> bool
-    ensures taken { IsTrue result → AllByRecursion IsSpan spans.old
-        → all_spelled spans.new ≡ all_spelled spans.old ++ part.now ∷ [] }
-    ensures spans { AllByRecursion IsSpan spans.old → AllByRecursion IsSpan spans.new }
+fn lengthen(spans: &mut SmallVec<Span, 1>, part: &Part) -> bool
+    ensures taken { IsTrue result → AllByRecursion IsSpan spans.old.items
+        → all_spelled spans.new.items ≡ all_spelled spans.old.items ++ part.now ∷ [] }
+    ensures spans { AllByRecursion IsSpan spans.old.items → AllByRecursion IsSpan spans.new.items }
     ensures kept { result ≡ false → spans.new ≡ spans.old }
 {
-    let Some(span) = spans.as_slice().last() else {
+    let Some(span) = spans.as_mut_slice().last_mut() else {
         return false;
     };
     if !span.is_before(part) {
         return false;
     }
-    let longer = Span {
-        last: part.number,
-        ..*span
-    };
-    let place = spans.len() - 1;
-    spans.set(place, longer);
+    span.last = part.number;
     true
 }
 
@@ -179,7 +184,7 @@ impl Parts {
         ensures { result ≡ [] }
     {
         Parts {
-            spans: List::new(alloc),
+            spans: SmallVec::new(alloc),
         }
     }
 
@@ -191,7 +196,8 @@ impl Parts {
         if lengthen(&mut self.spans, &part) {
             return Ok(());
         }
-        self.spans.push(Span::of(part))
+        self.spans.push(Span::of(part))?;
+        Ok(())
     }
 
     pub fn is_empty(&self) -> bool
@@ -219,7 +225,7 @@ impl Parts {
         ensures { IfOk result (λ left.
             left ≡ filter (λ (part : PartOf). not (is_part switch number part)) self.now) }
     {
-        let mut spans = List::new(alloc);
+        let mut spans = SmallVec::new(alloc);
         for span in self.spans.as_slice() {
             push_without(&mut spans, span, switch, number)?;
         }
@@ -230,12 +236,9 @@ impl Parts {
     pub(crate) fn without_switch(self, switch: u32) -> Parts
         ensures { result ≡ filter (λ (part : PartOf). not (part.switch == switch)) self }
     {
-        let Parts { spans } = self;
-        let mut spans = spans.into_vec();
+        let Parts { mut spans } = self;
         spans.retain(|span| span.switch != switch);
-        Parts {
-            spans: List::from_vec(spans),
-        }
+        Parts { spans }
     }
 
     /// Answers of a switch without an xid are those to the request of this xid.
@@ -249,7 +252,7 @@ impl Parts {
 impl Duplicate for Parts {
     fn copy(&self) -> Result<Parts, Memory> {
         Ok(Parts {
-            spans: self.spans.copied()?,
+            spans: SmallVec::from_slice(*self.spans.allocator(), self.spans.as_slice())?,
         })
     }
 }

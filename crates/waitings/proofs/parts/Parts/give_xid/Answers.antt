@@ -9,12 +9,12 @@ pub invariant_of-self : goal.invariant_of-self
 invariant_of-self c =
     let new = c.give_all_xid.ensures ∙ ap (map (span_with_xid c.args.switch c.args.xid)) c.as_mut_slice.ensures.value in
     subst (AllByRecursion IsSpan)
-    (sym (numbered_filled c.args.switch c.args.xid c.self.inside.spans c.give_all_xid.new.spans new))
-    (are_numbered c.args.switch c.args.xid c.self.inside.spans c.self.invariant)
+    (sym (numbered_filled c.args.switch c.args.xid c.self.inside.spans.items c.give_all_xid.new.spans new))
+    (are_numbered c.args.switch c.args.xid c.self.inside.spans.items c.self.invariant)
 
 pub returns : goal.returns
 returns c =
     let new = c.give_all_xid.ensures ∙ ap (map (span_with_xid c.args.switch c.args.xid)) c.as_mut_slice.ensures.value in
-    ap all_spelled (numbered_filled c.args.switch c.args.xid c.self.inside.spans c.give_all_xid.new.spans new)
-    ∙ (all_numbered c.args.switch c.args.xid c.self.inside.spans c.self.invariant
+    ap all_spelled (numbered_filled c.args.switch c.args.xid c.self.inside.spans.items c.give_all_xid.new.spans new)
+    ∙ (all_numbered c.args.switch c.args.xid c.self.inside.spans.items c.self.invariant
     ∙ ap (map (part_with_xid c.args.switch c.args.xid)) c.self.view_is)

@@ -8,5 +8,5 @@ use Rattle.waitings.proofs.parts.Parts.has.Goals as goal
 pub returns : goal.returns
 returns c =
     c.any_has.ensures ∙ (ap (list_any (has_in c.args.switch c.args.number)) c.as_slice.ensures
-    ∙ (has_all c.args.switch c.args.number c.self.inside.spans c.self.invariant
+    ∙ (has_all c.args.switch c.args.number c.self.inside.spans.items c.self.invariant
     ∙ ap (list_any (is_part c.args.switch c.args.number)) c.self.view_is))

@@ -8,4 +8,4 @@ use Rattle.waitings.proofs.parts.Parts.has_of.Goals as goal
 pub returns : goal.returns
 returns c =
     c.any_of.ensures ∙ (ap (list_any (λ (s : Span). s.switch == c.args.switch)) c.as_slice.ensures
-    ∙ (any_of c.args.switch c.self.inside.spans ∙ ap (list_any (of_it c.args.switch)) c.self.view_is))
+    ∙ (any_of c.args.switch c.self.inside.spans.items ∙ ap (list_any (of_it c.args.switch)) c.self.view_is))

@@ -7,4 +7,5 @@ use Rattle.waitings.proofs.parts.Parts.is_empty.Goals as goal
 
 pub returns : goal.returns
 returns c =
-    c.is_empty.ensures ∙ (none_waited c.self.inside.spans ∙ ap (λ (ps : List Part). length ps == 0) c.self.view_is)
+    c.is_empty.ensures
+    ∙ (none_waited c.self.inside.spans.items ∙ ap (λ (ps : List Part). length ps == 0) c.self.view_is)

@@ -10,7 +10,7 @@ use Rattle.waitings.proofs.parts.Parts.without.Goals as goal
 pub loop-span-preserved : goal.loop-span-preserved
 loop-span-preserved c = record {
   left = without_more (λ (part : Part). not (is_part c.args.switch c.args.number part)) c.as_slice-span-items.result.now
-      c.loop-span.span-index _ c.loop-span.spans c.push_without.new.spans c.loop-span-test.true
+      c.loop-span.span-index _ c.loop-span.spans.items c.push_without.new.spans.items c.loop-span-test.true
       c.loop-span.invariant.left c.in_ok-push_without.ensures.left;
   spans = c.in_ok-push_without.ensures.spans c.loop-span.invariant.spans;
   given = c.loop-span.invariant.given;

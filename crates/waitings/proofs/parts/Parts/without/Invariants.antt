@@ -9,8 +9,8 @@ use Rattle.waitings.proofs.parts.Parts.without.Given as goal
 -- what is left of the spans so far
 abbrev pub invariant-loop-span : goal.invariant-loop-span
 invariant-loop-span l = record {
-  left : all_spelled l.spans
+  left : all_spelled l.spans.items
       ≡ filter (λ (part : Part). not (is_part l.switch l.number part)) (all_spelled (take l.span-index l.span-items));
-  spans : AllByRecursion IsSpan l.spans;
+  spans : AllByRecursion IsSpan l.spans.items;
   given : AllByRecursion IsSpan l.span-items;
 }
