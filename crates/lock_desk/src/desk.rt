@@ -11,7 +11,7 @@ use std::sync::Wait;
 use std::thread::{self, Threads};
 
 // How often a reader lets other threads run where much waits for those that write.
-const YIELDS: u32 = 128;
+const YIELDS: u32 = 1024;
 
 /// The lock over a machine of sessions, as these see it. A pass is a seat of the lock.
 #[derive(Drop)]
