@@ -1,7 +1,7 @@
 //! The loop that writes to a peer.
 use super::desks::{Book, Call, Log, SESSION};
 use cv_io::{Bytes, List, Memory};
-use outside::{MemClock, MemSink};
+use outside::{Clock, MemClock, MemSink};
 use sessions::{WriteEnd, run_writer};
 use std::alloc::Global;
 use std::sync::Wait;
@@ -52,6 +52,41 @@ fn a_writer_that_waits(rt: HostRuntime) -> Result<(), Fail> {
     ];
     assert!(rt; calls.as_slice() == want.as_slice());
     assert!(rt; held.is_empty());
+    Ok(())
+}
+
+/// A clock that notes whether each rest is told how many went before it.
+#[derive(Drop)]
+struct Resting {
+    rests: u32,
+    told: bool,
+}
+
+impl Clock for Resting {
+    ghost greatest = { λ _. 0 };
+
+    fn now(&mut self) -> u64 {
+        0
+    }
+
+    fn rest(&mut self, turns: u32) {
+        self.told = self.told && turns == self.rests;
+        self.rests = self.rests.saturating_add(1);
+    }
+}
+
+#[test]
+fn a_rest_is_told_how_many_went_before(rt: HostRuntime) -> Result<(), Fail> {
+    let mut pass = Log::new(rt.alloc(), 0, 3);
+    let mut sink = MemSink::new(Bytes::new(rt.alloc()), List::new(rt.alloc()));
+    let mut clock = Resting {
+        rests: 0,
+        told: true,
+    };
+    let end = run_writer(&rt, &Book {}, &mut pass, &SESSION, &mut sink, &mut clock);
+    drop(pass);
+    assert_eq!(rt; end?, WriteEnd::Closed { at: 7 });
+    assert!(rt; clock.told && clock.rests == 3);
     Ok(())
 }
 
