@@ -240,49 +240,6 @@ fn members_have_these_outcomes(rt: HostRuntime) -> Result<(), Fail> {
     Ok(())
 }
 
-/// What the operator is told of what reading gave.
-fn told(alloc: Global, read: &Result<Policy, PolicyFault>) -> Result<String, Fail> {
-    match read {
-        Ok(_) => Ok(format!(in alloc; "accepted")?),
-        Err(fault) => Ok(format!(in alloc; "{fault}")?),
-    }
-}
-
-/// What the operator is told of a file.
-fn sentence(alloc: Global, texts: [&str; 2]) -> Result<String, Fail> {
-    let file = joined(alloc, texts)?;
-    let read = read(alloc, file.as_bytes());
-    let said = told(alloc, &read);
-    drop(read);
-    said
-}
-
-/// Texts, and what the operator is told.
-const SENTENCES: &[([&str; 2], &str)] = &[
-    (["version = 3", ""], "version: has to be 1 or 2"),
-    (["", ""], "version: this key has to be given"),
-    (
-        ["hops = 4", PAIR],
-        "virtual switch v1 needs 65536 levels of priority, of 65534: give its members fewer bits, or allow fewer hops",
-    ),
-    (
-        ["version = 1\n[[cable]]\na = \"s1:1\"\nb = \"s2:1\"", ""],
-        "there is no port s1:1",
-    ),
-    (
-        [LINE, "ports = [1, 1]"],
-        "member[0].ports: has to list ports of the virtual switch, each once",
-    ),
-];
-
-#[test]
-fn the_operator_is_told(rt: HostRuntime) -> Result<(), Fail> {
-    for (texts, want) in SENTENCES {
-        assert_eq!(rt; sentence(rt.alloc(), *texts)?.as_str(), *want);
-    }
-    Ok(())
-}
-
 /// How many levels are needed, if reading refused a file for them.
 fn levels(read: &Result<Policy, PolicyFault>) -> Option<u64> {
     match read {

@@ -2,7 +2,6 @@
 ghost use Rattle.std.specs.Prelude.{◌≡◌};
 ghost use Rattle.policies.specs.declared.fault.PolicyFault.TheVariants as faults;
 
-use crate::sentence::{ExprSentence, TopologySentence, allowed};
 use cv_io::{Memory, Text};
 use inner_paths::PathFault;
 use policy_expr::ExprFault;
@@ -12,7 +11,7 @@ use virtual_topology::TopologyFault;
 
 /// What is wrong with a policy file, in the order in which faults are looked for, each in the whole file
 /// before the next; or want of memory. The name is that of a top key, as `hops`, of a key of an item, as
-/// `member[0].bits`, or of a virtual switch. It is a sentence to the operator.
+/// `member[0].bits`, or of a virtual switch.
 #[derive(Debug, Drop, Error)]
 pub enum PolicyFault {
     #[error("the file is longer than 1048576 bytes")]
@@ -23,15 +22,15 @@ pub enum PolicyFault {
     Key { name: Text },
     #[error("{name}: this key has to be given")]
     Missing { name: Text },
-    #[error("{name}: {}", allowed(.name.as_bytes()))]
+    #[error("{name}: this value can't stand here")]
     Value { name: Text },
-    #[error("the expression of virtual switch {name}: {}", ExprSentence(.fault))]
+    #[error("the expression of virtual switch {name}: {fault}")]
     Expr { name: Text, fault: ExprFault },
-    #[error("{}", TopologySentence(.fault))]
+    #[error("{fault}")]
     Topology { fault: TopologyFault },
     #[error("the outside ports of a virtual switch: {fault}")]
     Paths { fault: PathFault },
-    #[error("virtual switch {name} needs {needed} levels of priority, of {limit}: give its members fewer bits, or allow fewer hops")]
+    #[error("virtual switch {name} needs {needed} levels of priority, of {limit}")]
     TooWide { name: Text, needed: u64, limit: u64 },
     #[error("out of memory")]
     Memory,

@@ -6,7 +6,6 @@ mod fault;
 mod numbers;
 mod policy;
 mod port_views;
-mod sentence;
 mod showing;
 mod switch_exprs;
 mod terse;

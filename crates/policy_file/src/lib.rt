@@ -15,5 +15,6 @@ mod tables;
 mod values;
 mod words;
 
+pub use keys::{ItemKind, KeyRow, TOP_KEYS, Version};
 pub use known::{bench, built_in};
 pub use reading::read;
