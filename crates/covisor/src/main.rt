@@ -1,6 +1,6 @@
 //! The program `covisor`: a hypervisor for OpenFlow 1.0 networks. The words after its name say what it does; a script
-//! comes on standard input, a report goes to standard output, policies are files, controllers and switches are reached
-//! over TCP.
+//! comes on standard input, a report goes to standard output, sentences to the operator go to standard error, policies are
+//! files, controllers and switches are reached over TCP.
 #![tactic(auto)]
 
 ghost use Rattle.std.specs.Prelude.{◌≡◌, ◌<◌};
@@ -52,6 +52,7 @@ where
     let mut files = DiskFiles::new(host);
     let mut input = Incoming::new(host.stdin());
     let mut out = Outgoing::new(io::writer(host));
+    let mut notes = Outgoing::new(host.stderr());
     let mut spawner = ScopeSpawner::new();
     let clock = SystemClock::new(host);
     let mut steps = Steps::<G>::new(blank);
@@ -62,6 +63,7 @@ where
         &mut files,
         &mut input,
         &mut out,
+        &mut notes,
         links,
         &mut spawner,
         &clock,

@@ -7,3 +7,5 @@ pub mod Opening
 pub mod Following
 pub mod Serving
 pub mod Runs
+pub mod LineNotes
+pub mod Noted

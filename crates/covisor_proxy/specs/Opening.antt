@@ -36,7 +36,7 @@ AnswersTo None files old new file = ⊤
 -- bytes state a policy, or are refused
 abbrev pub Reads : List ℕ → Result PolicyOf NoPolicy → Type 0
 Reads bytes (Ok p) = stated bytes ≡ Ok p
-Reads bytes (Err (none.Refused fault)) = stated bytes ≡ Err fault
+Reads bytes (Err (none.Refused fault place)) = stated bytes ≡ Err fault
 Reads bytes (Err none.Memory) = ⊤
 Reads bytes (Err none.Absent) = ⊥
 Reads bytes (Err none.Unread) = ⊥
@@ -44,7 +44,7 @@ Reads bytes (Err none.Unread) = ⊥
 -- what files hold under a name states a policy, or is refused; or they hold nothing, or a read failed
 abbrev pub Opens : Option (List MemFile) → ℕ → ℕ → List ℕ → Result PolicyOf NoPolicy → Type 0
 Opens files old new name (Ok p) = (bytes : List ℕ) × Holds files name (Some bytes) × (stated bytes ≡ Ok p)
-Opens files old new name (Err (none.Refused fault)) = (bytes : List ℕ) × Holds files name (Some bytes)
+Opens files old new name (Err (none.Refused fault place)) = (bytes : List ℕ) × Holds files name (Some bytes)
     × (stated bytes ≡ Err fault)
 Opens files old new name (Err none.Absent) = Holds files name None
 Opens files old new name (Err none.Unread) = Rose old new

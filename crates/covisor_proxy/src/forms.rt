@@ -8,11 +8,15 @@ ghost use Rattle.covisor_proxy.specs.Asked.{cut_given_of, given_of, over_built_i
 ghost use Rattle.covisor_proxy.specs.BuiltIn.{built_in_read};
 ghost use Rattle.covisor_proxy.specs.Chunks.{IsAtEnd};
 ghost use Rattle.covisor_proxy.specs.Following.{EndsWith, IsBegun};
+ghost use Rattle.covisor_proxy.specs.Noted.{NotesFile, NotesOver};
 ghost use Rattle.covisor_proxy.specs.Outcomes.{Ends, moment};
+ghost use Rattle.script_text.specs.declared.form.Form.TheVariants as forms;
 ghost use Rattle.covisor_proxy.specs.Runs.{EndsOver};
 
 use crate::ending::conclude;
+use crate::line_notes::session_names;
 use crate::lines::Lines;
+use crate::noting::note_end;
 use crate::opening::{open, open_built_in};
 use crate::replay::replay_over;
 use crate::status::Status;
@@ -45,21 +49,25 @@ fn begin<R: Threads + Sync>(
 }
 
 /// Replays a script over a policy.
-fn replay<R: Threads + Sync, S: Source, K: Sink, G: Ledger>(
+fn replay<R: Threads + Sync, S: Source, K: Sink, N: Sink, G: Ledger>(
     rt: &R,
     alloc: Global,
     form: Form,
     policy: Policy,
     input: &mut S,
     out: &mut K,
+    notes: &mut N,
     steps: &mut Steps<G>,
 ) -> Status
     ensures ends { Ends result (given_of form policy) (cut_given_of form policy)
         (moment (S.remaining input.old) (S.faults input.old) (K.held out.old) (K.faults out.old) steps.old)
         (moment (S.remaining input.new) (S.faults input.new) (K.held out.new) (K.faults out.new) steps.new) }
+    ensures notes { NotesOver result form (given_of form policy) (S.remaining input.old)
+        (N.held notes.old) (N.held notes.new) }
     ensures form { result ≢ Status.Usage }
     ensures whole { result ≡ Status.Done → IsAtEnd (S.remaining input.new) }
 {
+    let names = session_names(alloc, &policy).unwrap_or(Text::new(alloc));
     let Ok(mut lines) = Lines::new(alloc) else {
         return Status::Memory;
     };
@@ -67,33 +75,39 @@ fn replay<R: Threads + Sync, S: Source, K: Sink, G: Ledger>(
         return Status::Memory;
     };
     let outcome = replay_over(rt, &mut player, &mut lines, input, out, steps);
+    let number = player.number() + 1;
     let status = conclude(alloc, &mut player, outcome, out);
     player.close();
+    let line = lines.line();
+    note_end(alloc, notes, status, outcome, form, number, line, names);
     status
 }
 
 /// Replays a script over the built-in policy.
-pub(crate) fn replay_built_in<R: Threads + Sync, S: Source, K: Sink, G: Ledger>(
+pub(crate) fn replay_built_in<R: Threads + Sync, S: Source, K: Sink, N: Sink, G: Ledger>(
     rt: &R,
     alloc: Global,
     input: &mut S,
     out: &mut K,
+    notes: &mut N,
     steps: &mut Steps<G>,
 ) -> Status
     ensures ends { Ends result (over_built_in given_of built_in_read) (over_built_in cut_given_of built_in_read)
         (moment (S.remaining input.old) (S.faults input.old) (K.held out.old) (K.faults out.old) steps.old)
         (moment (S.remaining input.new) (S.faults input.new) (K.held out.new) (K.faults out.new) steps.new) }
+    ensures notes { NotesOver result forms.Replay (over_built_in given_of built_in_read) (S.remaining input.old)
+        (N.held notes.old) (N.held notes.new) }
     ensures form { result ≢ Status.Usage }
     ensures whole { result ≡ Status.Done → IsAtEnd (S.remaining input.new) }
 {
     match open_built_in(alloc) {
-        Ok(policy) => replay(rt, alloc, Form::Replay, policy, input, out, steps),
+        Ok(policy) => replay(rt, alloc, Form::Replay, policy, input, out, notes, steps),
         Err(_) => Status::Memory,
     }
 }
 
 /// Replays a script over the policy of a file.
-pub(crate) fn replay_file<R: Threads + Sync, F: Files, S: Source, K: Sink, G: Ledger>(
+pub(crate) fn replay_file<R: Threads + Sync, F: Files, S: Source, K: Sink, N: Sink, G: Ledger>(
     rt: &R,
     alloc: Global,
     form: Form,
@@ -101,17 +115,20 @@ pub(crate) fn replay_file<R: Threads + Sync, F: Files, S: Source, K: Sink, G: Le
     files: &mut F,
     input: &mut S,
     out: &mut K,
+    notes: &mut N,
     steps: &mut Steps<G>,
 ) -> Status
     ensures ends { EndsOver result form name.now (F.files files.old) (F.faults files.old) (F.faults files.new)
         (moment (S.remaining input.old) (S.faults input.old) (K.held out.old) (K.faults out.old) steps.old)
         (moment (S.remaining input.new) (S.faults input.new) (K.held out.new) (K.faults out.new) steps.new) }
+    ensures notes { NotesFile result form name.now (F.files files.old) (F.faults files.old) (F.faults files.new)
+        (S.remaining input.old) (N.held notes.old) (N.held notes.new) }
     ensures form { result ≢ Status.Usage }
     ensures whole { result ≡ Status.Done → IsAtEnd (S.remaining input.new) }
 {
     match open(alloc, files, name) {
-        Ok(policy) => replay(rt, alloc, form, policy, input, out, steps),
-        Err(fault) => tell(alloc, name, fault, out),
+        Ok(policy) => replay(rt, alloc, form, policy, input, out, notes, steps),
+        Err(fault) => tell(alloc, name, fault, out, notes),
     }
 }
 

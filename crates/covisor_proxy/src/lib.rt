@@ -4,8 +4,10 @@
 
 mod ending;
 mod forms;
+mod line_notes;
 mod lines;
 mod live;
+mod noting;
 mod opening;
 mod program;
 mod replay;

@@ -2,11 +2,13 @@
 ghost use Rattle.std.specs.Prelude.{◌≡◌, ◌≢◌, List, Option, Some, ℕ};
 ghost use Rattle.outside.specs.Outside.{Rose};
 ghost use Rattle.command_line.specs.declared.command.Command.TheVariants as commands;
+ghost use Rattle.covisor_proxy.specs.Noted.{Notes, NotesServed};
 ghost use Rattle.covisor_proxy.specs.Outcomes.{moment};
 ghost use Rattle.covisor_proxy.specs.Runs.{Ended};
 ghost use Rattle.covisor_proxy.specs.Serving.{EndsServing, NeverFail, links_of};
 
 use crate::ending::write_fault;
+use crate::noting::{LINK, SPAWN, note_remarks, note_words};
 use crate::opening::open;
 use crate::status::Status;
 use crate::telling::tell;
@@ -26,6 +28,7 @@ pub(crate) fn serve_file<
     R: Wait + Threads + Sync,
     F: Files,
     K: Sink + Send,
+    N: Sink,
     L: Links,
     P: Spawner,
     C: Clock + Duplicate + Drop + Send,
@@ -35,6 +38,7 @@ pub(crate) fn serve_file<
     name: &Text,
     files: &mut F,
     out: &mut K,
+    notes: &mut N,
     links: &mut L,
     spawner: &mut P,
     clock: &C,
@@ -48,6 +52,8 @@ where
         (Some (commands.Serve name.now)) (F.files files.old) (F.faults files.old) (F.faults files.new)
         (moment left reads (K.held out.old) (K.faults out.old) steps)
         (moment left reads (K.held out.new) (K.faults out.new) steps) }
+    ensures notes { (left : Option (List ℕ)) → Notes result (Some (commands.Serve name.now)) (F.files files.old)
+        (F.faults files.old) (F.faults files.new) left (N.held notes.old) (N.held notes.new) }
     ensures form { result ≢ Status.Usage }
     ensures link { result ≡ Status.Link
         → NeverFail (links_of (L.told links.old) (L.is_reliable links.old) (L.faults links.old) (L.faults links.new))
@@ -55,8 +61,8 @@ where
     ensures spawn { result ≡ Status.Spawn → Rose (P.faults spawner.old) (P.faults spawner.new) }
 {
     match open(alloc, files, name) {
-        Ok(policy) => serve(rt, alloc, policy, out, links, spawner, clock),
-        Err(fault) => tell(alloc, name, fault, out),
+        Ok(policy) => serve(rt, alloc, policy, out, notes, links, spawner, clock),
+        Err(fault) => tell(alloc, name, fault, out, notes),
     }
 }
 
@@ -64,6 +70,7 @@ where
 fn serve<
     R: Wait + Threads + Sync,
     K: Sink + Send,
+    N: Sink,
     L: Links,
     P: Spawner,
     C: Clock + Duplicate + Drop + Send,
@@ -72,6 +79,7 @@ fn serve<
     alloc: Global,
     policy: Policy,
     out: &mut K,
+    notes: &mut N,
     links: &mut L,
     spawner: &mut P,
     clock: &C,
@@ -84,15 +92,23 @@ where
         (links_of (L.told links.old) (L.is_reliable links.old) (L.faults links.old) (L.faults links.new)) result policy
         (moment left reads (K.held out.old) (K.faults out.old) steps)
         (moment left reads (K.held out.new) (K.faults out.new) steps) }
+    ensures notes { NotesServed result policy (N.held notes.old) (N.held notes.new) }
     ensures link { result ≡ Status.Link
         → NeverFail (links_of (L.told links.old) (L.is_reliable links.old) (L.faults links.old) (L.faults links.new))
         → Rose (L.faults links.old) (L.faults links.new) }
     ensures spawn { result ≡ Status.Spawn → Rose (P.faults spawner.old) (P.faults spawner.new) }
 {
+    note_remarks(alloc, notes, &policy);
     match serve_policy(rt, alloc, policy, out, links, spawner, clock) {
         Served::Done => Status::Done,
-        Served::Link => write_fault(out, b"fault link\n", Status::Link),
-        Served::Spawn => write_fault(out, b"fault spawn\n", Status::Spawn),
+        Served::Link => {
+            note_words(alloc, notes, LINK);
+            write_fault(out, b"fault link\n", Status::Link)
+        }
+        Served::Spawn => {
+            note_words(alloc, notes, SPAWN);
+            write_fault(out, b"fault spawn\n", Status::Spawn)
+        }
         Served::Write => Status::Write,
         Served::Memory => Status::Memory,
     }

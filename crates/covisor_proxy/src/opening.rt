@@ -1,11 +1,13 @@
 //! The policy that a file holds.
-ghost use Rattle.std.specs.Prelude.{◌≡◌, IfOk, Ok};
+ghost use Rattle.std.specs.Prelude.{◌≡◌, Err, IfOk, Ok};
+ghost use Rattle.covisor_proxy.specs.Asked.{stated};
 ghost use Rattle.covisor_proxy.specs.BuiltIn.{built_in_read};
 ghost use Rattle.covisor_proxy.specs.Opening.{Opens, Reads};
 
 use cv_io::{Memory, Text};
 use outside::{FileFault, Files};
 use policies::{Policy, PolicyFault};
+use policy_notes::{Place, find_place};
 use std::alloc::Global;
 
 /// Why there is no policy of a name.
@@ -13,7 +15,7 @@ use std::alloc::Global;
 pub(crate) enum NoPolicy {
     Absent,
     Unread,
-    Refused { fault: PolicyFault },
+    Refused { fault: PolicyFault, place: Place },
     Memory,
 }
 
@@ -36,6 +38,17 @@ pub(crate) fn open<F: Files>(alloc: Global, files: &mut F, name: &Text) -> Resul
     }
 }
 
+/// The fault of bytes that state no policy, and where it stands.
+fn refused(alloc: Global, bytes: &[u8], fault: PolicyFault) -> Result<Policy, NoPolicy>
+    requires { stated bytes.now ≡ Err fault }
+    ensures { Reads bytes.now result }
+{
+    match find_place(alloc, bytes, &fault) {
+        Ok(place) => Err(NoPolicy::Refused { fault, place }),
+        Err(_) => Err(NoPolicy::Memory),
+    }
+}
+
 /// The policy that bytes state.
 #[tactic(auto, unfolding(crate::specs::Asked::stated))]
 fn read_policy(alloc: Global, bytes: &[u8]) -> Result<Policy, NoPolicy>
@@ -44,6 +57,6 @@ fn read_policy(alloc: Global, bytes: &[u8]) -> Result<Policy, NoPolicy>
     match policy_file::read(alloc, bytes) {
         Ok(policy) => Ok(policy),
         Err(PolicyFault::Memory) => Err(NoPolicy::Memory),
-        Err(fault) => Err(NoPolicy::Refused { fault }),
+        Err(fault) => refused(alloc, bytes, fault),
     }
 }

@@ -2,6 +2,7 @@
 ghost use Rattle.std.specs.Prelude.{◌≡◌, ◌≢◌, ◌↔◌, ◌⊎◌, None, Some, true};
 ghost use Rattle.outside.specs.Outside.{Rose};
 ghost use Rattle.covisor_proxy.specs.Chunks.{IsAtEnd};
+ghost use Rattle.covisor_proxy.specs.Noted.{Noted, Notes};
 ghost use Rattle.covisor_proxy.specs.Outcomes.{moment};
 ghost use Rattle.covisor_proxy.specs.Runs.{Ended, IsAbsent, IsComplete, IsCounted, IsRefused, Runs, calls, has_script};
 ghost use Rattle.covisor_proxy.specs.Serving.{NeverFail, links_of};
@@ -37,6 +38,10 @@ pub const MEMORY: u8 = 10;
 /// 7 where there is no such file; 8 where an endpoint can't be dialled, and the others were served; 9 where the works
 /// that serve can't be run; 10 for want of memory. With 2, 3, 4, 5, 7, 8 and 9 the last line tells the fault.
 ///
+/// `notes` is told a sentence for each fault: with 3 what is wrong with the policy and where it stands, with 4 the line
+/// and why it isn't done, with 5, 7, 8 and 9 what can't be read, is absent or wasn't served; and before a policy is served
+/// what there is to remark of it. A sentence that can't be written there changes no status.
+///
 /// The steps of composition that the lines of a script take are counted in `steps`; those of a policy that is served
 /// are not.
 pub fn run<
@@ -44,6 +49,7 @@ pub fn run<
     F: Files,
     S: Source,
     K: Sink + Send,
+    N: Sink,
     L: Links,
     P: Spawner,
     C: Clock + Duplicate + Drop + Send,
@@ -55,6 +61,7 @@ pub fn run<
     files: &mut F,
     input: &mut S,
     out: &mut K,
+    notes: &mut N,
     links: &mut L,
     spawner: &mut P,
     clock: &C,
@@ -71,6 +78,8 @@ where
         (moment (S.remaining input.new) (S.faults input.new) (K.held out.new) (K.faults out.new) steps.new) }
     ensures steps { IsCounted (command_of words.now) (F.files files.old) (F.faults files.old) (F.faults files.new)
         (S.remaining input.old) steps.old steps.new }
+    ensures notes { Noted result (command_of words.now) (F.files files.old) (F.faults files.old) (F.faults files.new)
+        (S.remaining input.old) (N.held notes.old) (N.held notes.new) }
     ensures usage { (result ≡ 2) ↔ (command_of words.now ≡ None) }
     ensures refused { result ≡ 3 → IsRefused (command_of words.now) (F.files files.old) }
     ensures absent { result ≡ 7 → IsAbsent (command_of words.now) (F.files files.old) }
@@ -91,7 +100,7 @@ where
         (moment (S.remaining input.new) (S.faults input.new) (K.held out.new) (K.faults out.new) steps.new) }
 {
     answer(
-        rt, alloc, words, files, input, out, links, spawner, clock, steps,
+        rt, alloc, words, files, input, out, notes, links, spawner, clock, steps,
     )
     .code()
 }
@@ -102,6 +111,7 @@ fn answer<
     F: Files,
     S: Source,
     K: Sink + Send,
+    N: Sink,
     L: Links,
     P: Spawner,
     C: Clock + Duplicate + Drop + Send,
@@ -113,6 +123,7 @@ fn answer<
     files: &mut F,
     input: &mut S,
     out: &mut K,
+    notes: &mut N,
     links: &mut L,
     spawner: &mut P,
     clock: &C,
@@ -127,6 +138,8 @@ where
         (command_of words.now) (F.files files.old) (F.faults files.old) (F.faults files.new)
         (moment (S.remaining input.old) (S.faults input.old) (K.held out.old) (K.faults out.old) steps.old)
         (moment (S.remaining input.new) (S.faults input.new) (K.held out.new) (K.faults out.new) steps.new) }
+    ensures notes { Notes result (command_of words.now) (F.files files.old) (F.faults files.old) (F.faults files.new)
+        (S.remaining input.old) (N.held notes.old) (N.held notes.new) }
     ensures usage { (result ≡ Status.Usage) ↔ (command_of words.now ≡ None) }
     ensures link { result ≡ Status.Link
         → NeverFail (links_of (L.told links.old) (L.is_reliable links.old) (L.faults links.old) (L.faults links.new))
@@ -136,7 +149,7 @@ where
 {
     match asked(alloc, words) {
         Ok(command) => respond(
-            rt, alloc, command, files, input, out, links, spawner, clock, steps,
+            rt, alloc, command, files, input, out, notes, links, spawner, clock, steps,
         ),
         Err(_) => Status::Memory,
     }
@@ -148,6 +161,7 @@ fn respond<
     F: Files,
     S: Source,
     K: Sink + Send,
+    N: Sink,
     L: Links,
     P: Spawner,
     C: Clock + Duplicate + Drop + Send,
@@ -159,6 +173,7 @@ fn respond<
     files: &mut F,
     input: &mut S,
     out: &mut K,
+    notes: &mut N,
     links: &mut L,
     spawner: &mut P,
     clock: &C,
@@ -173,6 +188,8 @@ where
         (command) (F.files files.old) (F.faults files.old) (F.faults files.new)
         (moment (S.remaining input.old) (S.faults input.old) (K.held out.old) (K.faults out.old) steps.old)
         (moment (S.remaining input.new) (S.faults input.new) (K.held out.new) (K.faults out.new) steps.new) }
+    ensures notes { Notes result (command) (F.files files.old) (F.faults files.old) (F.faults files.new)
+        (S.remaining input.old) (N.held notes.old) (N.held notes.new) }
     ensures usage { (result ≡ Status.Usage) ↔ (command ≡ None) }
     ensures link { result ≡ Status.Link
         → NeverFail (links_of (L.told links.old) (L.is_reliable links.old) (L.faults links.old) (L.faults links.new))
@@ -182,7 +199,7 @@ where
 {
     match command {
         Some(command) => obey(
-            rt, alloc, command, files, input, out, links, spawner, clock, steps,
+            rt, alloc, command, files, input, out, notes, links, spawner, clock, steps,
         ),
         None => write_fault(out, b"fault usage\n", Status::Usage),
     }
@@ -194,6 +211,7 @@ fn obey<
     F: Files,
     S: Source,
     K: Sink + Send,
+    N: Sink,
     L: Links,
     P: Spawner,
     C: Clock + Duplicate + Drop + Send,
@@ -205,6 +223,7 @@ fn obey<
     files: &mut F,
     input: &mut S,
     out: &mut K,
+    notes: &mut N,
     links: &mut L,
     spawner: &mut P,
     clock: &C,
@@ -219,6 +238,8 @@ where
         (Some command) (F.files files.old) (F.faults files.old) (F.faults files.new)
         (moment (S.remaining input.old) (S.faults input.old) (K.held out.old) (K.faults out.old) steps.old)
         (moment (S.remaining input.new) (S.faults input.new) (K.held out.new) (K.faults out.new) steps.new) }
+    ensures notes { Notes result (Some command) (F.files files.old) (F.faults files.old) (F.faults files.new)
+        (S.remaining input.old) (N.held notes.old) (N.held notes.new) }
     ensures form { result ≢ Status.Usage }
     ensures link { result ≡ Status.Link
         → NeverFail (links_of (L.told links.old) (L.is_reliable links.old) (L.faults links.old) (L.faults links.new))
@@ -227,15 +248,35 @@ where
     ensures whole { result ≡ Status.Done → has_script (Some command) ≡ true → IsAtEnd (S.remaining input.new) }
 {
     match command {
-        Command::Replay => replay_built_in(rt, alloc, input, out, steps),
+        Command::Replay => replay_built_in(rt, alloc, input, out, notes, steps),
         Command::ReplayPolicy { name } => {
-            replay_file(rt, alloc, Form::Replay, &name, files, input, out, steps)
+            replay_file(
+                rt,
+                alloc,
+                Form::Replay,
+                &name,
+                files,
+                input,
+                out,
+                notes,
+                steps,
+            )
         }
         Command::ExplainPolicy { name } => {
-            replay_file(rt, alloc, Form::Explain, &name, files, input, out, steps)
+            replay_file(
+                rt,
+                alloc,
+                Form::Explain,
+                &name,
+                files,
+                input,
+                out,
+                notes,
+                steps,
+            )
         }
         Command::Serve { name } => {
-            serve_file(rt, alloc, &name, files, out, links, spawner, clock)
+            serve_file(rt, alloc, &name, files, out, notes, links, spawner, clock)
         }
         Command::Make { seed, count } => make(rt, alloc, seed, count, out, steps),
     }

@@ -1,0 +1,209 @@
+//! What the operator is told of a line of a script that isn't done.
+ghost use Rattle.std.specs.Prelude.{◌≡◌, ◌++◌, IfOk, IsTrue, OnOk};
+ghost use Rattle.std.specs.List.{list_all};
+ghost use Rattle.script_text.specs.Lines.{is_ascii};
+ghost use Rattle.covisor_proxy.specs.LineNotes.{known_text, line_note_of, name_text as name_text_of, quoted};
+ghost use Rattle.covisor_proxy.specs.LineNotes.{shape_text as shape_text_of, verbs_text as verbs_text_of, why_text};
+ghost use Rattle.covisor_proxy.specs.LineNotes.{word_text};
+
+use cv_io::{Memory, Text};
+use policies::Policy;
+use replay_report::Kind;
+use script_text::form::Verb;
+use script_text::{Form, say, say_number};
+use std::alloc::Global;
+
+/// The most characters that are shown of a line.
+const SHOWN: usize = 60;
+
+/// What the operator is shown of a line.
+#[derive(Debug, Drop)]
+pub(crate) struct Seen {
+    /// Its first word, if the form knows it.
+    pub(crate) verb: Option<Verb>,
+    /// How it begins.
+    pub(crate) shown: Text,
+    /// The names of the sessions that there are.
+    pub(crate) names: Text,
+}
+
+/// How a line begins, with `?` for what isn't printable ASCII.
+fn beginning(alloc: Global, line: &[u8]) -> Result<Text, Memory> {
+    let mut text = Text::new(alloc);
+    for byte in line.iter().take(SHOWN) {
+        let byte = *byte;
+        text.push(if byte == b' ' || byte.is_ascii_graphic() {
+            byte
+        } else {
+            b'?'
+        })?;
+    }
+    Ok(text)
+}
+
+/// The bytes before the first blank.
+fn first_word(line: &[u8]) -> &[u8] {
+    match line.iter().position(|byte| *byte == b' ') {
+        Some(at) => &line[..at],
+        None => line,
+    }
+}
+
+/// What is shown of a line that isn't done for such a cause; of one that is too long nothing.
+pub(crate) fn see(alloc: Global, form: Form, kind: Kind, line: &[u8], names: Text) -> Seen {
+    let shown = match kind {
+        Kind::Long | Kind::Size => Ok(Text::new(alloc)),
+        _ => beginning(alloc, line),
+    };
+    Seen {
+        verb: form.verb(first_word(line)),
+        shown: shown.unwrap_or(Text::new(alloc)),
+        names,
+    }
+}
+
+/// Appends a name behind those that are there.
+fn push_name(names: &mut Text, name: &Text, at: Option<&Text>) -> Result<(), Memory> {
+    if !names.is_empty() {
+        say(names, ", ")?;
+    }
+    names.push_text(name)?;
+    if let Some(at) = at {
+        say(names, "@")?;
+        names.push_text(at)?;
+    }
+    Ok(())
+}
+
+/// The names of the sessions of a policy.
+pub(crate) fn session_names(alloc: Global, policy: &Policy) -> Result<Text, Memory> {
+    let mut names = Text::new(alloc);
+    for member in policy.members.as_slice() {
+        push_name(&mut names, &member.controller, Some(&member.vsw))?;
+    }
+    for switch in policy.switches.as_slice() {
+        push_name(&mut names, &switch.name, None)?;
+    }
+    Ok(names)
+}
+
+/// The first words that a form knows.
+fn verbs_text(form: Form) -> &'static str
+    ensures text { result.now ≡ verbs_text_of form }
+    ensures ascii { IsTrue (list_all is_ascii result.now) }
+{
+    match form {
+        Form::Replay => "a line is up, from, gone, tick or expr",
+        Form::Explain => "a line is up, from, gone, tick, expr or ask",
+        Form::Sim => "a line is up, from, gone, tick, expr or packet",
+    }
+}
+
+/// How a line of a first word is written.
+fn shape_text(verb: Verb) -> &'static str
+    ensures text { result.now ≡ shape_text_of verb }
+    ensures ascii { IsTrue (list_all is_ascii result.now) }
+{
+    match verb {
+        Verb::Up => "up NAME [noarp]",
+        Verb::From => "from NAME HEX",
+        Verb::Gone => "gone NAME",
+        Verb::Tick => "tick SECOND",
+        Verb::Expr => "expr VIRTUAL TEXT",
+        Verb::Ask => "ask SWITCH:PORT HEX",
+        Verb::Packet => "packet SWITCH:PORT HEX",
+    }
+}
+
+/// Appends how a line has to be written.
+fn say_word(text: &mut Text, form: Form, verb: Option<Verb>) -> Result<(), Memory>
+    ensures { OnOk result (text.new ≡ text.old ++ word_text form verb) }
+{
+    match verb {
+        Some(verb) => {
+            say(text, "it has to be ")?;
+            say(text, shape_text(verb))?;
+            say(text, ", with one blank between words")
+        }
+        None => say(text, verbs_text(form)),
+    }
+}
+
+/// What a name has to be.
+fn name_text(verb: Option<Verb>) -> &'static str
+    ensures text { result.now ≡ name_text_of verb }
+    ensures ascii { IsTrue (list_all is_ascii result.now) }
+{
+    match verb {
+        Some(Verb::Expr) => "VIRTUAL has to be a name, as v1",
+        Some(Verb::Ask | Verb::Packet) => "the place has to be SWITCH:PORT, as s1:2",
+        Some(Verb::Up | Verb::From | Verb::Gone | Verb::Tick) | None => {
+            "NAME has to be that of a session, as s1 or app@v1"
+        }
+    }
+}
+
+/// Appends what there is of what isn't there.
+fn say_known(text: &mut Text, verb: Option<Verb>, names: &Text) -> Result<(), Memory>
+    ensures { OnOk result (text.new ≡ text.old ++ known_text verb names.now) }
+{
+    match verb {
+        Some(Verb::Expr) => say(text, "there is no such virtual switch"),
+        Some(Verb::Ask | Verb::Packet) => {
+            say(text, "there is no such switch with such an outside port")
+        }
+        Some(Verb::Up | Verb::From | Verb::Gone | Verb::Tick) | None => {
+            say(text, "there is no such session; there are ")?;
+            text.push_text(names)
+        }
+    }
+}
+
+/// Appends why a line isn't done.
+fn say_why(text: &mut Text, kind: Kind, form: Form, seen: &Seen) -> Result<(), Memory>
+    ensures { OnOk result (text.new ≡ text.old ++ why_text kind form seen.now) }
+{
+    match kind {
+        Kind::Word => say_word(text, form, seen.verb),
+        Kind::Name => say(text, name_text(seen.verb)),
+        Kind::Hex => say(text, "HEX has to be hexadecimal digits, two for each byte"),
+        Kind::Number => say(
+            text,
+            "a number has to be decimal digits without leading zeros, below 2^64, a port below 65536",
+        ),
+        Kind::Unknown => say_known(text, seen.verb, &seen.names),
+        Kind::Long => say(text, "more than 140,000 bytes"),
+        Kind::Size => say(text, "the script has more than 4,294,967,295 bytes"),
+    }
+}
+
+/// Appends what is shown of a line, in quotes.
+fn say_quoted(text: &mut Text, shown: &Text) -> Result<(), Memory>
+    ensures { OnOk result (text.new ≡ text.old ++ quoted shown.now) }
+{
+    if shown.is_empty() {
+        return Ok(());
+    }
+    say(text, ", \"")?;
+    text.push_text(shown)?;
+    say(text, "\"")
+}
+
+/// That a line of this number isn't done, and why.
+pub(crate) fn line_note(
+    alloc: Global,
+    number: u64,
+    kind: Kind,
+    form: Form,
+    seen: &Seen,
+) -> Result<Text, Memory>
+    ensures { IfOk result (λ text. text ≡ line_note_of number kind form seen.now) }
+{
+    let mut text = Text::new(alloc);
+    say(&mut text, "line ")?;
+    say_number(alloc, &mut text, number)?;
+    say_quoted(&mut text, &seen.shown)?;
+    say(&mut text, ": ")?;
+    say_why(&mut text, kind, form, seen)?;
+    Ok(text)
+}
