@@ -1,5 +1,5 @@
 -- What the operator is told of a run, beside what is written.
-use Rattle.std.specs.Prelude.{◌≡◌, ◌⊎◌, ⊤, ℕ, List, [], Option, Some, None, Result, Ok, Err}
+use Rattle.std.specs.Prelude.{◌≡◌, ◌⊎◌, ⊤, ℕ, IsOk, List, [], Option, Some, None, Result, Ok, Err}
 use Rattle.outside.specs.declared.files.FileFault.{FileFault}
 use Rattle.outside.specs.declared.files.MemFile.{MemFile}
 use Rattle.policies.specs.Policies.{PolicyOf}
@@ -78,12 +78,12 @@ abbrev pub NotesEnd : Status → Result (Unit {0}) Stop → Form → ℕ → (he
 NotesEnd Line outcome form number held held' = NotesLine outcome form number held held'
 NotesEnd Read outcome form number held held' = Tells held held' script_note
 NotesEnd Done outcome form number held held' = held' ≡ held
-NotesEnd Usage outcome form number held held' = held' ≡ held
-NotesEnd Policy outcome form number held held' = held' ≡ held
+NotesEnd Usage outcome form number held held' = ⊥
+NotesEnd Policy outcome form number held held' = ⊥
 NotesEnd Write outcome form number held held' = held' ≡ held
-NotesEnd Absent outcome form number held held' = held' ≡ held
-NotesEnd Link outcome form number held held' = held' ≡ held
-NotesEnd Spawn outcome form number held held' = held' ≡ held
+NotesEnd Absent outcome form number held held' = ⊥
+NotesEnd Link outcome form number held held' = ⊥
+NotesEnd Spawn outcome form number held held' = ⊥
 NotesEnd Memory outcome form number held held' = held' ≡ held
 
 -- of a policy that there is none of, for such a cause
@@ -102,6 +102,19 @@ IsRefusal (Err stops.Write) = ⊥
 IsRefusal (Err stops.Memory) = ⊥
 IsRefusal (Ok done) = ⊥
 
+-- the statuses with which a replay of this outcome may end
+abbrev pub IsEnd : Status → Result (Unit {0}) Stop → Type 0
+IsEnd Done outcome = IsOk outcome
+IsEnd Line outcome = IsRefusal outcome
+IsEnd Read outcome = ⊤
+IsEnd Write outcome = ⊤
+IsEnd Memory outcome = ⊤
+IsEnd Usage outcome = ⊥
+IsEnd Policy outcome = ⊥
+IsEnd Absent outcome = ⊥
+IsEnd Link outcome = ⊥
+IsEnd Spawn outcome = ⊥
+
 -- the file that can't be read, or the script
 pub record TellsName (name : Option (List ℕ)) (sentence : List ℕ → List ℕ) (held held' : Option (List ℕ)) : Type 0 where
   pub called : List ℕ
@@ -113,12 +126,12 @@ abbrev pub NotesOver : Status → Form → (List ℕ → Given) → (left held h
 NotesOver Line form all left held held' = TellsLine form all left held held'
 NotesOver Read form all left held held' = Tells held held' script_note
 NotesOver Done form all left held held' = held' ≡ held
-NotesOver Usage form all left held held' = held' ≡ held
-NotesOver Policy form all left held held' = held' ≡ held
+NotesOver Usage form all left held held' = ⊥
+NotesOver Policy form all left held held' = ⊥
 NotesOver Write form all left held held' = held' ≡ held
-NotesOver Absent form all left held held' = held' ≡ held
-NotesOver Link form all left held held' = held' ≡ held
-NotesOver Spawn form all left held held' = held' ≡ held
+NotesOver Absent form all left held held' = ⊥
+NotesOver Link form all left held held' = ⊥
+NotesOver Spawn form all left held held' = ⊥
 NotesOver Memory form all left held held' = held' ≡ held
 
 -- of a replay over what a file holds
@@ -129,10 +142,10 @@ NotesHeld Read form name file left held held' =
     TellsName (Some name) unread_note_of held held' ⊎ Tells held held' script_note
 NotesHeld Absent form name file left held held' = TellsName (Some name) absent_note_of held held'
 NotesHeld Done form name file left held held' = held' ≡ held
-NotesHeld Usage form name file left held held' = held' ≡ held
+NotesHeld Usage form name file left held held' = ⊥
 NotesHeld Write form name file left held held' = held' ≡ held
-NotesHeld Link form name file left held held' = held' ≡ held
-NotesHeld Spawn form name file left held held' = held' ≡ held
+NotesHeld Link form name file left held held' = ⊥
+NotesHeld Spawn form name file left held held' = ⊥
 NotesHeld Memory form name file left held held' = held' ≡ held
 
 abbrev pub NotesFile : Status → Form → List ℕ → Option (List MemFile) → (fails fails' : ℕ)

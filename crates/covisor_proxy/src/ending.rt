@@ -8,7 +8,7 @@ ghost use Rattle.replay_report.specs.Takings.{as_line};
 ghost use Rattle.script_text.specs.declared.form.Form.{Form};
 ghost use Rattle.covisor_proxy.specs.Asked.{cut_given_of, given_of};
 ghost use Rattle.covisor_proxy.specs.Following.{EndsWith, Reaches, StopsWith, Writes};
-ghost use Rattle.covisor_proxy.specs.Noted.{IsRefusal};
+ghost use Rattle.covisor_proxy.specs.Noted.{IsEnd};
 ghost use Rattle.covisor_proxy.specs.Outcomes.{Ends, Moment, moment};
 ghost use Rattle.covisor_proxy.specs.Written.{Appends, AppendsSome};
 
@@ -44,7 +44,7 @@ pub(crate) fn conclude<K: Sink>(
         (moment left reads (K.held out.new) (K.faults out.new) steps) }
     ensures form { result ≢ Status.Usage }
     ensures done { result ≡ Status.Done → IsOk outcome }
-    ensures line { result ≡ Status.Line → IsRefusal outcome }
+    ensures end { IsEnd result outcome }
 {
     match outcome {
         Ok(()) => end(alloc, player, out),
@@ -75,7 +75,7 @@ fn stopped<K: Sink>(alloc: Global, player: &mut Player, stop: Stop, out: &mut K)
         (moment left reads (K.held out.new) (K.faults out.new) steps) }
     ensures form { result ≢ Status.Usage }
     ensures done { result ≢ Status.Done }
-    ensures line { result ≡ Status.Line → IsRefusal (Err stop) }
+    ensures end { IsEnd result (Err stop) }
 {
     match stop {
         Stop::Refused { kind } => refuse(alloc, player, kind, out),

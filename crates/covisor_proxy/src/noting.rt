@@ -5,7 +5,7 @@ ghost use Rattle.policy_notes.specs.Notes.{note_of};
 ghost use Rattle.policy_notes.specs.Remarks.{remarks_of};
 ghost use Rattle.script_text.specs.Lines.{is_ascii};
 ghost use Rattle.covisor_proxy.specs.LineNotes.{absent_note_of, unread_note_of};
-ghost use Rattle.covisor_proxy.specs.Noted.{NotesEnd, NotesLine, Tells};
+ghost use Rattle.covisor_proxy.specs.Noted.{IsEnd, NotesEnd, NotesLine, Tells};
 ghost use Rattle.covisor_proxy.specs.Written.{AppendsSome};
 
 use crate::line_notes::{line_note, see};
@@ -160,6 +160,7 @@ pub(crate) fn note_end<N: Sink>(
     line: &[u8],
     names: Text,
 )
+    requires { IsEnd status outcome }
     ensures { NotesEnd status outcome form number (N.held notes.old) (N.held notes.new) }
 {
     match status {

@@ -11,8 +11,8 @@
 //!     -- switch N M       the same of switch N
 //!     -- fail WHAT        the first such call fails: a read of the script, of a file, a write, a dial, or the running
 //!                         of works: script, file, write, dial, spawn
-//!     $ covisor WORDS..   runs the program with these words; what was written to each connection stands behind the
-//!                         status
+//!     $ covisor WORDS..   runs the program with these words; what the operator was told stands before the status, each
+//!                         line behind `note`, and what was written to each connection behind it
 #![tactic(auto)]
 
 mod row;
@@ -43,12 +43,21 @@ fn show_wire(rt: &HostRuntime, party: Party, written: &Bytes) -> io::Result<()> 
     }
 }
 
-/// Prints what a run wrote, and its status.
+/// Prints what the operator was told, a line each.
+fn show_notes(host: &HostRuntime, notes: &Bytes) -> io::Result<()> {
+    for line in str::from_utf8(notes.as_slice()).unwrap_or("").lines() {
+        println!(host; "note {line}")?;
+    }
+    Ok(())
+}
+
+/// Prints what a run wrote, what the operator was told, and its status.
 fn tell(host: &HostRuntime, row: &Row, played: &Played) -> io::Result<()> {
     print!(host;
         "{}",
         str::from_utf8(played.out.as_slice()).unwrap_or("(not text)\n")
     )?;
+    show_notes(host, &played.notes)?;
     println!(host; "status {}", played.status)?;
     for (number, written) in played.wires.as_slice().iter().enumerate() {
         if let Some(party) = row.party(number) {

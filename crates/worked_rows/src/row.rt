@@ -55,6 +55,8 @@ pub struct Row {
 pub struct Played {
     /// What was written to the output.
     pub out: Bytes,
+    /// What the operator was told.
+    pub notes: Bytes,
     pub status: u8,
     /// What was written to each connection of the row.
     pub wires: List<Bytes>,
@@ -236,9 +238,14 @@ fn play_counted<R: Wait + Threads + Sync, G: Ledger>(
         written.as_slice(),
         &mut steps,
     );
-    let out = ends.into_output();
+    let (out, notes) = ends.into_written();
     let wires = copies(rt, alloc, written.as_slice())?;
-    Ok(Played { out, status, wires })
+    Ok(Played {
+        out,
+        notes,
+        status,
+        wires,
+    })
 }
 
 /// Runs the program between these ends, over the connections of a row.
@@ -261,6 +268,7 @@ fn run_between<R: Wait + Threads + Sync, G: Ledger>(
         &mut ends.files,
         &mut ends.input,
         &mut ends.out,
+        &mut ends.notes,
         &mut links,
         &mut spawner,
         &clock,
@@ -274,6 +282,7 @@ struct Ends {
     files: MemFiles,
     input: MemSource,
     out: MemSink,
+    notes: MemSink,
 }
 
 impl Ends {
@@ -282,16 +291,19 @@ impl Ends {
         let write = first_if(alloc, row.fails.write)?;
         let input = MemSource::new(row.script.copied()?, script);
         let out = MemSink::new(Bytes::new(alloc), write);
+        let notes = MemSink::new(Bytes::new(alloc), List::new(alloc));
         Ok(Ends {
             files: row.files(alloc)?,
             input,
             out,
+            notes,
         })
     }
 
-    fn into_output(self) -> Bytes {
-        let Ends { out, .. } = self;
-        out.held
+    /// What was written to the output, and to the operator.
+    fn into_written(self) -> (Bytes, Bytes) {
+        let Ends { out, notes, .. } = self;
+        (out.held, notes.held)
     }
 }
 

@@ -3,11 +3,14 @@ use Rattle.replay_report.specs.Players.{progress_of, reported}
 use Rattle.replay_report.specs.Reports.{refusal_text}
 use Rattle.covisor_proxy.specs.Asked.{cut_given_of, given_of}
 use Rattle.covisor_proxy.specs.Following.{Reaches}
+use Rattle.replay_report.specs.Takings.{as_line}
+use Rattle.covisor_proxy.specs.Noted.{IsEnd}
 use Rattle.covisor_proxy.specs.Outcomes.{Ends, moment}
 use Rattle.covisor_proxy.specs.declared.status.Status.{Status}
 use Rattle.covisor_proxy.specs.declared.stop.Stop.{Stop}
 use Rattle.covisor_proxy.specs.declared.stop.Stop.TheVariants.{Refused, Read}
 use Rattle.covisor_proxy.proofs.Finishing.{breaks-off, ends-stopped}
+use Rattle.covisor_proxy.proofs.Noting.{stop_of}
 use Rattle.covisor_proxy.proofs.ending.stopped.Goals as goal
 
 pub returns-in-Refused-clause-ends : goal.returns-in-Refused-clause-ends
@@ -32,3 +35,15 @@ returns-in-Read-clause-ends g c = λ form p old left reads steps r.
     subst (λ (x : Status). Ends x (given_of form p) (cut_given_of form p) old new) (sym c.write_fault.ensures.status)
     (inr (breaks-off (cut_given_of form p) old mid new there.0 there.1 there.2 refl refl refl
     c.write_fault.ensures.writes))
+
+pub returns-in-Refused-clause-end : goal.returns-in-Refused-clause-end
+returns-in-Refused-clause-end g c =
+    subst (λ (x : Stop). IsEnd c.refuse.result (Err x)) (sym c.in-Refused.is)
+    (stop_of c.refuse.result (g.K.Sink.held c.args.out.now) (g.K.Sink.held c.refuse.new.out)
+    (g.K.Sink.faults c.args.out.now) (g.K.Sink.faults c.refuse.new.out) (reported c.args.player.now)
+    (as_line (refusal_text ((progress_of c.args.player.now).number + 1) c.in-Refused.kind)) c.in-Refused.kind
+    c.refuse.ensures)
+
+pub returns-in-Read-clause-end : goal.returns-in-Read-clause-end
+returns-in-Read-clause-end g c =
+    subst (λ (x : Status). IsEnd x (Err c.args.stop)) (sym c.write_fault.ensures.status) tt

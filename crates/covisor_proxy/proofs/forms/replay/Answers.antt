@@ -4,6 +4,7 @@ use Rattle.covisor_proxy.specs.Asked.{given_of}
 use Rattle.covisor_proxy.specs.Following.{IsBegun}
 use Rattle.covisor_proxy.specs.Outcomes.{moment}
 use Rattle.covisor_proxy.proofs.Finishing.{begins-none, reached-end, reaches-of}
+use Rattle.covisor_proxy.proofs.Noting.{told_end}
 use Rattle.covisor_proxy.proofs.forms.replay.Goals as goal
 
 pub returns-in_default-clause-ends : goal.returns-in_default-clause-ends
@@ -51,3 +52,21 @@ returns-clause-whole g c = λ done.
     reached-end c.replay_over-outcome.result (form_of begun) (plan_of begun) (progress_of player) (reported player) old
     mid
     (c.conclude-status.ensures.done done) c.replay_over-outcome.ensures.reaches
+
+pub returns-clause-notes : goal.returns-clause-notes
+returns-clause-notes g c =
+    let begun = c.in-Ok-begin.player in
+    let player = c.replay_over-outcome.new.player in
+    let left = g.S.Source.remaining c.replay_over-outcome.new.input in
+    let reads = g.S.Source.faults c.replay_over-outcome.new.input in
+    let old = moment (g.S.Source.remaining c.args.input.now) (g.S.Source.faults c.args.input.now)
+    (g.K.Sink.held c.args.out.now) (g.K.Sink.faults c.args.out.now) c.args.steps.now in
+    let mid = moment left reads (g.K.Sink.held c.replay_over-outcome.new.out)
+    (g.K.Sink.faults c.replay_over-outcome.new.out) c.replay_over-outcome.new.steps in
+    told_end c.conclude-status.result c.replay_over-outcome.result c.args.form c.args.policy (progress_of player)
+    (reported player) old mid c.number (g.N.Sink.held c.args.notes.now) (g.N.Sink.held c.note_end.new.notes)
+    c.conclude-status.ensures.end
+    (reaches-of c.replay_over-outcome.result c.args.form (form_of begun) c.args.policy (plan_of begun)
+    (progress_of player) (reported player) old mid
+    c.in-Ok-begin.ensures.form c.in-Ok-begin.ensures.plan c.replay_over-outcome.ensures.reaches)
+    ? c.note_end.ensures

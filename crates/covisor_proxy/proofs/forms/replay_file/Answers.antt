@@ -2,6 +2,7 @@ use Rattle.std.proofs.Common.{Ok}
 use Rattle.covisor_proxy.specs.Asked.{cut_given_of, given_of, stated}
 use Rattle.covisor_proxy.specs.Outcomes.{moment}
 use Rattle.covisor_proxy.proofs.Finishing.{over-policy, replayed-unopened}
+use Rattle.covisor_proxy.proofs.Noting.{held_over, none_held}
 use Rattle.covisor_proxy.proofs.forms.replay_file.Goals as goal
 
 pub returns-in-Ok-clause-ends : goal.returns-in-Ok-clause-ends
@@ -25,3 +26,19 @@ returns-in-Err-clause-ends g c =
     replayed-unopened c.tell.result c.args.form c.args.name.now files fails fails' old new
     (c.tell.ensures.ends files fails fails' given_of cut_given_of c.args.form
     (g.S.Source.remaining c.args.input.now) (g.S.Source.faults c.args.input.now) c.args.steps.now c.in-Err.ensures)
+
+pub returns-in-Ok-clause-notes : goal.returns-in-Ok-clause-notes
+returns-in-Ok-clause-notes g c =
+    let o = c.in-Ok.ensures in (
+      Ok o.0,
+      o.1,
+      held_over c.replay.result c.args.form c.args.name.now o.0 c.in-Ok.policy (g.S.Source.remaining c.args.input.now)
+          (g.N.Sink.held c.args.notes.now) (g.N.Sink.held c.replay.new.notes) o.2 c.replay.ensures.notes,
+    )
+
+pub returns-in-Err-clause-notes : goal.returns-in-Err-clause-notes
+returns-in-Err-clause-notes g c =
+    let n = none_held c.in-Err.fault c.tell.result c.args.form c.args.name.now (g.F.Files.files c.args.files.now)
+    (g.F.Files.faults c.args.files.now) (g.F.Files.faults c.open.new.files) (g.S.Source.remaining c.args.input.now)
+    (g.N.Sink.held c.args.notes.now) (g.N.Sink.held c.tell.new.notes) c.in-Err.ensures c.tell.ensures.notes in
+    (n.0, n.1, n.3)

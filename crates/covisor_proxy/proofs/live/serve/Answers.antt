@@ -1,10 +1,12 @@
-use Rattle.std.proofs.Common.{subst, sym}
+use Rattle.std.proofs.Common.{[], subst, sym}
 use Rattle.hyper_core.specs.contracts.machine.HyperMachine.TheImpl.{ghosts as hyper}
 use Rattle.policy_serving.specs.Places.{places_of}
 use Rattle.policy_serving.specs.Served.{ServesPolicy}
+use Rattle.covisor_proxy.specs.Noted.{NotesServed}
 use Rattle.covisor_proxy.specs.Outcomes.{moment}
 use Rattle.covisor_proxy.specs.Serving.{EndsServing, links_of}
 use Rattle.covisor_proxy.specs.declared.status.Status.{Status}
+use Rattle.covisor_proxy.proofs.Appending.{some_none}
 use Rattle.covisor_proxy.proofs.Linking.{all_reliable}
 use Rattle.covisor_proxy.proofs.live.serve.Goals as goal
 
@@ -89,3 +91,30 @@ returns-in-Link-clause-link g c = λ is never.
     let links = links_of (g.L.Links.told c.args.links.now) (g.L.Links.is_reliable c.args.links.now)
     (g.L.Links.faults c.args.links.now) (g.L.Links.faults c.serve_policy.new.links) in
     c.serve_policy.ensures.link c.in-Link.is (all_reliable links never (places_of c.args.policy))
+
+pub returns-in-Done-clause-notes : goal.returns-in-Done-clause-notes
+returns-in-Done-clause-notes g c =
+    let between = g.N.Sink.held c.note_remarks.new.notes in
+    (between, c.note_remarks.ensures, some_none between [])
+
+pub returns-in-Memory-clause-notes : goal.returns-in-Memory-clause-notes
+returns-in-Memory-clause-notes g c =
+    let between = g.N.Sink.held c.note_remarks.new.notes in
+    (between, c.note_remarks.ensures, some_none between [])
+
+pub returns-in-Write-clause-notes : goal.returns-in-Write-clause-notes
+returns-in-Write-clause-notes g c =
+    let between = g.N.Sink.held c.note_remarks.new.notes in
+    (between, c.note_remarks.ensures, some_none between [])
+
+pub returns-in-Link-clause-notes : goal.returns-in-Link-clause-notes
+returns-in-Link-clause-notes g c =
+    subst (λ (x : Status). NotesServed x c.args.policy (g.N.Sink.held c.args.notes.now)
+    (g.N.Sink.held c.note_words.new.notes)) (sym c.write_fault.ensures.status)
+    (g.N.Sink.held c.note_remarks.new.notes, c.note_remarks.ensures, c.note_words.ensures)
+
+pub returns-in-Spawn-clause-notes : goal.returns-in-Spawn-clause-notes
+returns-in-Spawn-clause-notes g c =
+    subst (λ (x : Status). NotesServed x c.args.policy (g.N.Sink.held c.args.notes.now)
+    (g.N.Sink.held c.note_words-in-Spawn.new.notes)) (sym c.write_fault-in-Spawn.ensures.status)
+    (g.N.Sink.held c.note_remarks.new.notes, c.note_remarks.ensures, c.note_words-in-Spawn.ensures)

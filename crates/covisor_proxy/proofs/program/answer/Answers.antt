@@ -4,6 +4,7 @@ use Rattle.covisor_proxy.specs.Outcomes.{moment}
 use Rattle.covisor_proxy.specs.Serving.{links_of}
 use Rattle.command_line.specs.Forms.{command_of}
 use Rattle.covisor_proxy.proofs.Finishing.{ended-wanted}
+use Rattle.covisor_proxy.proofs.Noting.{wanted_noted}
 use Rattle.covisor_proxy.proofs.program.answer.Goals as goal
 
 pub returns-in-Err-clause-ends : goal.returns-in-Err-clause-ends
@@ -15,3 +16,9 @@ returns-in-Err-clause-ends g c =
     (g.L.Links.faults c.args.links.now) (g.L.Links.faults c.args.links.now) in
     ended-wanted hyper links (command_of c.args.words.now) (g.F.Files.files c.args.files.now) fails fails here here refl
     refl
+
+pub returns-in-Err-clause-notes : goal.returns-in-Err-clause-notes
+returns-in-Err-clause-notes g c =
+    let fails = g.F.Files.faults c.args.files.now in
+    wanted_noted (command_of c.args.words.now) (g.F.Files.files c.args.files.now) fails fails
+    (g.S.Source.remaining c.args.input.now) (g.N.Sink.held c.args.notes.now)
