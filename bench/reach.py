@@ -117,9 +117,12 @@ def type_next(it):
 
 
 def function_next(path, name):
-    """Returns what a function's clauses name, its traits, and of `<Hyper as Machine>` what that impl's members name."""
-    code = code_at(path.split("/")[1])[path]
-    head = re.search(rf"\bfn {name}\b.*?^{{", code, re.M | re.S)[0]
+    """Returns what a function's clauses name, its traits, and of `<Hyper as Machine>` what that impl's members name; a
+    None where there is no such function."""
+    head = re.search(rf"\bfn {name}\b.*?^{{", code_at(path.split("/")[1]).get(path, ""), re.M | re.S)
+    if not head:
+        return [None]
+    head = head[0]
     bound = {"result", *re.findall(r"\b(\w+): ", re.split(r"\bensures\b", head)[0])}
     found = named(scope_of(path), [it for it in contract_words(head) if it.split(".")[0] not in bound])
     found += types_named(path, head.partition("(")[0])
