@@ -106,14 +106,14 @@ def contract_words(code):
 
 
 def type_next(it):
-    """Returns what a type names: the value that contracts see, or else its fields; a trait, its members and clauses."""
+    """Returns what a type names: in the value that contracts see, or else in its fields; a trait, in what it says."""
     code, file = code_at(it.crate)[it.path], scope_of(it.path)
     model = re.search(rf"^impl\b[^{{]*\bModel for {it.name}\b", code, re.M)
     if model:
         return named(file, Walk(tokens_of(braced(code, code.find("ghost Value", model.end())))).found)
     begin = re.search(rf"\b(struct|enum|trait) {it.name}\b[^;{{]*", code)
     body = begin[0] + (braced(code, begin.end()) if code[begin.end() :].startswith("{") else "")
-    return named(file, contract_words(body)) if begin[1] == "trait" else types_named(it.path, body)
+    return named(file, contract_words(body)) + (types_named(it.path, body) if begin[1] != "trait" else [])
 
 
 def function_next(path, name):
