@@ -13,15 +13,10 @@ Type = namedtuple("Type", "crate path name")
 
 
 @functools.cache
-def code_at(crate):
-    return code_of(crate)
-
-
-@functools.cache
 def types_of(crate):
     """Returns the types and traits that a crate's code declares."""
     kinds = r"^\s*(?:pub(?:\([^)]*\))? )?(?:struct|enum|trait) (\w+)"
-    return [Type(crate, path, it) for path, code in code_at(crate).items() for it in re.findall(kinds, code, re.M)]
+    return [Type(crate, path, it) for path, code in code_of(crate).items() for it in re.findall(kinds, code, re.M)]
 
 
 def found_in(module, name):
@@ -80,7 +75,7 @@ def scope_of(path):
     """Returns a file of code as one whose names are those of its `ghost use` lines."""
     crate = path.split("/")[1]
     file = definitions.File(crate, path, path)
-    text = re.sub(r"^\s*ghost (use .*);$", r"\1", code_at(crate)[path], flags=re.M)
+    text = re.sub(r"^\s*ghost (use .*);$", r"\1", code_of(crate)[path], flags=re.M)
     file.names, file.modules = definitions.imports(text)
     return file
 
@@ -88,7 +83,7 @@ def scope_of(path):
 def types_named(path, text):
     """Returns the types that Rust code in a file names: those of the file, and those that it uses."""
     crate, used = path.split("/")[1], {}
-    for other, items in re.findall(r"^\s*(?:pub )?use (\w+)::([^;]*);", code_at(crate)[path], re.M):
+    for other, items in re.findall(r"^\s*(?:pub )?use (\w+)::([^;]*);", code_of(crate)[path], re.M):
         used.update({it: crate if other == "crate" else other for it in re.findall(r"\w+", items)})
     found = []
     for name in dict.fromkeys(re.findall(r"\b[A-Z]\w*", text)):
@@ -107,7 +102,7 @@ def contract_words(code):
 
 def type_next(it):
     """Returns what a type names: in the value that contracts see, or else in its fields; a trait, in what it says."""
-    code, file = code_at(it.crate)[it.path], scope_of(it.path)
+    code, file = code_of(it.crate)[it.path], scope_of(it.path)
     model = re.search(rf"^impl\b[^{{]*\bModel for {it.name}\b", code, re.M)
     if model:
         return named(file, Walk(tokens_of(braced(code, code.find("ghost Value", model.end())))).found)
@@ -119,7 +114,7 @@ def type_next(it):
 def function_next(path, name):
     """Returns what a function's clauses name, its traits, and of `<Hyper as Machine>` what that impl's members name; a
     None where there is no such function."""
-    head = re.search(rf"\bfn {name}\b.*?^{{", code_at(path.split("/")[1]).get(path, ""), re.M | re.S)
+    head = re.search(rf"\bfn {name}\b.*?^{{", code_of(path.split("/")[1]).get(path, ""), re.M | re.S)
     if not head:
         return [None]
     head = head[0]
@@ -134,7 +129,7 @@ def function_next(path, name):
 
 def impl_next(it, trait):
     """Returns what the members of a type's impl of a trait name."""
-    for path, code in code_at(it.crate).items():
+    for path, code in code_of(it.crate).items():
         begin = re.search(rf"^impl\b[^{{]*\b{trait} for {it.name}\b", code, re.M)
         if begin:
             return named(scope_of(path), contract_words(braced(code, begin.end())))

@@ -1,4 +1,5 @@
 """crates.txt, read: its sections, and of each crate the sentence above its line and what the line says."""
+import functools
 import glob
 import os
 import re
@@ -23,6 +24,7 @@ def wrapped(line):
     return textwrap.fill(line, 119, subsequent_indent=indent, break_long_words=False, break_on_hyphens=False)
 
 
+@functools.cache
 def code_of(crate):
     """Returns the text of each file of a crate's src/, without comments, by path."""
     paths = sorted(glob.glob(f"{ROOT}/crates/{crate}/src/**/*.rt", recursive=True))
