@@ -70,7 +70,7 @@ class Traced:
                 self.write(at, STOP)
 
     def stops(self):
-        """Runs the program, and gives each place where it stops, with where the function that begins there returns to."""
+        """Runs the program, and gives each place where it stops, and where the function that begins there returns."""
         LIBC.ptrace(CONTINUE, self.pid, None, None)
         while True:
             thread, status = os.waitpid(-1, ALL_THREADS)
