@@ -70,7 +70,7 @@ pub enum Detail {
     Overlap { with: u64 },
     /// How many entries the table may have.
     Entries { limit: u32 },
-    /// How many ranks the table has, and may have.
+    /// How many ranks the table would have, and may have.
     Budget { ranks: u32, limit: u32 },
 }
 
