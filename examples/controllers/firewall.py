@@ -1,10 +1,10 @@
-"""A firewall on os-ken: which hosts may not reach one another. It has an entry without actions for each direction of each
-pair, and nothing else; so it can be composed as `firewall |> ..`, where its entries decide and all else is left to others.
+"""A firewall on os-ken. It has an entry without actions for each source and target that are named as it starts, and
+nothing else: as in `firewall |> learner` these drop their packets, and all others are the right one's affair.
 
-    FIREWALL="10.0.0.1-10.0.0.2 10.0.0.1-10.0.0.4" osken-manager --ofp-tcp-listen-port 6634 examples/controllers/firewall.py
+    FIREWALL="10.0.0.1-10.0.0.2 10.0.0.2-10.0.0.1" \\
+        osken-manager --ofp-listen-host 127.0.0.1 --ofp-tcp-listen-port 6634 examples/controllers/firewall.py
 
-It tells on standard output, a line each: `features dpid=D` as its switch comes up, and `error type=T code=C` where an
-entry is refused.
+It tells on standard output, a line each: `features dpid=D` as its switch comes up, and `refused type=T code=C`.
 """
 import os
 
@@ -13,8 +13,7 @@ from os_ken.controller import ofp_event
 from os_ken.controller.handler import CONFIG_DISPATCHER, MAIN_DISPATCHER, set_ev_cls
 from os_ken.ofproto import ofproto_v1_0
 
-IP = 0x0800
-PAIRS = [pair.split("-") for pair in os.environ.get("FIREWALL", "").split()]
+DENIED = [pair.split("-") for pair in os.environ.get("FIREWALL", "").split()]
 
 
 class Firewall(app_manager.OSKenApp):
@@ -23,18 +22,14 @@ class Firewall(app_manager.OSKenApp):
     @set_ev_cls(ofp_event.EventOFPSwitchFeatures, CONFIG_DISPATCHER)
     def comes_up(self, event):
         datapath = event.msg.datapath
-        print(f"features dpid={datapath.id:016x}", flush=True)
-        for one, other in PAIRS:
-            self.part(datapath, one, other)
-            self.part(datapath, other, one)
-
-    def part(self, datapath, source, target):
         parser, numbers = datapath.ofproto_parser, datapath.ofproto
-        datapath.send_msg(parser.OFPFlowMod(
-            datapath=datapath, match=parser.OFPMatch(dl_type=IP, nw_src=source, nw_dst=target),
-            command=numbers.OFPFC_ADD, priority=100, cookie=0, buffer_id=numbers.OFP_NO_BUFFER,
-            out_port=numbers.OFPP_NONE, actions=[]))
+        print(f"features dpid={datapath.id:016x}", flush=True)
+        for source, target in DENIED:
+            match = parser.OFPMatch(dl_type=0x0800, nw_src=source, nw_dst=target)
+            datapath.send_msg(parser.OFPFlowMod(
+                datapath=datapath, match=match, cookie=0, command=numbers.OFPFC_ADD, priority=100,
+                buffer_id=numbers.OFP_NO_BUFFER, out_port=numbers.OFPP_NONE, actions=[]))
 
     @set_ev_cls(ofp_event.EventOFPErrorMsg, [CONFIG_DISPATCHER, MAIN_DISPATCHER])
     def is_refused(self, event):
-        print(f"error type={event.msg.type} code={event.msg.code}", flush=True)
+        print(f"refused type={event.msg.type} code={event.msg.code}", flush=True)
