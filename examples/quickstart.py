@@ -1,15 +1,14 @@
 #!/usr/bin/python3
 """The quick start: CoVisor between two controllers, which know nothing of one another, and a network of Mininet's.
 
-    sudo examples/quickstart.py [--cli] [--policy POLICY] [--proved | --unproved]
+    sudo examples/quickstart.py [--cli] [--proved | --unproved]
 
 It starts four hosts at two Open vSwitch bridges with a cable between them, an unmodified learning switch
-(ovs-testcontroller), a firewall (examples/controllers/firewall.py), and `./covisor serve` over a policy that composes
+(ovs-testcontroller), a firewall (controllers/firewall.py), and `./covisor serve` over quickstart.toml, which composes
 the two. All hosts ping one another: while the proxy serves, once it was killed, and once it serves again. The entries
 of the bridges and the audit are shown; --cli opens Mininet's prompt before all is stopped. The status is 0 where just
 those reached one another who may, else 1. Nothing of it stays, and an Open vSwitch that runs already is left alone.
 """
-import argparse
 import itertools
 import os
 import pathlib
@@ -32,6 +31,7 @@ except ImportError:
     sys.exit(f"quickstart: Mininet is missing: {INSTALL}")
 
 EXAMPLES = pathlib.Path(__file__).resolve().parent
+POLICY = EXAMPLES / "quickstart.toml"
 TOOLS = ("mnexec", "ovsdb-tool", "ovsdb-server", "ovs-vswitchd", "ovs-vsctl", "ovs-ofctl", "ovs-testcontroller",
          "osken-manager", "ip", "ping")
 # Each host with its address, bridge and port; the cable joins the ports 3. The policy has these bridges and ports too.
@@ -96,13 +96,13 @@ def check(addresses):
     if missing:
         fail(f"{', '.join(missing)} missing: {INSTALL}")
     for name in INTERFACES.intersection(os.listdir("/sys/class/net")):
-        fail(f"there is an interface {name}: another Mininet runs, or left it (mn -c takes such away)")
+        fail(f"there is an interface {name}: another Mininet or Open vSwitch has it, or left it (mn -c clears up)")
     for address in addresses:
         host, port = address.split(":")
         try:
             socket.create_server((host, int(port))).close()
         except OSError as fault:
-            fail(f"{address} of the policy: {fault.strerror}")
+            fail(f"{address}, which the policy names: {os.strerror(fault.errno)}")
 
 
 def start_open_vswitch(parts):
@@ -216,13 +216,10 @@ def try_out(net, parts, words):
 
 
 def main():
-    parser = argparse.ArgumentParser(usage=__doc__, add_help=False)
-    parser.add_argument("--help", "-h", action="help")
-    parser.add_argument("--cli", action="store_true")
-    parser.add_argument("--policy", default=str(EXAMPLES / "quickstart.toml"))
-    args, way = parser.parse_known_args()
-    with open(args.policy, "rb") as file:
-        policy = tomllib.load(file)
+    way = [word for word in sys.argv[1:] if word != "--cli"]
+    if way not in ([], ["--proved"], ["--unproved"]):
+        sys.exit(__doc__)
+    policy = tomllib.loads(POLICY.read_text())
     at = {member["controller"]: member["address"] for member in policy["member"]}
     check([policy["listen"], *at.values()])
     covisor = [os.environ.get("COVISOR", str(EXAMPLES.parent / "covisor")), *way]
@@ -238,8 +235,8 @@ def main():
             start_open_vswitch(parts)
             start_network(net, policy["listen"])
             start_controllers(parts, at["learner"], at["firewall"])
-            right = try_out(net, parts, [*covisor, "serve", args.policy])
-            if args.cli:
+            right = try_out(net, parts, [*covisor, "serve", str(POLICY)])
+            if "--cli" in sys.argv:
                 setLogLevel("info")
                 CLI(net)
         finally:
