@@ -95,8 +95,9 @@ def check(addresses):
     missing = [tool for tool in TOOLS if not shutil.which(tool)]
     if missing:
         fail(f"{', '.join(missing)} missing: {INSTALL}")
-    for name in INTERFACES.intersection(os.listdir("/sys/class/net")):
-        fail(f"there is an interface {name}: another Mininet or Open vSwitch has it, or left it (mn -c clears up)")
+    there = INTERFACES.intersection(os.listdir("/sys/class/net"))
+    if there:
+        fail(f"another Mininet or Open vSwitch has {', '.join(sorted(there))}, or left it (ip link del takes it away)")
     for address in addresses:
         host, port = address.split(":")
         try:
