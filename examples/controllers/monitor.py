@@ -1,7 +1,10 @@
-"""For bench/serve_real: a monitor on os-ken. It has one entry for packets to 10.0.0.0/24, which does nothing, and asks
-each second how many packets that counted.
+"""A monitor on os-ken. It has one entry for packets to 10.0.0.0/24, which does nothing, and asks each second how many
+packets that counted.
+
+    osken-manager --ofp-listen-host 127.0.0.1 --ofp-tcp-listen-port 6634 examples/controllers/monitor.py
 
 It tells on standard output, a line each: `features dpid=D ports=P,P..` as its switch comes up, and `packets=N`.
+bench/serve_real reads these lines.
 """
 from os_ken.base import app_manager
 from os_ken.controller import ofp_event
