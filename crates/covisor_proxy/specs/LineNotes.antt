@@ -16,14 +16,15 @@ verbs_text forms.Sim = codes "a line is up, from, gone, tick, expr or packet"
 
 -- how a line of a first word is written
 abbrev pub shape_text : Verb → List ℕ
-shape_text Up = codes "up NAME [noarp]"
+shape_text Up = codes "up NAME, or up SWITCH noarp"
 shape_text From = codes "from NAME HEX"
 shape_text Gone = codes "gone NAME"
 shape_text Tick = codes "tick SECOND"
-shape_text Expr = codes "expr VIRTUAL TEXT"
+shape_text Expr = codes "expr VIRTUAL TEXT, TEXT of at most 1,024 characters without a blank"
 shape_text Ask = codes "ask SWITCH:PORT HEX"
 shape_text Packet = codes "packet SWITCH:PORT HEX"
 
+-- how a line of a form has to be written
 abbrev pub word_text : Form → Option Verb → List ℕ
 word_text form (Some verb) = codes "it has to be " ++ (shape_text verb ++ codes ", with one blank between words")
 word_text form None = verbs_text form
@@ -50,6 +51,7 @@ known_text (Some Gone) names = codes "there is no such session; there are " ++ n
 known_text (Some Tick) names = codes "there is no such session; there are " ++ names
 known_text None names = codes "there is no such session; there are " ++ names
 
+-- why a line isn't done
 abbrev pub why_text : Kind → Form → Seen → List ℕ
 why_text Word form seen = word_text form seen.verb
 why_text Name form seen = name_text seen.verb
@@ -73,9 +75,11 @@ line_note_of number kind form seen =
 abbrev pub absent_note_of : List ℕ → List ℕ
 absent_note_of name = codes "there is no file " ++ name
 
+-- the file can't be read
 abbrev pub unread_note_of : List ℕ → List ℕ
 unread_note_of name = name ++ codes " can't be read: it is a folder, or reading it is not allowed"
 
+-- the script can't be read to its end
 abbrev pub script_note : List ℕ
 script_note = codes "the script can't be read to its end"
 
@@ -83,5 +87,6 @@ script_note = codes "the script can't be read to its end"
 abbrev pub link_note : List ℕ
 link_note = codes "an endpoint could not be dialled, or its dial failed: is its address in use or not this machine's?"
 
+-- no endpoint was served
 abbrev pub spawn_note : List ℕ
 spawn_note = codes "the works that serve could not be run; nothing was served"

@@ -74,6 +74,7 @@ NotesLine (Err stops.Write) form number held held' = held' ≡ held
 NotesLine (Err stops.Memory) form number held held' = held' ≡ held
 NotesLine (Ok done) form number held held' = held' ≡ held
 
+-- of a replay that ended with a status
 abbrev pub NotesEnd : Status → Result (Unit {0}) Stop → Form → ℕ → (held held' : Option (List ℕ)) → Type 0
 NotesEnd Line outcome form number held held' = NotesLine outcome form number held held'
 NotesEnd Read outcome form number held held' = Tells held held' script_note
@@ -148,6 +149,7 @@ NotesHeld Link form name file left held held' = ⊥
 NotesHeld Spawn form name file left held held' = ⊥
 NotesHeld Memory form name file left held held' = held' ≡ held
 
+-- the file answered in some way, and so much was told
 abbrev pub NotesFile : Status → Form → List ℕ → Option (List MemFile) → (fails fails' : ℕ)
     → (left held held' : Option (List ℕ)) → Type 0
 NotesFile status form name files fails fails' left held held' =

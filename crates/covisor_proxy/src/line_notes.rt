@@ -8,6 +8,7 @@ ghost use Rattle.covisor_proxy.specs.LineNotes.{word_text};
 
 use cv_io::{Memory, Text};
 use policies::Policy;
+use policy_notes::beginning;
 use replay_report::Kind;
 use script_text::form::Verb;
 use script_text::{Form, say, say_number};
@@ -27,20 +28,6 @@ pub(crate) struct Seen {
     pub(crate) names: Text,
 }
 
-/// How a line begins, with `?` for what isn't printable ASCII.
-fn beginning(alloc: Global, line: &[u8]) -> Result<Text, Memory> {
-    let mut text = Text::new(alloc);
-    for byte in line.iter().take(SHOWN) {
-        let byte = *byte;
-        text.push(if byte == b' ' || byte.is_ascii_graphic() {
-            byte
-        } else {
-            b'?'
-        })?;
-    }
-    Ok(text)
-}
-
 /// The bytes before the first blank.
 fn first_word(line: &[u8]) -> &[u8] {
     match line.iter().position(|byte| *byte == b' ') {
@@ -53,7 +40,7 @@ fn first_word(line: &[u8]) -> &[u8] {
 pub(crate) fn see(alloc: Global, form: Form, kind: Kind, line: &[u8], names: Text) -> Seen {
     let shown = match kind {
         Kind::Long | Kind::Size => Ok(Text::new(alloc)),
-        _ => beginning(alloc, line),
+        _ => beginning(alloc, line, SHOWN),
     };
     Seen {
         verb: form.verb(first_word(line)),
@@ -105,11 +92,11 @@ fn shape_text(verb: Verb) -> &'static str
     ensures ascii { IsTrue (list_all is_ascii result.now) }
 {
     match verb {
-        Verb::Up => "up NAME [noarp]",
+        Verb::Up => "up NAME, or up SWITCH noarp",
         Verb::From => "from NAME HEX",
         Verb::Gone => "gone NAME",
         Verb::Tick => "tick SECOND",
-        Verb::Expr => "expr VIRTUAL TEXT",
+        Verb::Expr => "expr VIRTUAL TEXT, TEXT of at most 1,024 characters without a blank",
         Verb::Ask => "ask SWITCH:PORT HEX",
         Verb::Packet => "packet SWITCH:PORT HEX",
     }

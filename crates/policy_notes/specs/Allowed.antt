@@ -79,6 +79,7 @@ unfoldable pub keys : Option Version → List Row → List ℕ
 keys version [] = []
 keys version (row ∷ rows) = shown row.key ++ more_keys version rows
 
+-- in which version
 unfoldable pub version_text : Option Version → List ℕ
 version_text (Some One) = codes "in version 1 "
 version_text (Some Two) = codes "in version 2 "

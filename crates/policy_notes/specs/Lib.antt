@@ -4,3 +4,4 @@ pub mod Notes
 pub mod Places
 pub mod Remarks
 pub mod Sentences
+pub mod Showing

@@ -16,6 +16,7 @@ abbrev pub behind : List ℕ → Option ℕ → List ℕ
 behind name (Some at) = drop (at + 1) name
 behind name None = name
 
+-- the key in a name
 unfoldable pub key_in : List ℕ → List ℕ
 key_in name = behind name (first 46 name)
 
@@ -33,5 +34,6 @@ kind_named name =
     else (if bytes_eq name (kind_key Member) then Some Member
     else None))))
 
+-- a top key lists items of a kind
 abbrev pub is_kind : List ℕ → Bool
 is_kind name = is_some (kind_named name)

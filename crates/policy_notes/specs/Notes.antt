@@ -16,5 +16,6 @@ lead_of file place = file ++ (behind_colon place.line ++ behind_colon place.colu
 unfoldable pub said : List ℕ → List ℕ
 said text = codes "covisor: " ++ (text ++ codes "\n")
 
+-- a fault of the policy of a file, at a place of it
 abbrev pub note_of : List ℕ → Place → PolicyFault → List ℕ
 note_of file place fault = lead_of file place ++ (codes ": " ++ sentence_of place fault)

@@ -40,6 +40,7 @@ shares_address members n m = list_any (λ (other : MemberItem). bytes_eq other.a
 abbrev pub is_told : MemberItem → Bool
 is_told m = m.grant.misses || has_bit m.grant.actions 1
 
+-- it has the address of another member
 unfoldable pub shared_sentence : List ℕ → List ℕ
 shared_sentence address =
     between (codes " has the address of another member, ") address (codes ": one controller meets both")
@@ -52,18 +53,22 @@ is_unheard es n m = m.grant.misses && list_any (stands_left n) es
 abbrev pub is_mute : MemberItem → Bool
 is_mute m = is_told m && not m.grant.packet_out
 
+-- it isn't told all that it asks for
 unfoldable pub left_words : List ℕ
 left_words = codes " stands left of |>, where misses tell it nothing unless another member there has an entry"
 
+-- it can't answer what it is told
 unfoldable pub mute_words : List ℕ
 mute_words = codes " is told packets and may send none: it lacks packet_out = true"
 
+-- what there is to remark of a member of this number
 abbrev pub member_remarks : List MemberItem → List Policy → ℕ × MemberItem → List ℕ
 member_remarks members es (n, m) =
     (remark_if (shares_address members n m) m (shared_sentence m.address)
     ++ remark_if (is_unheard es n m) m left_words)
     ++ remark_if (is_mute m) m mute_words
 
+-- the same of each
 abbrev pub each_remarks : List MemberItem → List Policy → List (ℕ × MemberItem) → List ℕ
 each_remarks members es [] = []
 each_remarks members es (m ∷ rest) = member_remarks members es m ++ each_remarks members es rest
@@ -81,10 +86,12 @@ abbrev pub served_line : List ℕ → List ℕ
 served_line listen =
     said (between (codes "switches connect at ") listen (codes "; each member is dialled at its address"))
 
+-- over these expressions
 abbrev pub remarks_over : PolicyOf → List Policy → List ℕ
 remarks_over p es =
     (rounds_remark p.rounds ++ each_remarks p.members es (enumerate_from 0 p.members)) ++ served_line p.listen
 
+-- over the expressions that the policy has
 abbrev pub remarks_by : PolicyOf → Result (List Policy) PolicyFault → List ℕ
 remarks_by p (Ok es) = remarks_over p es
 remarks_by p (Err fault) = []

@@ -53,10 +53,11 @@ why_not place name =
 unfoldable pub tables_sentence : List ℕ → List ℕ
 tables_sentence name = codes ": has to be a list of tables, each under [[" ++ (name ++ codes "]]")
 
--- a value that can't stand there: an item is one too many, a top key lists no tables, or the value isn't such
+-- what is wrong with a value: a top key lists no tables, or the value isn't such
 unfoldable pub value_fault : Place → List ℕ → List ℕ
 value_fault place name = if is_kind name then tables_sentence name else why_not place name
 
+-- a value can't stand there, or an item is one too many
 unfoldable pub value_sentence : Place → List ℕ → List ℕ
 value_sentence place name =
     name ++ (if is_item name then codes ": at most 32 members" else (is_written place.written ++ value_fault place name))
@@ -77,6 +78,7 @@ expr_sentence place name (expr.ParallelLeft other) =
     between [] other (codes " stands left of +, so it may have no actions but output and controller")
 expr_sentence place name expr.Memory = codes "out of memory"
 
+-- an expression can't be so
 unfoldable pub expression_sentence : Place → List ℕ → ExprFault → List ℕ
 expression_sentence place name fault =
     name ++ (codes ", expr" ++ (is_written place.written ++ (codes ": " ++ expr_sentence place name fault)))
@@ -103,6 +105,7 @@ many_noun (Some Virtual) false = codes " ports"
 many_noun (Some Member) false = codes " ports"
 many_noun None false = codes " ports"
 
+-- a topology can't be so
 unfoldable pub topology_sentence : Place → TopologyFault → List ℕ
 topology_sentence place (topology.PortTwice name) = between (codes "port ") name (codes " is used twice")
 topology_sentence place (topology.Unknown name) = between (codes "there is no port ") name []
@@ -113,12 +116,14 @@ topology_sentence place (topology.TooMany name limit) =
     name ++ (codes ": at most " ++ (decimal limit ++ many_noun place.item (limit == 16)))
 topology_sentence place topology.Memory = codes "out of memory"
 
+-- there are no paths
 unfoldable pub paths_sentence : PathFault → List ℕ
 paths_sentence (path.Unreachable from to) =
     between (codes "no cables lead from ") from (codes " to ")
     ++ between [] to (codes ", where one virtual switch has ports")
 paths_sentence path.Memory = codes "out of memory"
 
+-- a virtual switch needs too many levels
 unfoldable pub wide_sentence : List ℕ → ℕ → ℕ → List ℕ
 wide_sentence name needed limit =
     name ++ (codes " needs " ++ (decimal needed ++ (codes " levels of priority over all hops, of "

@@ -6,6 +6,7 @@ use crate::places::Place;
 use crate::search::{
     controllers, find, first_mention, item_called, last_mention, read_name, unquoted, virtuals,
 };
+use crate::showing::beginning;
 use crate::walk::Line;
 use cv_io::{Memory, Text};
 use policies::PolicyFault;
@@ -51,20 +52,6 @@ fn column(text: &[u8], at: usize) -> u64
     }
 }
 
-/// What is written, as the operator is shown it: at most so many characters, `?` for what isn't printable ASCII.
-fn shown(alloc: Global, written: &str, most: usize) -> Result<Text, Memory> {
-    let mut text = Text::new(alloc);
-    for byte in written.as_bytes().iter().take(most) {
-        let byte = *byte;
-        text.push(if byte == b' ' || byte.is_ascii_graphic() {
-            byte
-        } else {
-            b'?'
-        })?;
-    }
-    Ok(text)
-}
-
 /// No line that is known.
 fn nowhere(alloc: Global) -> Place
     ensures { result.line ≡ 0 }
@@ -95,7 +82,7 @@ fn line_at(text: &[u8], at: usize) -> u64
 fn on(alloc: Global, text: &[u8], line: Line<'_>) -> Result<Place, Memory>
     ensures { IfOk result (IsPlaceIn text.now) }
 {
-    let written = shown(alloc, line.value, SHOWN)?;
+    let written = beginning(alloc, line.value.as_bytes(), SHOWN)?;
     Ok(Place {
         line: line_at(text, line.at),
         column: 0,
@@ -128,7 +115,7 @@ fn syntax(alloc: Global, text: &[u8]) -> Result<Place, Memory>
     let Some(span) = fault.span() else {
         return Err(Memory);
     };
-    place.written = shown(alloc, fault.message(), MESSAGE)?;
+    place.written = beginning(alloc, fault.message().as_bytes(), MESSAGE)?;
     let at = span.start.min(text.len());
     place.line = line_number(text, at);
     place.column = column(text, at);

@@ -3,7 +3,7 @@
 //!
 //! *Contract:* `note` is exactly the file's name, the line and column of a place, and the sentence of the fault. `find_place`
 //! answers for every text and every fault; the line that it names is one of the text's, or none. `remarks` is exactly what
-//! is remarked of a policy that is to be served.
+//! is remarked of a policy that is to be served, `beginning` what is shown of a value or a line.
 #![tactic(auto)]
 
 mod allowed;
@@ -14,9 +14,11 @@ mod places;
 mod remarking;
 mod search;
 mod sentence;
+mod showing;
 mod walk;
 
 pub use finding::find_place;
 pub use notes::{note, said};
 pub use places::Place;
 pub use remarking::remarks;
+pub use showing::beginning;
