@@ -8,4 +8,4 @@ pub mod Finishing
 pub mod Statuses
 pub mod Running
 pub mod Linking
-pub mod Noting
+pub mod ToldRuns

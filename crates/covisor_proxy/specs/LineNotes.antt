@@ -24,9 +24,13 @@ shape_text Expr = codes "expr VIRTUAL TEXT, TEXT of at most 1,024 characters wit
 shape_text Ask = codes "ask SWITCH:PORT HEX"
 shape_text Packet = codes "packet SWITCH:PORT HEX"
 
+-- how a line of a first word has to be written
+abbrev pub shape_sentence : Verb → List ℕ
+shape_sentence verb = (codes "it has to be " ++ shape_text verb) ++ codes ", with one blank between words"
+
 -- how a line of a form has to be written
 abbrev pub word_text : Form → Option Verb → List ℕ
-word_text form (Some verb) = codes "it has to be " ++ (shape_text verb ++ codes ", with one blank between words")
+word_text form (Some verb) = shape_sentence verb
 word_text form None = verbs_text form
 
 -- the name of a session, of a virtual switch or of a place
@@ -40,16 +44,20 @@ name_text (Some Gone) = codes "NAME has to be that of a session, as s1 or app@v1
 name_text (Some Tick) = codes "NAME has to be that of a session, as s1 or app@v1"
 name_text None = codes "NAME has to be that of a session, as s1 or app@v1"
 
+-- the sessions that there are
+abbrev pub sessions_text : List ℕ → List ℕ
+sessions_text names = codes "there is no such session; there are " ++ names
+
 -- what there is of what isn't there
 abbrev pub known_text : Option Verb → List ℕ → List ℕ
 known_text (Some Expr) names = codes "there is no such virtual switch"
 known_text (Some Ask) names = codes "there is no such switch with such an outside port"
 known_text (Some Packet) names = codes "there is no such switch with such an outside port"
-known_text (Some Up) names = codes "there is no such session; there are " ++ names
-known_text (Some From) names = codes "there is no such session; there are " ++ names
-known_text (Some Gone) names = codes "there is no such session; there are " ++ names
-known_text (Some Tick) names = codes "there is no such session; there are " ++ names
-known_text None names = codes "there is no such session; there are " ++ names
+known_text (Some Up) names = sessions_text names
+known_text (Some From) names = sessions_text names
+known_text (Some Gone) names = sessions_text names
+known_text (Some Tick) names = sessions_text names
+known_text None names = sessions_text names
 
 -- why a line isn't done
 abbrev pub why_text : Kind → Form → Seen → List ℕ

@@ -2,9 +2,11 @@
 ghost use Rattle.std.specs.Prelude.{◌≡◌, ◌++◌, IfOk, IsTrue, OnOk};
 ghost use Rattle.std.specs.List.{list_all};
 ghost use Rattle.script_text.specs.Lines.{is_ascii};
-ghost use Rattle.covisor_proxy.specs.LineNotes.{known_text, line_note_of, name_text as name_text_of, quoted};
-ghost use Rattle.covisor_proxy.specs.LineNotes.{shape_text as shape_text_of, verbs_text as verbs_text_of, why_text};
-ghost use Rattle.covisor_proxy.specs.LineNotes.{word_text};
+ghost use Rattle.covisor_proxy.specs.LineNotes.{known_text as known_text_of, line_note_of, name_text as name_text_of};
+ghost use Rattle.covisor_proxy.specs.LineNotes.{quoted, sessions_text as sessions_text_of};
+ghost use Rattle.covisor_proxy.specs.LineNotes.{shape_sentence as shape_sentence_of, shape_text as shape_text_of};
+ghost use Rattle.covisor_proxy.specs.LineNotes.{verbs_text as verbs_text_of, why_text as why_text_of};
+ghost use Rattle.covisor_proxy.specs.LineNotes.{word_text as word_text_of};
 
 use cv_io::{Memory, Text};
 use policies::Policy;
@@ -102,17 +104,34 @@ fn shape_text(verb: Verb) -> &'static str
     }
 }
 
-/// Appends how a line has to be written.
-fn say_word(text: &mut Text, form: Form, verb: Option<Verb>) -> Result<(), Memory>
-    ensures { OnOk result (text.new ≡ text.old ++ word_text form verb) }
+/// How a line of a first word has to be written.
+fn shape_sentence(alloc: Global, verb: Verb) -> Result<Text, Memory>
+    ensures { IfOk result (λ text. text ≡ shape_sentence_of verb) }
+{
+    let mut text = Text::new(alloc);
+    say(&mut text, "it has to be ")?;
+    say(&mut text, shape_text(verb))?;
+    say(&mut text, ", with one blank between words")?;
+    Ok(text)
+}
+
+/// A text of words.
+pub(crate) fn text_of(alloc: Global, words: &str) -> Result<Text, Memory>
+    requires { IsTrue (list_all is_ascii words.now) }
+    ensures { IfOk result (λ text. text ≡ words.now) }
+{
+    let mut text = Text::new(alloc);
+    say(&mut text, words)?;
+    Ok(text)
+}
+
+/// How a line has to be written.
+fn word_text(alloc: Global, form: Form, verb: Option<Verb>) -> Result<Text, Memory>
+    ensures { IfOk result (λ text. text ≡ word_text_of form verb) }
 {
     match verb {
-        Some(verb) => {
-            say(text, "it has to be ")?;
-            say(text, shape_text(verb))?;
-            say(text, ", with one blank between words")
-        }
-        None => say(text, verbs_text(form)),
+        Some(verb) => shape_sentence(alloc, verb),
+        None => text_of(alloc, verbs_text(form)),
     }
 }
 
@@ -130,37 +149,44 @@ fn name_text(verb: Option<Verb>) -> &'static str
     }
 }
 
-/// Appends what there is of what isn't there.
-fn say_known(text: &mut Text, verb: Option<Verb>, names: &Text) -> Result<(), Memory>
-    ensures { OnOk result (text.new ≡ text.old ++ known_text verb names.now) }
+/// The sessions that there are, where another one is named.
+fn sessions_text(alloc: Global, names: &Text) -> Result<Text, Memory>
+    ensures { IfOk result (λ text. text ≡ sessions_text_of names.now) }
+{
+    let mut text = Text::new(alloc);
+    say(&mut text, "there is no such session; there are ")?;
+    text.push_text(names)?;
+    Ok(text)
+}
+
+/// What there is of what isn't there.
+fn known_text(alloc: Global, verb: Option<Verb>, names: &Text) -> Result<Text, Memory>
+    ensures { IfOk result (λ text. text ≡ known_text_of verb names.now) }
 {
     match verb {
-        Some(Verb::Expr) => say(text, "there is no such virtual switch"),
+        Some(Verb::Expr) => text_of(alloc, "there is no such virtual switch"),
         Some(Verb::Ask | Verb::Packet) => {
-            say(text, "there is no such switch with such an outside port")
+            text_of(alloc, "there is no such switch with such an outside port")
         }
-        Some(Verb::Up | Verb::From | Verb::Gone | Verb::Tick) | None => {
-            say(text, "there is no such session; there are ")?;
-            text.push_text(names)
-        }
+        Some(Verb::Up | Verb::From | Verb::Gone | Verb::Tick) | None => sessions_text(alloc, names),
     }
 }
 
-/// Appends why a line isn't done.
-fn say_why(text: &mut Text, kind: Kind, form: Form, seen: &Seen) -> Result<(), Memory>
-    ensures { OnOk result (text.new ≡ text.old ++ why_text kind form seen.now) }
+/// Why a line isn't done.
+fn why_text(alloc: Global, kind: Kind, form: Form, seen: &Seen) -> Result<Text, Memory>
+    ensures { IfOk result (λ text. text ≡ why_text_of kind form seen.now) }
 {
     match kind {
-        Kind::Word => say_word(text, form, seen.verb),
-        Kind::Name => say(text, name_text(seen.verb)),
-        Kind::Hex => say(text, "HEX has to be hexadecimal digits, two for each byte"),
-        Kind::Number => say(
-            text,
+        Kind::Word => word_text(alloc, form, seen.verb),
+        Kind::Name => text_of(alloc, name_text(seen.verb)),
+        Kind::Hex => text_of(alloc, "HEX has to be hexadecimal digits, two for each byte"),
+        Kind::Number => text_of(
+            alloc,
             "a number has to be decimal digits without leading zeros, below 2^64, a port below 65536",
         ),
-        Kind::Unknown => say_known(text, seen.verb, &seen.names),
-        Kind::Long => say(text, "more than 140,000 bytes"),
-        Kind::Size => say(text, "the script has more than 4,294,967,295 bytes"),
+        Kind::Unknown => known_text(alloc, seen.verb, &seen.names),
+        Kind::Long => text_of(alloc, "more than 140,000 bytes"),
+        Kind::Size => text_of(alloc, "the script has more than 4,294,967,295 bytes"),
     }
 }
 
@@ -191,6 +217,6 @@ pub(crate) fn line_note(
     say_number(alloc, &mut text, number)?;
     say_quoted(&mut text, &seen.shown)?;
     say(&mut text, ": ")?;
-    say_why(&mut text, kind, form, seen)?;
+    text.push_text(&why_text(alloc, kind, form, seen)?)?;
     Ok(text)
 }

@@ -8,7 +8,7 @@ ghost use Rattle.covisor_proxy.specs.LineNotes.{absent_note_of, unread_note_of};
 ghost use Rattle.covisor_proxy.specs.Noted.{IsEnd, NotesEnd, NotesLine, Tells};
 ghost use Rattle.covisor_proxy.specs.Written.{AppendsSome};
 
-use crate::line_notes::{line_note, see};
+use crate::line_notes::{line_note, see, text_of};
 use crate::status::Status;
 use crate::stop::Stop;
 use crate::writing::write_all;
@@ -57,16 +57,6 @@ pub(crate) fn note_words<N: Sink>(alloc: Global, notes: &mut N, words: &str)
     ensures { Tells (N.held notes.old) (N.held notes.new) words.now }
 {
     tell_sentence(alloc, notes, text_of(alloc, words));
-}
-
-/// A text of words.
-fn text_of(alloc: Global, words: &str) -> Result<Text, Memory>
-    requires { IsTrue (list_all is_ascii words.now) }
-    ensures { IfOk result (λ text. text ≡ words.now) }
-{
-    let mut text = Text::new(alloc);
-    say(&mut text, words)?;
-    Ok(text)
 }
 
 /// Tells what is wrong with the policy of a file.

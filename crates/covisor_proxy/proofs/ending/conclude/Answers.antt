@@ -6,7 +6,7 @@ use Rattle.covisor_proxy.specs.Following.{Reaches}
 use Rattle.replay_report.specs.Takings.{as_line}
 use Rattle.covisor_proxy.specs.Noted.{IsEnd}
 use Rattle.covisor_proxy.specs.Outcomes.{moment}
-use Rattle.covisor_proxy.proofs.Noting.{end_of}
+use Rattle.covisor_proxy.proofs.ToldRuns.{end_of}
 use Rattle.covisor_proxy.specs.declared.stop.Stop.{Stop}
 use Rattle.covisor_proxy.proofs.Finishing.{ends-done}
 use Rattle.covisor_proxy.proofs.ending.conclude.Goals as goal

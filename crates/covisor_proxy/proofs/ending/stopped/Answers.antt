@@ -10,7 +10,7 @@ use Rattle.covisor_proxy.specs.declared.status.Status.{Status}
 use Rattle.covisor_proxy.specs.declared.stop.Stop.{Stop}
 use Rattle.covisor_proxy.specs.declared.stop.Stop.TheVariants.{Refused, Read}
 use Rattle.covisor_proxy.proofs.Finishing.{breaks-off, ends-stopped}
-use Rattle.covisor_proxy.proofs.Noting.{stop_of}
+use Rattle.covisor_proxy.proofs.ToldRuns.{stop_of}
 use Rattle.covisor_proxy.proofs.ending.stopped.Goals as goal
 
 pub returns-in-Refused-clause-ends : goal.returns-in-Refused-clause-ends

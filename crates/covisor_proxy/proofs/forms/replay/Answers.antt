@@ -1,10 +1,10 @@
-use Rattle.std.proofs.Common.{refl, subst, sym}
+use Rattle.std.proofs.Common.{◌+◌, ℕ, ap, refl, subst, sym}
 use Rattle.replay_report.specs.Players.{form_of, plan_of, progress_of, reported}
 use Rattle.covisor_proxy.specs.Asked.{given_of}
 use Rattle.covisor_proxy.specs.Following.{IsBegun}
 use Rattle.covisor_proxy.specs.Outcomes.{moment}
 use Rattle.covisor_proxy.proofs.Finishing.{begins-none, reached-end, reaches-of}
-use Rattle.covisor_proxy.proofs.Noting.{told_end}
+use Rattle.covisor_proxy.proofs.ToldRuns.{told_end}
 use Rattle.covisor_proxy.proofs.forms.replay.Goals as goal
 
 pub returns-in_default-clause-ends : goal.returns-in_default-clause-ends
@@ -64,9 +64,9 @@ returns-clause-notes g c =
     let mid = moment left reads (g.K.Sink.held c.replay_over-outcome.new.out)
     (g.K.Sink.faults c.replay_over-outcome.new.out) c.replay_over-outcome.new.steps in
     told_end c.conclude-status.result c.replay_over-outcome.result c.args.form c.args.policy (progress_of player)
-    (reported player) old mid c.number (g.N.Sink.held c.args.notes.now) (g.N.Sink.held c.note_end.new.notes)
+    (reported player) old mid (c.number-number.result + 1) (g.N.Sink.held c.args.notes.now) (g.N.Sink.held c.note_end.new.notes)
     c.conclude-status.ensures.end
     (reaches-of c.replay_over-outcome.result c.args.form (form_of begun) c.args.policy (plan_of begun)
     (progress_of player) (reported player) old mid
     c.in-Ok-begin.ensures.form c.in-Ok-begin.ensures.plan c.replay_over-outcome.ensures.reaches)
-    ? c.note_end.ensures
+    (ap (λ (n : ℕ). n + 1) c.number-number.ensures.number) c.note_end.ensures

@@ -3,7 +3,7 @@ use Rattle.covisor_proxy.specs.Asked.{given_of, over_built_in}
 use Rattle.covisor_proxy.specs.BuiltIn.{built_in_read}
 use Rattle.covisor_proxy.specs.Outcomes.{moment}
 use Rattle.covisor_proxy.proofs.Finishing.{begins-none, over-built-in}
-use Rattle.covisor_proxy.proofs.Noting.{built_in_over}
+use Rattle.covisor_proxy.proofs.ToldRuns.{built_in_over}
 use Rattle.covisor_proxy.proofs.forms.replay_built_in.Goals as goal
 
 pub returns-in-Ok-clause-ends : goal.returns-in-Ok-clause-ends

@@ -2,7 +2,7 @@ use Rattle.std.proofs.Common.{Ok}
 use Rattle.covisor_proxy.specs.Asked.{cut_given_of, given_of, stated}
 use Rattle.covisor_proxy.specs.Outcomes.{moment}
 use Rattle.covisor_proxy.proofs.Finishing.{over-policy, replayed-unopened}
-use Rattle.covisor_proxy.proofs.Noting.{held_over, none_held}
+use Rattle.covisor_proxy.proofs.ToldRuns.{held_over, none_held}
 use Rattle.covisor_proxy.proofs.forms.replay_file.Goals as goal
 
 pub returns-in-Ok-clause-ends : goal.returns-in-Ok-clause-ends

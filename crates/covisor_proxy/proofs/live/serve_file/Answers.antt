@@ -7,7 +7,7 @@ use Rattle.covisor_proxy.specs.Outcomes.{moment}
 use Rattle.covisor_proxy.specs.Serving.{EndsServing, EndsUnopened, links_of}
 use Rattle.covisor_proxy.specs.declared.status.Status.{Status}
 use Rattle.covisor_proxy.proofs.Finishing.{ended-served, ended-unserved}
-use Rattle.covisor_proxy.proofs.Noting.{none_held, served_noted, unserved_held}
+use Rattle.covisor_proxy.proofs.ToldRuns.{none_held, served_noted, unserved_held}
 use Rattle.covisor_proxy.proofs.live.serve_file.Goals as goal
 
 pub returns-in-Ok-clause-ends : goal.returns-in-Ok-clause-ends

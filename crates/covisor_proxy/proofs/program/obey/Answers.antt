@@ -12,7 +12,7 @@ use Rattle.covisor_proxy.specs.Serving.{links_of}
 use Rattle.command_line.specs.declared.command.Command.{Command}
 use Rattle.command_line.specs.declared.command.Command.TheVariants.{Make}
 use Rattle.covisor_proxy.proofs.Finishing.{ends-made}
-use Rattle.covisor_proxy.proofs.Noting.{built_in_noted, explain_held, made_noted, replay_held}
+use Rattle.covisor_proxy.proofs.ToldRuns.{built_in_noted, explain_held, made_noted, replay_held}
 use Rattle.covisor_proxy.proofs.program.obey.Goals as goal
 
 pub returns-in-Replay-clause-ends : goal.returns-in-Replay-clause-ends
