@@ -1,10 +1,12 @@
 """Peers of the proxy that serves, over sockets: switches and controllers of OpenFlow 1.0.
 
     serve_peers.py pair LISTEN PORT         a healthy switch, of dpid 1, and a healthy controller at PORT
+    serve_peers.py controller PORT PACE     a controller at PORT alone, which asks every so many seconds
     serve_peers.py switch HOST LISTEN DPID  a switch alone, until it is killed
 
 The pair writes `up` once both are, and as its input ends what it saw: how many of its messages were answered, the 50th
-and 99th percentile and the longest of the times that it took, how many were not, and what was closed on it.
+and 99th percentile and the longest of the times that it took, how many were not, and what was closed on it. So does
+the controller, which asks behind a line `go` of its input, rests behind another one, and answers each of these.
 """
 import asyncio
 import collections
@@ -16,19 +18,11 @@ import sys
 import threading
 import time
 
-HELLO, ERROR, ECHO_REQUEST, ECHO_REPLY, _, FEATURES_REQUEST, FEATURES_REPLY = range(7)
-SET_CONFIG, FLOW_MOD, PORT_MOD, BARRIER_REQUEST, BARRIER_REPLY = 9, 14, 15, 18, 19
-ADD, DELETE, DELETE_STRICT = 0, 3, 4
+from openflow import (ADD, BARRIER_REPLY, BARRIER_REQUEST, DELETE, ECHO_REPLY, ECHO_REQUEST, ERROR, FEATURES_REPLY,
+                      FEATURES_REQUEST, FLOW_MOD, HELLO, SET_CONFIG, message, number)
+
 # How often the healthy ones ask, in seconds.
 PACE = 0.02
-
-
-def message(kind, xid, body=b""):
-    return bytes([1, kind]) + (8 + len(body)).to_bytes(2, "big") + xid.to_bytes(4, "big") + body
-
-
-def number(data, start, end):
-    return int.from_bytes(data[start:end], "big")
 
 
 def add(xid, priority, port, source=None, target=None, passes=False):
@@ -323,18 +317,54 @@ async def pair(listen, port):
     os._exit(0)
 
 
-def tell(switch, controller):
-    times = sorted(switch.times + controller.times)
+async def alone(port, pace):
+    asker, up, goes, links = Healthy("controller"), asyncio.Event(), asyncio.Event(), []
+
+    def greeted(frame):
+        if frame[1] == HELLO:
+            up.set()
+        return message(ECHO_REPLY, number(frame, 4, 8), frame[8:]) if frame[1] == ECHO_REQUEST else b""
+
+    async def come(reader, writer):
+        links.append(writer)
+        await asker.hear(reader, writer, greeted)
+
+    async def talk():
+        while await goes.wait() and not links[-1].is_closing():
+            asker.ask(links[-1], ECHO_REQUEST, ECHO_REPLY)
+            await asyncio.sleep(pace)
+
+    server = await asyncio.start_server(come, "127.0.0.1", port)
+    await asyncio.wait_for(up.wait(), 60)
+    print("up", flush=True)
+    talking = asyncio.create_task(talk())
+    loop = asyncio.get_running_loop()
+    while line := await loop.run_in_executor(None, sys.stdin.readline):
+        goes.set() if line == "go\n" else goes.clear()
+        for _ in range(0 if goes.is_set() else 1000):
+            if asker.asked:
+                await asyncio.sleep(0.01)
+        print("done", flush=True)
+    tell(asker)
+    talking.cancel()
+    server.close()
+    os._exit(0)
+
+
+def tell(*healthy):
+    times = sorted(time for one in healthy for time in one.times)
     at = lambda part: round(1000 * times[min(len(times) - 1, int(part * len(times)))], 2) if times else None
-    unanswered = len(switch.asked) + len(controller.asked)
+    unanswered = sum(len(one.asked) for one in healthy)
     print(json.dumps({"count": len(times), "p50": at(0.5), "p99": at(0.99), "longest": at(1),
-                      "unanswered": unanswered, "lost": switch.lost + controller.lost}), flush=True)
+                      "unanswered": unanswered, "lost": [it for one in healthy for it in one.lost]}), flush=True)
 
 
 def main():
     what, *words = sys.argv[1:]
     if what == "pair":
         asyncio.run(pair(int(words[0]), int(words[1])))
+    elif what == "controller":
+        asyncio.run(alone(int(words[0]), float(words[1])))
     else:
         switch = Switch(int(words[1]), int(words[2]), words[0])
         switch.up.wait()

@@ -6,7 +6,9 @@
 //!
 //! Switches connect to ADDRESS; a controller listens at each PORT of loopback. MODE is `echo`, where a controller sends
 //! ECHO_REQUESTs, or `add`, where it sends ADDs, each with a BARRIER_REQUEST. Each sends COUNT of them, and has at most
-//! WINDOW that aren't answered; after so many seconds it ends, and what was answered by then counts.
+//! WINDOW that aren't answered; after so many seconds it ends, and what was answered by then counts. With `beside` the
+//! first one sends an ECHO_REQUEST each 5 ms, and alone counts; the others send ADDs. With `idle` all say nothing, and
+//! `up` is written once all are up.
 //!
 //! The relay answers ECHO_REQUESTs itself, as the proxy does. Each other frame it passes to the controller's switch
 //! under an xid of its own, and the answer to a BARRIER_REQUEST back under the controller's.
@@ -38,6 +40,8 @@ const NO_PORT: [u8; 2] = [0xff; 2];
 const SEND_FLOW_REMOVED: u16 = 1;
 /// How many entries a controller adds, turn by turn.
 const ENTRIES: u32 = 8;
+/// How often the one asks whom others load.
+const PACE: Duration = Duration::from_millis(5);
 /// How long a proxy may take until it listens.
 const PATIENCE: Duration = Duration::from_secs(20);
 
@@ -182,6 +186,7 @@ fn switch(address: &str, dpid: u64, ready: &Barrier) -> io::Result<()> {
 #[derive(Clone, Copy)]
 struct Load {
     adds: bool,
+    pace: Option<Duration>,
     count: u32,
     window: usize,
     longest: Duration,
@@ -262,8 +267,11 @@ fn controller(listener: &TcpListener, number: u32, load: Load, ready: &Barrier) 
     let mut asking = Asking { load, number, next: 1, sent: VecDeque::new() };
     let mut answered = Answered::default();
     while begun.elapsed() < load.longest {
+        if let Some(pace) = load.pace {
+            thread::sleep(pace);
+        }
         sink.write_all(&asking.further())?;
-        if asking.sent.is_empty() {
+        if asking.sent.is_empty() && load.count > 0 {
             break;
         }
         let frame = match frame(&mut source) {
@@ -286,8 +294,13 @@ fn load(words: &[String]) -> io::Result<()> {
     };
     let whole = |text: &str| text.parse::<u32>().map_err(io::Error::other);
     let load = Load {
-        adds: mode == "add",
-        count: whole(count)?,
+        adds: mode == "add" || mode == "beside",
+        pace: None,
+        count: match mode.as_str() {
+            "idle" => 0,
+            "beside" => u32::MAX - 1,
+            _ => whole(count)?,
+        },
         window: whole(window)? as usize,
         longest: Duration::from_secs(whole(seconds)?.into()),
     };
@@ -303,16 +316,24 @@ fn load(words: &[String]) -> io::Result<()> {
         thread::spawn(move || end_of(&format!("switch {number}"), switch(&address, number as u64 + 1, &ready)));
     }
     let mut threads = Vec::new();
+    let is_beside = mode == "beside";
+    let one = Load { adds: false, pace: Some(PACE), window: 1, ..load };
     for (number, listener) in listeners.into_iter().enumerate() {
-        let ready = ready.clone();
+        let (ready, load) = (ready.clone(), if is_beside && number == 0 { one } else { load });
         threads.push(thread::spawn(move || controller(&listener, number as u32, load, &ready)));
     }
     ready.wait();
+    if mode == "idle" {
+        println!("up");
+        thread::sleep(load.longest);
+    }
     let mut all = Answered::default();
-    for thread in threads {
+    for (number, thread) in threads.into_iter().enumerate() {
         let answered = thread.join().map_err(|_| io::Error::other("a controller panicked"))??;
-        all.spent.extend(answered.spent);
-        all.last = all.last.max(answered.last);
+        if !is_beside || number == 0 {
+            all.spent.extend(answered.spent);
+            all.last = all.last.max(answered.last);
+        }
     }
     tell(all);
     Ok(())
@@ -322,7 +343,9 @@ fn tell(mut all: Answered) {
     all.spent.sort();
     let count = all.spent.len();
     let at = |hundredth: usize| all.spent.get(count * hundredth / 100).map_or(0, |time| time.as_micros());
-    println!("answered={count} microseconds={} p50={} p99={}", all.last.as_micros(), at(50), at(99));
+    let longest = all.spent.last().map_or(0, |time| time.as_micros());
+    let total = all.last.as_micros();
+    println!("answered={count} microseconds={total} p50={} p99={} longest={longest}", at(50), at(99));
 }
 
 fn end_of(name: &str, result: io::Result<()>) {

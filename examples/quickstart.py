@@ -22,7 +22,7 @@ import tempfile
 import time
 import tomllib
 
-INSTALL = "apt-get install mininet openvswitch-switch openvswitch-testcontroller python3-os-ken ethtool"
+INSTALL = "apt-get install mininet openvswitch-switch openvswitch-testcontroller python3-os-ken ethtool iputils-ping"
 try:
     from mininet.cli import CLI
     from mininet.log import setLogLevel

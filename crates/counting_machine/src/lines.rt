@@ -19,6 +19,10 @@ impl Sink for Lines<'_> {
 
     ghost is_reliable = { λ _. true };
 
+    fn wants(&self) -> u64 {
+        0
+    }
+
     fn write(&mut self, piece: &[u8]) -> Result<usize, Failed> {
         for byte in piece {
             if *byte == b'\n' {

@@ -5,9 +5,11 @@
 
 ghost use Rattle.std.specs.Prelude.{◌≡◌, ◌<◌};
 
+mod watched;
+
 use covisor_proxy::{MEMORY, run};
 use cv_io::Steps;
-use outside::{Dial, DiskFiles, Incoming, Links, Outgoing, ScopeSpawner, SystemClock, TcpLinks};
+use outside::{Dial, DiskFiles, Incoming, Links, Outgoing, ScopeSpawner, SystemClock};
 use std::io::ErrorKind;
 use std::marker::Brand;
 use std::process::ExitCode;
@@ -15,6 +17,8 @@ use std::sync::Wait;
 use std::sync::ledger::{Blank, Ledger};
 use std::thread::Threads;
 use std::{env, io};
+use tcp_links::{Settings, TcpLinks};
+use watched::Watched;
 
 /// The words after the program's name. Where one isn't text there are none, which is no form of
 /// the command line either; None for want of memory.
@@ -37,6 +41,7 @@ fn given_words(rt: &HostRuntime) -> Option<Vec<String>> {
 fn run_counted<R: Wait + Threads + Sync, L: Links, G: Ledger>(
     host: &HostRuntime,
     rt: &R,
+    words: &[String],
     links: &mut L,
     blank: Blank,
 ) -> u8
@@ -46,12 +51,9 @@ where
     <L::Dial as Dial>::Out: Drop + Send,
     requires { (blank.name ≡ G.name) × (blank.parts ≡ G.parts) × (0 < blank.parts) }
 {
-    let Some(words) = given_words(host) else {
-        return MEMORY;
-    };
     let mut files = DiskFiles::new(host);
     let mut input = Incoming::new(host.stdin());
-    let mut out = Outgoing::new(io::writer(host));
+    let mut out = Watched::new(host, Outgoing::new(io::writer(host)));
     let mut notes = Outgoing::new(host.stderr());
     let mut spawner = ScopeSpawner::new();
     let clock = SystemClock::new(host);
@@ -59,7 +61,7 @@ where
     run(
         rt,
         host.alloc(),
-        words.as_slice(),
+        words,
         &mut files,
         &mut input,
         &mut out,
@@ -72,6 +74,16 @@ where
 }
 
 fn main(rt: HostRuntime) -> ExitCode {
-    let mut links = TcpLinks::new(&rt, rt.alloc());
-    ExitCode::from(run_counted::<_, _, Brand>(&rt, &rt, &mut links, Blank::new(1)))
+    let Some(words) = given_words(&rt) else {
+        return ExitCode::from(MEMORY);
+    };
+    let settings = Settings::read(&rt);
+    // connections are for policies that are served
+    let mut links = match words.first() {
+        Some(word) if word.as_str() == "serve" => TcpLinks::open(&rt, rt.alloc(), settings),
+        _ => TcpLinks::new(&rt, rt.alloc(), settings),
+    };
+    let status = run_counted::<_, _, Brand>(&rt, &rt, words.as_slice(), &mut links, Blank::new(1));
+    links.close();
+    ExitCode::from(status)
 }

@@ -1,10 +1,10 @@
 -- What several writes append, one after the other.
-use Rattle.std.proofs.Common.{◌≡◌, ◌≤◌, ◌+◌, ◌-◌, min, ℕ, List, [], ◌++◌, Option, Some, None, take, drop, length}
+use Rattle.std.proofs.Common.{◌≡◌, ◌<◌, ◌≤◌, ◌+◌, ◌-◌, min, ℕ, List, [], ◌++◌, Option, Some, None, take, drop, length}
 use Rattle.std.proofs.Common.{sym, ap, ◌∙◌, subst, refl, append_assoc, length-drop, arith}
 use Rattle.std.proofs.Math.Seq.{take-add, take-append-add, take-length}
-use Rattle.std.proofs.lemmas.List.{append-nil, take-append-le, take_all, take_min}
+use Rattle.std.proofs.lemmas.List.{append-nil, length-append, take-append-le, take_all, take_min}
 use Rattle.outside.specs.Outside.{AppendsFirst}
-use Rattle.covisor_proxy.specs.Written.{Appends, AppendsSome}
+use Rattle.covisor_proxy.specs.Written.{Appends, AppendsShort, AppendsSome}
 
 -- before the first write
 pub appends_none : (a : Option (List ℕ)) → Appends a a []
@@ -57,4 +57,32 @@ some_more a b xs ys e =
       min e.0 (length xs),
       subst (Appends a b) (sym (take-append-le (min e.0 (length xs)) xs ys short ∙ take_min e.0 xs))
           e.1,
+    )
+
+-- ---- not all
+
+-- where a write behind the first bytes failed
+pub short_kept : (a b c : Option (List ℕ)) (xs : List ℕ) (k : ℕ) → k < length xs → Appends a b (take k xs) → c ≡ b
+    → AppendsShort a c xs
+short_kept a b c xs k less e same = (k, less, subst (λ z. Appends a z (take k xs)) (sym same) e)
+
+pub short_some : (a b : Option (List ℕ)) (xs : List ℕ) → AppendsShort a b xs → AppendsSome a b xs
+short_some a b xs e = (e.0, e.2)
+
+-- bytes, and then not all of others
+pub short_after : (a b c : Option (List ℕ)) (xs ys : List ℕ) → Appends a b xs → AppendsShort b c ys
+    → AppendsShort a c (xs ++ ys)
+short_after a b c xs ys e f = (
+  length xs + f.0,
+  omega (arith, f.1, length-append xs ys),
+  subst (Appends a c) (sym (take-append-add xs ys f.0)) (appends_both a b c xs (take f.0 ys) e f.2),
+)
+
+-- not all of bytes is not all of more
+pub short_more : (a b : Option (List ℕ)) (xs ys : List ℕ) → AppendsShort a b xs → AppendsShort a b (xs ++ ys)
+short_more a b xs ys e =
+    let short : e.0 ≤ length xs = omega (arith, e.1) in (
+      e.0,
+      omega (arith, e.1, length-append xs ys),
+      subst (Appends a b) (sym (take-append-le e.0 xs ys short)) e.2,
     )

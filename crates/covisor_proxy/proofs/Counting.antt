@@ -2,6 +2,7 @@
 use Rattle.std.proofs.Common.{◌≡◌, ◌<◌, ◌≤◌, ◌+◌, ◌==◌, ℕ, Bool, true, false, List, [], ◌∷◌, ◌++◌, Option, Some, None}
 use Rattle.std.proofs.Common.{Result, Ok, Err}
 use Rattle.std.proofs.Common.{length, sym, ap, ◌∙◌, subst, refl, arith, le_refl}
+use Rattle.std.proofs.lemmas.List.{append-nil}
 use Rattle.std.specs.Prelude.{if◌then◌else◌}
 use Rattle.policies.specs.Policies.{PolicyOf}
 use Rattle.replay_report.specs.Playing.{Played}
@@ -111,3 +112,8 @@ pub cut-most : (form : Form) (p : PolicyOf) (read rest : List ℕ)
     → cut_report_steps form p read ≤ report_steps form p (read ++ rest)
 unfolding cut_report_steps report_steps
 cut-most form p read rest = cut_from form p (steps_of_last form p) (start p) [] read rest
+
+pub cut-whole : (form : Form) (p : PolicyOf) (read : List ℕ) → cut_report_steps form p read ≤ report_steps form p read
+cut-whole form p read =
+    subst (λ (x : List ℕ). cut_report_steps form p read ≤ report_steps form p x) (append-nil read)
+    (cut-most form p read [])

@@ -6,7 +6,7 @@ use Rattle.replay_report.specs.Playing.{Played}
 use Rattle.replay_report.specs.Reports.{Progress}
 use Rattle.replay_report.specs.declared.kind.Kind.{Kind}
 use Rattle.covisor_proxy.specs.Following.{Chokes, Does, Halts, Leaves}
-use Rattle.covisor_proxy.specs.Written.{Appends, AppendsSome}
+use Rattle.covisor_proxy.specs.Written.{Appends, AppendsShort}
 use Rattle.covisor_proxy.specs.declared.stop.Stop.{Stop}
 use Rattle.covisor_proxy.specs.declared.stop.Stop.TheVariants.{Refused, Read, Write, Memory}
 use Rattle.covisor_proxy.proofs.Appending.{appends_none}
@@ -40,11 +40,11 @@ does-written (Err kind) used at at' held held' w mid t a = absurd t
 
 -- or can't be
 pub chokes : (what : Result Played Kind) (used : ℕ) (at at' : Progress) (held held' : Option (List ℕ)) (w mid : List ℕ)
-    → Takes None what used at at' w mid → AppendsSome held held' mid → Chokes what held held' w
+    → Takes None what used at at' w mid → AppendsShort held held' mid → Chokes what held held' w
 chokes (Ok played) used at at' held held' w mid t a = record {
   played = played;
   is = refl;
-  some = subst (AppendsSome held held') t.1 a;
+  short = subst (AppendsShort held held') t.1 a;
 }
 chokes (Err kind) used at at' held held' w mid t a = absurd t
 

@@ -18,11 +18,11 @@ use Rattle.replay_report.proofs.Summing.{part_counts}
 use Rattle.script_text.specs.declared.form.Form.{Form}
 use Rattle.covisor_proxy.specs.Asked.{cut_given_of, given_of}
 use Rattle.covisor_proxy.specs.Chunks.{Gave, GoesOn, IsAtEnd, LinesOf}
-use Rattle.covisor_proxy.specs.Following.{Breaks, Comes, Does, Follows, IsBegun}
-use Rattle.covisor_proxy.specs.Outcomes.{Begins, Counts, Moment, bytes_of, moment}
-use Rattle.covisor_proxy.specs.Written.{Appends, AppendsSome}
+use Rattle.covisor_proxy.specs.Following.{Begins, Breaks, Comes, Does, FallsShort, Follows, IsBegun}
+use Rattle.covisor_proxy.specs.Outcomes.{Counts, Moment, bytes_of, moment}
+use Rattle.covisor_proxy.specs.Written.{Appends, AppendsShort, AppendsSome}
 use Rattle.covisor_proxy.specs.declared.lines.Taken.TheVariants.{Whole, Part}
-use Rattle.covisor_proxy.proofs.Appending.{appends_both, appends_none, some_after, some_more}
+use Rattle.covisor_proxy.proofs.Appending.{appends_both, appends_none, short_after, short_more, some_after, some_more}
 use Rattle.covisor_proxy.proofs.Counting.{at_most, cut-steps-are, line-done, line-most, steps-are, still}
 use Rattle.covisor_proxy.proofs.Reading.{gave-both, gave-none, rest_in, script-is}
 
@@ -289,14 +289,42 @@ begins-here form p old new next at lines w f a s =
     (plays_from form p (plays_last form p) at lines.line (lines.unread ++ rest_in new.left)) f refl
     (some_more new.held next.held w [] a) s
 
-pub begins-line : (form : Form) (p : PolicyOf) (old new next : Moment) (at : Progress) (lines mid : LinesOf)
+-- and not all that waited
+falls : (form : Form) (p : PolicyOf) (old new next : Moment) (at : Progress) (lines : LinesOf) (w text : List ℕ)
+    (last : Report)
+    → Follows form p old new at lines w
+    → plays_from form p (plays_last form p) at lines.line (lines.unread ++ rest_in new.left) ≡ after_text text last
+    → AppendsShort new.held next.held (w ++ text) → next.steps ≤ new.steps + left_steps form p new at lines
+    → FallsShort (given_of form p) old next
+falls form p old new next at lines w text last f e a s =
+    let told : (report_of form p (f.read ++ rest_in new.left)).told ≡ (f.written ++ (w ++ text)) ++ last.told =
+    ap (λ (r : Report). r.told) (report_here form p old new at lines w text last f e) in
+    record {
+      script = f.read ++ rest_in new.left;
+      is = script-is old.left new.left f.read f.gave;
+      short = subst (AppendsShort old.held next.held) (sym told)
+          (short_more old.held next.held (f.written ++ (w ++ text)) last.told
+          (short_after old.held new.held next.held f.written (w ++ text) f.appends a));
+      counts = all_counts form p old new next at lines w f s;
+    }
+
+pub falls-here : (form : Form) (p : PolicyOf) (old new next : Moment) (at : Progress) (lines : LinesOf) (w : List ℕ)
+    → Follows form p old new at lines w → AppendsShort new.held next.held w
+    → next.steps ≤ new.steps + left_steps form p new at lines
+    → FallsShort (given_of form p) old next
+falls-here form p old new next at lines w f a s =
+    falls form p old new next at lines w []
+    (plays_from form p (plays_last form p) at lines.line (lines.unread ++ rest_in new.left)) f refl
+    (short_more new.held next.held w [] a) s
+
+pub falls-line : (form : Form) (p : PolicyOf) (old new next : Moment) (at : Progress) (lines mid : LinesOf)
     (w : List ℕ) (played : Played)
     → Follows form p old new at lines w → GoesOn Whole lines mid
     → taken form p at mid.line (length mid.line + 1) ≡ Ok played
-    → AppendsSome new.held next.held (w ++ played.text) → next.steps ≤ new.steps + left_steps form p new at lines
-    → Begins (given_of form p) old next
-begins-line form p old new next at lines mid w played f g t a s =
-    begins form p old new next at lines w played.text
+    → AppendsShort new.held next.held (w ++ played.text) → next.steps ≤ new.steps + left_steps form p new at lines
+    → FallsShort (given_of form p) old next
+falls-line form p old new next at lines mid w played f g t a s =
+    falls form p old new next at lines w played.text
     (plays_from form p (plays_last form p) (further (length mid.line + 1) at played.stand) []
     (mid.unread ++ rest_in new.left)) f
     (sym (done_onward form p (plays_last form p) at lines mid (rest_in new.left) played g t)) a s
@@ -345,5 +373,6 @@ breaks form p old new next at lines w f none a same steps =
       appends = subst (Appends old.held next.held) (sym told)
           (appends_both old.held new.held next.held f.written w f.appends a);
       last = ap (λ (r : Report). r.last) e;
+      status = ap (λ (r : Report). r.status) e;
       counts = cut_counts form p old new next at lines w f steps;
     }

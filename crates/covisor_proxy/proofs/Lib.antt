@@ -6,6 +6,8 @@ pub mod Doing
 pub mod Reaching
 pub mod Finishing
 pub mod Statuses
+pub mod Joining
+pub mod Answering
 pub mod Running
 pub mod Linking
 pub mod ToldRuns

@@ -13,15 +13,15 @@ use Rattle.replay_report.specs.declared.kind.Kind.TheVariants.{Long}
 use Rattle.script_text.specs.declared.form.Form.{Form}
 use Rattle.covisor_proxy.specs.Asked.{given_of}
 use Rattle.covisor_proxy.specs.Chunks.{GoesOn, IsAtEnd, LinesOf}
-use Rattle.covisor_proxy.specs.Following.{Closes, ClosesNot, Comes, Follows, Halts, Reaches, Reads, ReadsNot}
-use Rattle.covisor_proxy.specs.Outcomes.{Begins, Moment, moment}
+use Rattle.covisor_proxy.specs.Following.{Begins, Closes, ClosesNot, Comes, Follows, Halts, Reaches, Reads, ReadsNot}
+use Rattle.covisor_proxy.specs.Outcomes.{Moment, moment}
 use Rattle.covisor_proxy.specs.Written.{Appends, AppendsSome}
 use Rattle.covisor_proxy.specs.declared.lines.Taken.TheVariants.{Whole, Part}
 use Rattle.covisor_proxy.specs.declared.stop.Stop.{Stop}
 use Rattle.covisor_proxy.specs.declared.stop.Stop.TheVariants.{Refused, Read, Write, Memory}
 use Rattle.covisor_proxy.proofs.Appending.{some_none}
-use Rattle.covisor_proxy.proofs.Going.{begins-here, begins-line, breaks, comes, comes-long, comes-refused, follows-read}
-use Rattle.covisor_proxy.proofs.Going.{left_steps, line-left}
+use Rattle.covisor_proxy.proofs.Going.{begins-here, breaks, comes, comes-long, comes-refused, falls-here, falls-line}
+use Rattle.covisor_proxy.proofs.Going.{follows-read, left_steps, line-left}
 use Rattle.covisor_proxy.proofs.Counting.{still}
 use Rattle.covisor_proxy.proofs.Reading.{none-left, rest_in}
 
@@ -56,7 +56,7 @@ reaches-halted (Refused kind) form p old new held writes steps at at' lines mid 
     )
 reaches-halted Write form p old new held writes steps at at' lines mid w w' f g q h s = (
   subst (λ (x : ℕ). Rose x writes) q h.0,
-  begins-line form p old new (moment new.left new.reads held writes steps) at lines mid w h.1.played f g h.1.is h.1.some
+  falls-line form p old new (moment new.left new.reads held writes steps) at lines mid w h.1.played f g h.1.is h.1.short
       (line-left form p new steps at lines mid g s),
 )
 reaches-halted Memory form p old new held writes steps at at' lines mid w w' f g q h s =
@@ -80,7 +80,7 @@ reaches-unread (Refused kind) form p old new next at at' lines w w' f none r q s
 )
 reaches-unread Write form p old new next at at' lines w w' f none r q s same h = (
   subst (λ (x : ℕ). Rose x next.writes) q h.0,
-  begins-here form p old new next at lines w f h.1 (still next.steps new.steps (left_steps form p new at lines) s),
+  falls-here form p old new next at lines w f h.1 (still next.steps new.steps (left_steps form p new at lines) s),
 )
 reaches-unread Read form p old new next at at' lines w w' f none r q s same h = (
   breaks form p old new next at lines w f none h.1 h.2 s,

@@ -40,6 +40,10 @@ cut_given_of form p read = record { report = cut_report_of form p read; steps = 
 abbrev pub line_alone : List ℕ → ℕ → Given
 line_alone text status = record { report = lone text status; steps = 0 }
 
+-- nothing is told, without a step
+abbrev pub nothing_told : ℕ → Given
+nothing_told status = record { report = record { told = []; last = []; status = status }; steps = 0 }
+
 -- over a policy; where it is refused, its fault is told
 abbrev pub over : Scripts → Form → Result PolicyOf PolicyFault → List ℕ → Given
 over gives form (Ok p) script = gives form p script
@@ -48,18 +52,18 @@ over gives form (Err fault) script = line_alone (codes "fault policy " ++ terse 
 -- over the built-in policy, which is none that is refused
 abbrev pub over_built_in : Scripts → Result PolicyOf PolicyFault → List ℕ → Given
 over_built_in gives (Ok p) script = gives forms.Replay p script
-over_built_in gives (Err fault) script = line_alone [] 10
+over_built_in gives (Err fault) script = nothing_told 10
 
 -- over what files answer to a name
 abbrev pub over_file : Scripts → Form → List ℕ → Result (List ℕ) FileFault → List ℕ → Given
 over_file gives form name (Ok bytes) script = over gives form (stated bytes) script
 over_file gives form name (Err Absent) script = line_alone (codes "fault absent " ++ name) 7
 over_file gives form name (Err Failed) script = line_alone (codes "fault read") 5
-over_file gives form name (Err Memory) script = line_alone [] 10
+over_file gives form name (Err Memory) script = nothing_told 10
 
 -- over a policy that is served no script gives anything
 abbrev pub no_report : Scripts
-no_report form p script = line_alone [] 0
+no_report form p script = nothing_told 0
 
 -- what a command gives; of one that serves a policy only what is told where there is none
 abbrev pub gives : Scripts → Option Command → Result (List ℕ) FileFault → List ℕ → Given

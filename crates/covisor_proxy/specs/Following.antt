@@ -13,8 +13,8 @@ use Rattle.replay_report.specs.declared.kind.Kind.TheVariants.{Long}
 use Rattle.script_text.specs.declared.form.Form.{Form}
 use Rattle.covisor_proxy.specs.Asked.{Given, cut_given_of, given_of}
 use Rattle.covisor_proxy.specs.Chunks.{Gave, IsAtEnd, LinesOf}
-use Rattle.covisor_proxy.specs.Outcomes.{Begins, Counts, IsScript, Moment}
-use Rattle.covisor_proxy.specs.Written.{Appends, AppendsSome}
+use Rattle.covisor_proxy.specs.Outcomes.{Counts, IsScript, Moment, bytes_of}
+use Rattle.covisor_proxy.specs.Written.{Appends, AppendsShort, AppendsSome, Writes}
 use Rattle.covisor_proxy.specs.declared.status.Status.{Status}
 use Rattle.covisor_proxy.specs.declared.status.Status.TheVariants as statuses
 use Rattle.covisor_proxy.specs.declared.stop.Stop.{Stop}
@@ -60,7 +60,22 @@ pub record Breaks (cut : List ℕ → Given) (old new : Moment) : Type 0 where
   pub gave : Gave old.left new.left read
   pub appends : Appends old.held new.held (cut read).report.told
   pub last : (cut read).report.last ≡ as_line (codes "fault read")
+  pub status : (cut read).report.status ≡ 5
   pub counts : Counts (cut read).steps old new
+
+-- the beginning of the script's report was written
+pub record Begins (all : List ℕ → Given) (old new : Moment) : Type 0 where
+  pub script : List ℕ
+  pub is : IsScript old.left script
+  pub written : AppendsSome old.held new.held (bytes_of (all script).report)
+  pub counts : Counts (all script).steps old new
+
+-- and not even all that comes before its last line
+pub record FallsShort (all : List ℕ → Given) (old new : Moment) : Type 0 where
+  pub script : List ℕ
+  pub is : IsScript old.left script
+  pub short : AppendsShort old.held new.held (all script).report.told
+  pub counts : Counts (all script).steps old new
 
 -- a replay ended so: at the end of its script, at a line, at a read, at a write, or for want of memory
 abbrev pub Reaches : Result (Unit {0}) Stop → Form → PolicyOf → Progress → List ℕ → Moment → Moment → Type 0
@@ -71,7 +86,7 @@ Reaches (Err (Refused kind)) form p at waiting old new =
     Comes (given_of form p) (refused kind at) old new waiting × (new.writes ≡ old.writes)
 Reaches (Err Read) form p at waiting old new =
     Breaks (cut_given_of form p) old new × Rose old.reads new.reads × (new.writes ≡ old.writes)
-Reaches (Err Write) form p at waiting old new = Rose old.writes new.writes × Begins (given_of form p) old new
+Reaches (Err Write) form p at waiting old new = Rose old.writes new.writes × FallsShort (given_of form p) old new
 Reaches (Err Memory) form p at waiting old new = Begins (given_of form p) old new
 
 -- ---- a line
@@ -97,7 +112,7 @@ pub record Does (what : Result Played Kind) (used : ℕ) (before after : Progres
 pub record Chokes (what : Result Played Kind) (held held' : Option (List ℕ)) (waiting : List ℕ) : Type 0 where
   pub played : Played
   pub is : what ≡ Ok played
-  pub some : AppendsSome held held' (waiting ++ played.text)
+  pub short : AppendsShort held held' (waiting ++ played.text)
 
 abbrev pub Halts : Stop → Result Played Kind → Progress → Progress → (held held' : Option (List ℕ))
     → (faults faults' : ℕ) → List ℕ → List ℕ → Type 0
@@ -140,33 +155,30 @@ abbrev pub ReadsNot : Stop → Moment → Moment → List ℕ → List ℕ → L
 ReadsNot (Refused kind) old new line waiting waiting' =
     (kind ≡ Long) × (140000 < length line) × (new ≡ old) × (waiting' ≡ waiting)
 ReadsNot Write old new line waiting waiting' =
-    Rose old.writes new.writes × AppendsSome old.held new.held waiting × (new.left ≡ old.left)
+    Rose old.writes new.writes × AppendsShort old.held new.held waiting × (new.left ≡ old.left)
 ReadsNot Read old new line waiting waiting' =
     Rose old.reads new.reads × Appends old.held new.held waiting × (new.left ≡ old.left) × (new.writes ≡ old.writes)
 ReadsNot Memory old new line waiting waiting' = ⊥
 
 -- ---- last lines
 
--- bytes were written, or the first of them up to where a write failed
-abbrev pub Writes : (held held' : Option (List ℕ)) → (faults faults' : ℕ) → List ℕ → Type 0
-Writes held held' faults faults' bytes = Appends held held' bytes ⊎ (Rose faults faults' × AppendsSome held held' bytes)
-
 -- what waited and the last line were written, or the first of them up to where a write failed
 abbrev pub EndsWith : Status → (held held' : Option (List ℕ)) → (faults faults' : ℕ) → List ℕ → List ℕ → Type 0
 EndsWith statuses.Done held held' faults faults' waiting last =
     Appends held held' (waiting ++ last) × (faults' ≡ faults)
 EndsWith statuses.Write held held' faults faults' waiting last =
-    Rose faults faults' × AppendsSome held held' (waiting ++ last)
+    Rose faults faults' × AppendsShort held held' (waiting ++ last)
 EndsWith statuses.Memory held held' faults faults' waiting last = held' ≡ held
 EndsWith _ held held' faults faults' waiting last = ⊥
 
--- the same of a script that stops at a line; where a write of the last line failed, the status stays
+-- the same of a script that stops at a line; where a write of the last line failed, the status stays, and where one
+-- before it did, that line isn't begun
 abbrev pub StopsWith : Status → (held held' : Option (List ℕ)) → (faults faults' : ℕ) → List ℕ → List ℕ → Type 0
 StopsWith statuses.Line held held' faults faults' waiting last =
     Appends held held' (waiting ++ last)
-    ⊎ (Rose faults faults' × ((n : ℕ) × Appends held held' (waiting ++ take n last)))
+    ⊎ (Rose faults faults' × ((n : ℕ) × (n < length last) × Appends held held' (waiting ++ take n last)))
 StopsWith statuses.Write held held' faults faults' waiting last =
-    Rose faults faults' × AppendsSome held held' (waiting ++ last)
+    Rose faults faults' × AppendsShort held held' waiting
 StopsWith statuses.Memory held held' faults faults' waiting last = held' ≡ held
 StopsWith _ held held' faults faults' waiting last = ⊥
 

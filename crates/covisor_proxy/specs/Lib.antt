@@ -3,9 +3,11 @@ pub mod Chunks
 pub mod BuiltIn
 pub mod Asked
 pub mod Outcomes
+pub mod Outside
 pub mod Opening
 pub mod Following
 pub mod Serving
 pub mod Runs
 pub mod LineNotes
 pub mod Noted
+pub mod Laws

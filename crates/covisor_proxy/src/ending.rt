@@ -7,10 +7,10 @@ ghost use Rattle.replay_report.specs.Reports.{end_text, refusal_text};
 ghost use Rattle.replay_report.specs.Takings.{as_line};
 ghost use Rattle.script_text.specs.declared.form.Form.{Form};
 ghost use Rattle.covisor_proxy.specs.Asked.{cut_given_of, given_of};
-ghost use Rattle.covisor_proxy.specs.Following.{EndsWith, Reaches, StopsWith, Writes};
+ghost use Rattle.covisor_proxy.specs.Following.{EndsWith, Reaches, StopsWith};
 ghost use Rattle.covisor_proxy.specs.Noted.{IsEnd};
-ghost use Rattle.covisor_proxy.specs.Outcomes.{Ends, Moment, moment};
-ghost use Rattle.covisor_proxy.specs.Written.{Appends, AppendsSome};
+ghost use Rattle.covisor_proxy.specs.Outcomes.{Moment, Replayed, moment};
+ghost use Rattle.covisor_proxy.specs.Written.{Appends, AppendsShort, Writes};
 
 use crate::status::Status;
 use crate::stop::Stop;
@@ -40,7 +40,7 @@ pub(crate) fn conclude<K: Sink>(
     ensures ends { (form : Form) (p : PolicyOf) (old : Moment) (left : Option (List ℕ)) (reads steps : ℕ)
         → Reaches outcome form p (progress_of player.old) (reported player.old) old
         (moment left reads (K.held out.old) (K.faults out.old) steps)
-        → Ends result (given_of form p) (cut_given_of form p) old
+        → Replayed result (given_of form p) (cut_given_of form p) old
         (moment left reads (K.held out.new) (K.faults out.new) steps) }
     ensures form { result ≢ Status.Usage }
     ensures done { result ≡ Status.Done → IsOk outcome }
@@ -71,7 +71,7 @@ fn stopped<K: Sink>(alloc: Global, player: &mut Player, stop: Stop, out: &mut K)
     ensures ends { (form : Form) (p : PolicyOf) (old : Moment) (left : Option (List ℕ)) (reads steps : ℕ)
         → Reaches (Err stop) form p (progress_of player.old) (reported player.old) old
         (moment left reads (K.held out.old) (K.faults out.old) steps)
-        → Ends result (given_of form p) (cut_given_of form p) old
+        → Replayed result (given_of form p) (cut_given_of form p) old
         (moment left reads (K.held out.new) (K.faults out.new) steps) }
     ensures form { result ≢ Status.Usage }
     ensures done { result ≢ Status.Done }
@@ -97,10 +97,10 @@ fn refuse<K: Sink>(alloc: Global, player: &mut Player, kind: Kind, out: &mut K) 
 }
 
 /// Writes what waits, and a last line.
-#[tactic(auto, using(crate::proofs::Appending::appends_both, crate::proofs::Appending::some_after, crate::proofs::Appending::some_more))]
+#[tactic(auto, using(crate::proofs::Appending::appends_both, crate::proofs::Appending::short_after, crate::proofs::Appending::short_more))]
 fn write_rest<K: Sink>(player: &mut Player, out: &mut K, last: &[u8]) -> Result<(), Failed>
     ensures written { OnOk result (Appends (K.held out.old) (K.held out.new) (reported player.old ++ last.now)) }
-    ensures some { OnErr result (AppendsSome (K.held out.old) (K.held out.new) (reported player.old ++ last.now)) }
+    ensures short { OnErr result (AppendsShort (K.held out.old) (K.held out.new) (reported player.old ++ last.now)) }
     ensures quiet { OnOk result (K.faults out.new ≡ K.faults out.old) }
     ensures fault { OnErr result (Rose (K.faults out.old) (K.faults out.new)) }
 {
@@ -109,7 +109,7 @@ fn write_rest<K: Sink>(player: &mut Player, out: &mut K, last: &[u8]) -> Result<
 }
 
 /// Writes what waits, and the last line of a script that stops at a line.
-#[tactic(auto, using(crate::proofs::Appending::appends_both, crate::proofs::Appending::some_after, crate::proofs::Appending::some_more))]
+#[tactic(auto, using(crate::proofs::Appending::appends_both))]
 fn write_stop<K: Sink>(player: &mut Player, out: &mut K, last: &[u8]) -> Status
     ensures { StopsWith result (K.held out.old) (K.held out.new) (K.faults out.old) (K.faults out.new)
         (reported player.old) last.now }

@@ -9,7 +9,7 @@ ghost use Rattle.covisor_proxy.specs.BuiltIn.{built_in_read};
 ghost use Rattle.covisor_proxy.specs.Chunks.{IsAtEnd};
 ghost use Rattle.covisor_proxy.specs.Following.{EndsWith, IsBegun};
 ghost use Rattle.covisor_proxy.specs.Noted.{NotesFile, NotesOver};
-ghost use Rattle.covisor_proxy.specs.Outcomes.{Ends, moment};
+ghost use Rattle.covisor_proxy.specs.Outcomes.{Replayed, moment};
 ghost use Rattle.script_text.specs.declared.form.Form.TheVariants as forms;
 ghost use Rattle.covisor_proxy.specs.Runs.{EndsOver};
 
@@ -59,7 +59,7 @@ fn replay<R: Threads + Sync, S: Source, K: Sink, N: Sink, G: Ledger>(
     notes: &mut N,
     steps: &mut Steps<G>,
 ) -> Status
-    ensures ends { Ends result (given_of form policy) (cut_given_of form policy)
+    ensures ends { Replayed result (given_of form policy) (cut_given_of form policy)
         (moment (S.remaining input.old) (S.faults input.old) (K.held out.old) (K.faults out.old) steps.old)
         (moment (S.remaining input.new) (S.faults input.new) (K.held out.new) (K.faults out.new) steps.new) }
     ensures notes { NotesOver result form (given_of form policy) (S.remaining input.old)
@@ -92,7 +92,7 @@ pub(crate) fn replay_built_in<R: Threads + Sync, S: Source, K: Sink, N: Sink, G:
     notes: &mut N,
     steps: &mut Steps<G>,
 ) -> Status
-    ensures ends { Ends result (over_built_in given_of built_in_read) (over_built_in cut_given_of built_in_read)
+    ensures ends { Replayed result (over_built_in given_of built_in_read) (over_built_in cut_given_of built_in_read)
         (moment (S.remaining input.old) (S.faults input.old) (K.held out.old) (K.faults out.old) steps.old)
         (moment (S.remaining input.new) (S.faults input.new) (K.held out.new) (K.faults out.new) steps.new) }
     ensures notes { NotesOver result forms.Replay (over_built_in given_of built_in_read) (S.remaining input.old)

@@ -4,6 +4,7 @@
 
 mod ending;
 mod forms;
+pub mod laws;
 mod line_notes;
 mod lines;
 mod live;

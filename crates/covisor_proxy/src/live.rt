@@ -1,17 +1,19 @@
 //! The form `serve`.
 ghost use Rattle.std.specs.Prelude.{◌≡◌, ◌≢◌, List, Option, Some, ℕ};
-ghost use Rattle.outside.specs.Outside.{Rose};
+ghost use Rattle.outside.specs.declared.files.MemFile.{MemFile};
 ghost use Rattle.command_line.specs.declared.command.Command.TheVariants as commands;
 ghost use Rattle.covisor_proxy.specs.Noted.{Notes, NotesServed};
-ghost use Rattle.covisor_proxy.specs.Outcomes.{moment};
-ghost use Rattle.covisor_proxy.specs.Runs.{Ended};
-ghost use Rattle.covisor_proxy.specs.Serving.{EndsServing, NeverFail, links_of};
+ghost use Rattle.covisor_proxy.specs.Outcomes.{code_of};
+ghost use Rattle.covisor_proxy.specs.Outside.{outside_of};
+ghost use Rattle.covisor_proxy.specs.Runs.{Runs};
+ghost use Rattle.covisor_proxy.specs.Serving.{EndsServing};
 
 use crate::ending::write_fault;
 use crate::noting::{LINK, SPAWN, note_remarks, note_words};
 use crate::opening::open;
 use crate::status::Status;
 use crate::telling::tell;
+use crate::writing::write_all;
 use cv_io::{Duplicate, Text};
 use hyper_core::Hyper;
 use outside::{Clock, Dial, Files, Links, Sink, Spawner};
@@ -47,18 +49,15 @@ where
     L::Dial: Drop,
     <L::Dial as Dial>::In: Drop + Send,
     <L::Dial as Dial>::Out: Drop + Send,
-    ensures ends { (left : Option (List ℕ)) (reads steps : ℕ) → Ended ⟦<Hyper as Machine>⟧
-        (links_of (L.told links.old) (L.is_reliable links.old) (L.faults links.old) (L.faults links.new)) result
-        (Some (commands.Serve name.now)) (F.files files.old) (F.faults files.old) (F.faults files.new)
-        (moment left reads (K.held out.old) (K.faults out.old) steps)
-        (moment left reads (K.held out.new) (K.faults out.new) steps) }
+    ensures runs { (left : Option (List ℕ)) (reads steps : ℕ) → Runs ⟦<Hyper as Machine>⟧ (C.may clock.now)
+        (outside_of (F.files files.old) (F.faults files.old) left reads (K.held out.old) (K.faults out.old)
+        (L.told links.old) (L.is_reliable links.old) (L.faults links.old) (P.faults spawner.old) steps)
+        (outside_of (F.files files.new) (F.faults files.new) left reads (K.held out.new) (K.faults out.new)
+        (L.told links.new) (L.is_reliable links.new) (L.faults links.new) (P.faults spawner.new) steps)
+        (code_of result) (Some (commands.Serve name.now)) }
     ensures notes { (left : Option (List ℕ)) → Notes result (Some (commands.Serve name.now)) (F.files files.old)
         (F.faults files.old) (F.faults files.new) left (N.held notes.old) (N.held notes.new) }
     ensures form { result ≢ Status.Usage }
-    ensures link { result ≡ Status.Link
-        → NeverFail (links_of (L.told links.old) (L.is_reliable links.old) (L.faults links.old) (L.faults links.new))
-        → Rose (L.faults links.old) (L.faults links.new) }
-    ensures spawn { result ≡ Status.Spawn → Rose (P.faults spawner.old) (P.faults spawner.new) }
 {
     match open(alloc, files, name) {
         Ok(policy) => serve(rt, alloc, policy, out, notes, links, spawner, clock),
@@ -88,23 +87,24 @@ where
     L::Dial: Drop,
     <L::Dial as Dial>::In: Drop + Send,
     <L::Dial as Dial>::Out: Drop + Send,
-    ensures ends { (left : Option (List ℕ)) (reads steps : ℕ) → EndsServing ⟦<Hyper as Machine>⟧
-        (links_of (L.told links.old) (L.is_reliable links.old) (L.faults links.old) (L.faults links.new)) result policy
-        (moment left reads (K.held out.old) (K.faults out.old) steps)
-        (moment left reads (K.held out.new) (K.faults out.new) steps) }
+    ensures ends { (files files' : Option (List MemFile)) (fails fails' : ℕ) (left : Option (List ℕ))
+        (reads steps : ℕ) → EndsServing ⟦<Hyper as Machine>⟧ (C.may clock.now) result policy
+        (outside_of files fails left reads (K.held out.old) (K.faults out.old)
+        (L.told links.old) (L.is_reliable links.old) (L.faults links.old) (P.faults spawner.old) steps)
+        (outside_of files' fails' left reads (K.held out.new) (K.faults out.new)
+        (L.told links.new) (L.is_reliable links.new) (L.faults links.new) (P.faults spawner.new) steps) }
     ensures notes { NotesServed result policy (N.held notes.old) (N.held notes.new) }
-    ensures link { result ≡ Status.Link
-        → NeverFail (links_of (L.told links.old) (L.is_reliable links.old) (L.faults links.old) (L.faults links.new))
-        → Rose (L.faults links.old) (L.faults links.new) }
-    ensures spawn { result ≡ Status.Spawn → Rose (P.faults spawner.old) (P.faults spawner.new) }
 {
     note_remarks(alloc, notes, &policy);
     match serve_policy(rt, alloc, policy, out, links, spawner, clock) {
         Served::Done => Status::Done,
-        Served::Link => {
-            note_words(alloc, notes, LINK);
-            write_fault(out, b"fault link\n", Status::Link)
-        }
+        Served::Link => match write_all(out, b"fault link\n") {
+            Ok(()) => {
+                note_words(alloc, notes, LINK);
+                Status::Link
+            }
+            Err(_) => Status::Write,
+        },
         Served::Spawn => {
             note_words(alloc, notes, SPAWN);
             write_fault(out, b"fault spawn\n", Status::Spawn)

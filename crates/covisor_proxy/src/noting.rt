@@ -30,7 +30,7 @@ pub(crate) const LINK: &str =
 pub(crate) const SPAWN: &str = "the works that serve could not be run; nothing was served";
 
 /// Writes bytes, or their beginning up to where a write fails.
-#[tactic(auto, using(crate::proofs::Appending::some_all))]
+#[tactic(auto, using(crate::proofs::Appending::some_all, crate::proofs::Appending::short_some))]
 fn write_some<N: Sink>(notes: &mut N, bytes: &[u8])
     ensures { AppendsSome (N.held notes.old) (N.held notes.new) bytes.now }
 {

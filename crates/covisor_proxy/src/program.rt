@@ -1,12 +1,10 @@
 //! The top call.
-ghost use Rattle.std.specs.Prelude.{◌≡◌, ◌≢◌, ◌↔◌, ◌⊎◌, None, Some, true};
-ghost use Rattle.outside.specs.Outside.{Rose};
-ghost use Rattle.covisor_proxy.specs.Chunks.{IsAtEnd};
-ghost use Rattle.covisor_proxy.specs.Noted.{Noted, Notes};
-ghost use Rattle.covisor_proxy.specs.Outcomes.{moment};
-ghost use Rattle.covisor_proxy.specs.Runs.{Ended, IsAbsent, IsComplete, IsCounted, IsRefused, Runs, calls, has_script};
-ghost use Rattle.covisor_proxy.specs.Serving.{NeverFail, links_of};
+ghost use Rattle.std.specs.Prelude.{◌≡◌, ◌≢◌, ◌↔◌, None, Some};
 ghost use Rattle.command_line.specs.Forms.{command_of};
+ghost use Rattle.covisor_proxy.specs.Noted.{Noted, Notes};
+ghost use Rattle.covisor_proxy.specs.Outcomes.{code_of};
+ghost use Rattle.covisor_proxy.specs.Outside.{outside_of};
+ghost use Rattle.covisor_proxy.specs.Runs.{Runs};
 
 use crate::ending::write_fault;
 use crate::forms::{make, replay_built_in, replay_file};
@@ -71,33 +69,17 @@ where
     L::Dial: Drop,
     <L::Dial as Dial>::In: Drop + Send,
     <L::Dial as Dial>::Out: Drop + Send,
-    ensures runs { Runs ⟦<Hyper as Machine>⟧
-        (links_of (L.told links.old) (L.is_reliable links.old) (L.faults links.old) (L.faults links.new)) result
-        (command_of words.now) (F.files files.old) (F.faults files.old) (F.faults files.new)
-        (moment (S.remaining input.old) (S.faults input.old) (K.held out.old) (K.faults out.old) steps.old)
-        (moment (S.remaining input.new) (S.faults input.new) (K.held out.new) (K.faults out.new) steps.new) }
-    ensures steps { IsCounted (command_of words.now) (F.files files.old) (F.faults files.old) (F.faults files.new)
-        (S.remaining input.old) steps.old steps.new }
+    ensures runs { Runs ⟦<Hyper as Machine>⟧ (C.may clock.now)
+        (outside_of (F.files files.old) (F.faults files.old) (S.remaining input.old) (S.faults input.old)
+        (K.held out.old) (K.faults out.old) (L.told links.old) (L.is_reliable links.old) (L.faults links.old)
+        (P.faults spawner.old) steps.old)
+        (outside_of (F.files files.new) (F.faults files.new) (S.remaining input.new) (S.faults input.new)
+        (K.held out.new) (K.faults out.new) (L.told links.new) (L.is_reliable links.new) (L.faults links.new)
+        (P.faults spawner.new) steps.new)
+        result (command_of words.now) }
     ensures notes { Noted result (command_of words.now) (F.files files.old) (F.faults files.old) (F.faults files.new)
         (S.remaining input.old) (N.held notes.old) (N.held notes.new) }
     ensures usage { (result ≡ 2) ↔ (command_of words.now ≡ None) }
-    ensures refused { result ≡ 3 → IsRefused (command_of words.now) (F.files files.old) }
-    ensures absent { result ≡ 7 → IsAbsent (command_of words.now) (F.files files.old) }
-    ensures read { result ≡ 5 → Rose (F.faults files.old) (F.faults files.new)
-        ⊎ Rose (S.faults input.old) (S.faults input.new) }
-    ensures write { result ≡ 6 → Rose (K.faults out.old) (K.faults out.new) }
-    ensures link { result ≡ 8
-        → NeverFail (links_of (L.told links.old) (L.is_reliable links.old) (L.faults links.old) (L.faults links.new))
-        → Rose (L.faults links.old) (L.faults links.new) }
-    ensures spawn { result ≡ 9 → Rose (P.faults spawner.old) (P.faults spawner.new) }
-    ensures whole { result ≡ 0 → has_script (command_of words.now) ≡ true → IsAtEnd (S.remaining input.new) }
-    ensures complete { IsComplete
-        (links_of (L.told links.old) (L.is_reliable links.old) (L.faults links.old) (L.faults links.new)) result
-        (command_of words.now) (F.files files.old)
-        (calls (F.faults files.old) (L.faults links.old) (P.faults spawner.old))
-        (calls (F.faults files.new) (L.faults links.new) (P.faults spawner.new))
-        (moment (S.remaining input.old) (S.faults input.old) (K.held out.old) (K.faults out.old) steps.old)
-        (moment (S.remaining input.new) (S.faults input.new) (K.held out.new) (K.faults out.new) steps.new) }
 {
     answer(
         rt, alloc, words, files, input, out, notes, links, spawner, clock, steps,
@@ -133,19 +115,17 @@ where
     L::Dial: Drop,
     <L::Dial as Dial>::In: Drop + Send,
     <L::Dial as Dial>::Out: Drop + Send,
-    ensures ends { Ended ⟦<Hyper as Machine>⟧
-        (links_of (L.told links.old) (L.is_reliable links.old) (L.faults links.old) (L.faults links.new)) result
-        (command_of words.now) (F.files files.old) (F.faults files.old) (F.faults files.new)
-        (moment (S.remaining input.old) (S.faults input.old) (K.held out.old) (K.faults out.old) steps.old)
-        (moment (S.remaining input.new) (S.faults input.new) (K.held out.new) (K.faults out.new) steps.new) }
+    ensures runs { Runs ⟦<Hyper as Machine>⟧ (C.may clock.now)
+        (outside_of (F.files files.old) (F.faults files.old) (S.remaining input.old) (S.faults input.old)
+        (K.held out.old) (K.faults out.old) (L.told links.old) (L.is_reliable links.old) (L.faults links.old)
+        (P.faults spawner.old) steps.old)
+        (outside_of (F.files files.new) (F.faults files.new) (S.remaining input.new) (S.faults input.new)
+        (K.held out.new) (K.faults out.new) (L.told links.new) (L.is_reliable links.new) (L.faults links.new)
+        (P.faults spawner.new) steps.new)
+        (code_of result) (command_of words.now) }
     ensures notes { Notes result (command_of words.now) (F.files files.old) (F.faults files.old) (F.faults files.new)
         (S.remaining input.old) (N.held notes.old) (N.held notes.new) }
     ensures usage { (result ≡ Status.Usage) ↔ (command_of words.now ≡ None) }
-    ensures link { result ≡ Status.Link
-        → NeverFail (links_of (L.told links.old) (L.is_reliable links.old) (L.faults links.old) (L.faults links.new))
-        → Rose (L.faults links.old) (L.faults links.new) }
-    ensures spawn { result ≡ Status.Spawn → Rose (P.faults spawner.old) (P.faults spawner.new) }
-    ensures whole { result ≡ Status.Done → has_script (command_of words.now) ≡ true → IsAtEnd (S.remaining input.new) }
 {
     match asked(alloc, words) {
         Ok(command) => respond(
@@ -183,19 +163,17 @@ where
     L::Dial: Drop,
     <L::Dial as Dial>::In: Drop + Send,
     <L::Dial as Dial>::Out: Drop + Send,
-    ensures ends { Ended ⟦<Hyper as Machine>⟧
-        (links_of (L.told links.old) (L.is_reliable links.old) (L.faults links.old) (L.faults links.new)) result
-        (command) (F.files files.old) (F.faults files.old) (F.faults files.new)
-        (moment (S.remaining input.old) (S.faults input.old) (K.held out.old) (K.faults out.old) steps.old)
-        (moment (S.remaining input.new) (S.faults input.new) (K.held out.new) (K.faults out.new) steps.new) }
-    ensures notes { Notes result (command) (F.files files.old) (F.faults files.old) (F.faults files.new)
+    ensures runs { Runs ⟦<Hyper as Machine>⟧ (C.may clock.now)
+        (outside_of (F.files files.old) (F.faults files.old) (S.remaining input.old) (S.faults input.old)
+        (K.held out.old) (K.faults out.old) (L.told links.old) (L.is_reliable links.old) (L.faults links.old)
+        (P.faults spawner.old) steps.old)
+        (outside_of (F.files files.new) (F.faults files.new) (S.remaining input.new) (S.faults input.new)
+        (K.held out.new) (K.faults out.new) (L.told links.new) (L.is_reliable links.new) (L.faults links.new)
+        (P.faults spawner.new) steps.new)
+        (code_of result) command }
+    ensures notes { Notes result command (F.files files.old) (F.faults files.old) (F.faults files.new)
         (S.remaining input.old) (N.held notes.old) (N.held notes.new) }
     ensures usage { (result ≡ Status.Usage) ↔ (command ≡ None) }
-    ensures link { result ≡ Status.Link
-        → NeverFail (links_of (L.told links.old) (L.is_reliable links.old) (L.faults links.old) (L.faults links.new))
-        → Rose (L.faults links.old) (L.faults links.new) }
-    ensures spawn { result ≡ Status.Spawn → Rose (P.faults spawner.old) (P.faults spawner.new) }
-    ensures whole { result ≡ Status.Done → has_script (command) ≡ true → IsAtEnd (S.remaining input.new) }
 {
     match command {
         Some(command) => obey(
@@ -233,19 +211,17 @@ where
     L::Dial: Drop,
     <L::Dial as Dial>::In: Drop + Send,
     <L::Dial as Dial>::Out: Drop + Send,
-    ensures ends { Ended ⟦<Hyper as Machine>⟧
-        (links_of (L.told links.old) (L.is_reliable links.old) (L.faults links.old) (L.faults links.new)) result
-        (Some command) (F.files files.old) (F.faults files.old) (F.faults files.new)
-        (moment (S.remaining input.old) (S.faults input.old) (K.held out.old) (K.faults out.old) steps.old)
-        (moment (S.remaining input.new) (S.faults input.new) (K.held out.new) (K.faults out.new) steps.new) }
+    ensures runs { Runs ⟦<Hyper as Machine>⟧ (C.may clock.now)
+        (outside_of (F.files files.old) (F.faults files.old) (S.remaining input.old) (S.faults input.old)
+        (K.held out.old) (K.faults out.old) (L.told links.old) (L.is_reliable links.old) (L.faults links.old)
+        (P.faults spawner.old) steps.old)
+        (outside_of (F.files files.new) (F.faults files.new) (S.remaining input.new) (S.faults input.new)
+        (K.held out.new) (K.faults out.new) (L.told links.new) (L.is_reliable links.new) (L.faults links.new)
+        (P.faults spawner.new) steps.new)
+        (code_of result) (Some command) }
     ensures notes { Notes result (Some command) (F.files files.old) (F.faults files.old) (F.faults files.new)
         (S.remaining input.old) (N.held notes.old) (N.held notes.new) }
     ensures form { result ≢ Status.Usage }
-    ensures link { result ≡ Status.Link
-        → NeverFail (links_of (L.told links.old) (L.is_reliable links.old) (L.faults links.old) (L.faults links.new))
-        → Rose (L.faults links.old) (L.faults links.new) }
-    ensures spawn { result ≡ Status.Spawn → Rose (P.faults spawner.old) (P.faults spawner.new) }
-    ensures whole { result ≡ Status.Done → has_script (Some command) ≡ true → IsAtEnd (S.remaining input.new) }
 {
     match command {
         Command::Replay => replay_built_in(rt, alloc, input, out, notes, steps),

@@ -2,15 +2,16 @@
 ghost use Rattle.std.specs.Prelude.{◌≡◌, [], OnErr, OnOk};
 ghost use Rattle.outside.specs.Outside.{Rose};
 ghost use Rattle.replay_report.specs.Players.{form_of, is_ready, plan_of, progress_of, reported};
-ghost use Rattle.covisor_proxy.specs.Written.{Appends, AppendsSome};
+ghost use Rattle.covisor_proxy.specs.Written.{Appends, AppendsShort};
 
 use outside::{Failed, Sink};
 use replay_report::Player;
 
 /// Writes all bytes.
+#[tactic(auto, using(crate::proofs::Appending::short_kept))]
 pub(crate) fn write_all<K: Sink>(out: &mut K, bytes: &[u8]) -> Result<(), Failed>
     ensures written { OnOk result (Appends (K.held out.old) (K.held out.new) bytes.now) }
-    ensures some { OnErr result (AppendsSome (K.held out.old) (K.held out.new) bytes.now) }
+    ensures short { OnErr result (AppendsShort (K.held out.old) (K.held out.new) bytes.now) }
     ensures quiet { OnOk result (K.faults out.new ≡ K.faults out.old) }
     ensures fault { OnErr result (Rose (K.faults out.old) (K.faults out.new)) }
 {
@@ -25,7 +26,7 @@ pub(crate) fn write_all<K: Sink>(out: &mut K, bytes: &[u8]) -> Result<(), Failed
 pub(crate) fn flush<K: Sink>(player: &mut Player, out: &mut K) -> Result<(), Failed>
     ensures written { OnOk result (Appends (K.held out.old) (K.held out.new) (reported player.old)) }
     ensures emptied { OnOk result (reported player.new ≡ []) }
-    ensures some { OnErr result (AppendsSome (K.held out.old) (K.held out.new) (reported player.old)) }
+    ensures short { OnErr result (AppendsShort (K.held out.old) (K.held out.new) (reported player.old)) }
     ensures quiet { OnOk result (K.faults out.new ≡ K.faults out.old) }
     ensures fault { OnErr result (Rose (K.faults out.old) (K.faults out.new)) }
     ensures progress { progress_of player.new ≡ progress_of player.old }

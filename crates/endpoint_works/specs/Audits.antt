@@ -18,6 +18,12 @@ audit = record { who = whos.Audit; round = 0 }
 abbrev pub IsAudits : Post → Type 0
 IsAudits post = (line : List ℕ) × (post ≡ taking audit line)
 
+-- takings of the audit were posted
+pub record TakesLines (posts now : List Post) : Type 0 where
+  pub more : List Post
+  pub each : All IsAudits more
+  pub posted : now ≡ posts ++ more
+
 -- lines, each with a line feed
 abbrev pub lines : List (List ℕ) → List ℕ
 lines taken = flat_map (λ line. line ++ 10 ∷ []) taken

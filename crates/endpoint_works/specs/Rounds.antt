@@ -1,11 +1,12 @@
 -- What is posted of one connection.
-use Rattle.std.specs.Prelude.{◌≡◌, ◌⊎◌, ℕ, Bool, List, [], ◌∷◌, ◌++◌, Option}
+use Rattle.std.specs.Prelude.{◌≡◌, ◌≢◌, ◌⊎◌, ℕ, Bool, true, List, [], ◌∷◌, ◌++◌, Option}
 use Rattle.cv_io.specs.declared.leaf.Session.{Session}
 use Rattle.cv_io.specs.declared.leaf.Who.{Who}
 use Rattle.sessions.specs.Posts.{coming_up}
 use Rattle.sessions.specs.Reading.{HasPostedSome, IsReadEnd, ReaderPosts}
 use Rattle.sessions.specs.declared.desk.Post.{Post}
 use Rattle.sessions.specs.declared.ends.OpenEnd.{OpenEnd}
+use Rattle.sessions.specs.declared.ends.OpenEnd.TheVariants as opens
 use Rattle.sessions.specs.declared.ends.ReadEnd.{ReadEnd}
 use Rattle.endpoint_works.specs.Sides.{IsOpenedFor, IsUnopened, SinkSeen}
 use Rattle.endpoint_works.specs.declared.round.RoundEnd.{RoundEnd}
@@ -47,12 +48,15 @@ module _ (side : Side) (before after held : Option (List ℕ)) (writes : Bool) (
         now left end
     pub why : IsReadEnd after left faults risen is_reliable end
 
-  -- or nothing was posted, since it was not opened
+  -- or nothing was posted, since it was not opened: for another cause than want of memory, of which a sink fails that
+  -- never does but for that
   pub record WasUnopened (faults risen : ℕ) (is_reliable : Bool) (end : OpenEnd) : Type 0 where
     pub sink : SinkSeen
     pub began : IsSink held writes sink
     pub kept : List ℕ
     pub why : IsUnopened before after kept sink side faults risen is_reliable end
+    pub found : end ≢ opens.Memory
+    pub sound : writes ≡ true → end ≢ opens.WriteFault
     pub posted : now ≡ posts
 
   abbrev pub RoundPosts : (ended : Session → ℕ → Type 0) (faults risen : ℕ) → Bool → RoundEnd → Type 0

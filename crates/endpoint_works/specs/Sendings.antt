@@ -10,20 +10,20 @@ abbrev pub IsTaking : Post → Type 0
 IsTaking post = (session : Session) × (is_audit session.who ≡ false)
     × ((message : List ℕ) × (post ≡ taking session message))
 
--- a second
-abbrev pub IsSecond : Post → Type 0
-IsSecond post = (second : ℕ) × (post ≡ second_told second)
+-- a second that a clock may answer
+abbrev pub IsSecond : (may : ℕ → Type 0) → Post → Type 0
+IsSecond may post = (second : ℕ) × may second × (post ≡ second_told second)
 
 -- that an endpoint's session went
 abbrev pub IsGoing : Post → Type 0
 IsGoing post = (session : Session) × (is_audit session.who ≡ false) × (post ≡ going session)
 
 -- a taking or a second; or, where a writing was cut off, a going
-abbrev pub IsSenders : Bool → Post → Type 0
-IsSenders cut post = IsTaking post ⊎ (IsSecond post ⊎ ((cut ≡ true) × IsGoing post))
+abbrev pub IsSenders : (may : ℕ → Type 0) → Bool → Post → Type 0
+IsSenders may cut post = IsTaking post ⊎ (IsSecond may post ⊎ ((cut ≡ true) × IsGoing post))
 
 -- such posts were made, and no others
-pub record HasSent (cut : Bool) (posts now : List Post) : Type 0 where
+pub record HasSent (may : ℕ → Type 0) (cut : Bool) (posts now : List Post) : Type 0 where
   pub more : List Post
-  pub each : All (IsSenders cut) more
+  pub each : All (IsSenders may cut) more
   pub posted : now ≡ posts ++ more

@@ -2,12 +2,13 @@
 ghost use Rattle.std.specs.Prelude.{◌≡◌, [], IfErr, IfOk, OnErr};
 ghost use Rattle.endpoint_works.specs.Rounds.{RoundPosts, RoundWants};
 ghost use Rattle.endpoint_works.specs.Sides.{IsFew, IsOpenedFor, IsServedSide, IsUnopened, seen};
+ghost use Rattle.sessions.specs.Streams.{SinkFailed};
 
 use crate::handover::{Hand, Handover};
 use crate::side::Side;
 use cv_io::{Memory, Who};
 use of10_frames::Framer;
-use outside::{Sink, Source};
+use outside::{Sink, Source, has_risen};
 use sessions::{Desk, OpenEnd, ReadEnd, open_member, open_switch, run_reader};
 use std::alloc::Global;
 use std::sync::Wait;
@@ -21,7 +22,8 @@ pub enum RoundEnd {
     Read { end: ReadEnd },
 }
 
-/// Opens a connection, posts that its session comes up, hands its sink over, and reads its source to an end.
+/// Opens a connection, posts that its session comes up, hands its sink over, and reads its source to an end. A sink
+/// that fails for want of memory is want of memory.
 pub fn serve_round<R: Wait, D: Desk, S: Source, K: Sink + Drop>(
     rt: &R,
     alloc: Global,
@@ -42,9 +44,11 @@ pub fn serve_round<R: Wait, D: Desk, S: Source, K: Sink + Drop>(
         (K.held sink) (K.is_reliable sink) (D.posts pass.old) (D.posts pass.new)) }
 {
     let mut framer = Framer::new(alloc);
+    let wants = sink.wants();
     let (who, arp) = match open(rt, alloc, side, &mut framer, source, &mut sink) {
         Ok(opened) => opened,
         Err(OpenEnd::Memory) => return Err(Memory),
+        Err(OpenEnd::WriteFault) if has_risen(wants, sink.wants()) => return Err(Memory),
         Err(end) => return Ok(RoundEnd::Unopened { end }),
     };
     let session = desk.up(pass, who, arp)?;
@@ -71,6 +75,8 @@ fn open<R: Wait, S: Source, K: Sink>(
         (seen (K.held sink.old) (K.held sink.new) (K.faults sink.old) (K.faults sink.new)
         (K.wants sink.old) (K.wants sink.new) (K.is_reliable sink.old)) side.now
         (S.faults source.old) (S.faults source.new) (S.is_reliable source.old)) }
+    ensures failed { IfErr result (λ end. end ≡ OpenEnd.WriteFault → SinkFailed (K.faults sink.old) (K.faults sink.new)
+        (K.wants sink.old) (K.wants sink.new) (K.is_reliable sink.old)) }
     ensures reliable { S.is_reliable source.new ≡ S.is_reliable source.old }
 {
     match side {

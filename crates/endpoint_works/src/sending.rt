@@ -16,7 +16,7 @@ pub struct Sent {
 }
 
 /// Writes to each connection that is handed over what waits for its session, until no further one comes. It posts
-/// takings and seconds alone, unless a writing is cut off.
+/// takings and seconds of the clock alone, unless a writing is cut off.
 pub fn send<R: Wait, D: Desk, K: Sink + Drop, C: Clock>(
     rt: &R,
     desk: &D,
@@ -26,7 +26,7 @@ pub fn send<R: Wait, D: Desk, K: Sink + Drop, C: Clock>(
 ) -> Sent
     requires { D.admits desk.now pass.old }
     ensures pass { D.admits desk.now pass.new }
-    ensures posted { HasSent result.cut (D.posts pass.old) (D.posts pass.new) }
+    ensures posted { HasSent (C.may clock.old) result.cut (D.posts pass.old) (D.posts pass.new) }
 {
     let mut sent = Sent {
         cut: false,

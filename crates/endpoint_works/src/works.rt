@@ -7,6 +7,7 @@ ghost use Rattle.endpoint_works.specs.declared.receiving.Received.{Received};
 ghost use Rattle.endpoint_works.specs.declared.sending.Sent.{Sent};
 
 use crate::arrivals::Arrivals;
+use crate::audit::AUDIT;
 use crate::handover::Handover;
 use crate::later::LaterDesk;
 use crate::others::Others;
@@ -77,6 +78,7 @@ where
         );
         self.handover.close(self.rt);
         self.others.end_one();
+        desk.wake(&AUDIT);
         self.end = Some(end);
     }
 }
@@ -87,7 +89,7 @@ impl<R: Wait, D: LaterDesk, K: Sink + Drop, C: Clock> Writer<'_, R, D, K, C> {
         ensures pass { D.admits self.old.desk self.new.pass }
         ensures later { D.later self.old.pass self.new.pass }
         ensures sent { (end : Sent) × (self.new.end ≡ Some end)
-            × HasSent end.cut (D.posts self.old.pass) (D.posts self.new.pass) }
+            × HasSent (C.may self.old.clock) end.cut (D.posts self.old.pass) (D.posts self.new.pass) }
     {
         let desk = self.desk.from_here(&self.pass);
         let end = send(
@@ -98,6 +100,7 @@ impl<R: Wait, D: LaterDesk, K: Sink + Drop, C: Clock> Writer<'_, R, D, K, C> {
             &mut self.clock,
         );
         self.others.end_one();
+        desk.wake(&AUDIT);
         self.end = Some(end);
     }
 }
@@ -136,7 +139,7 @@ where
         | tasks.Reader new ↦ ⊥
         | tasks.Writer new ↦ D.admits old.desk new.pass × D.later old.pass new.pass
             × ((end : Sent) × (new.end ≡ Some end)
-            × HasSent end.cut (D.posts old.pass) (D.posts new.pass))
+            × HasSent (C.may old.clock) end.cut (D.posts old.pass) (D.posts new.pass))
       ]
     ] };
 

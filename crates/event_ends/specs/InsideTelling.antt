@@ -1,5 +1,5 @@
 -- How members are told of ports: over the switches as they stood, and as the event leaves them.
-use Rattle.std.specs.Prelude.{ℕ, Bool, false, ◌==◌, List, [], ◌∷◌, flat_map, if◌then◌else◌, map}
+use Rattle.std.specs.Prelude.{ℕ, Bool, false, ◌==◌, List, [], ◌∷◌, IfSome, flat_map, if◌then◌else◌, map, slice_get}
 use Rattle.std.specs.Option.{option_map_or}
 use Rattle.member_replies.specs.Switches.{port_changed}
 use Rattle.policies.specs.Policies.{PolicyOf, plan}
@@ -13,7 +13,7 @@ use Rattle.machine_drafts.specs.InsideSwitches.{is_dark_over}
 use Rattle.machine_meaning.specs.Lists.{places}
 use Rattle.machine_meaning.specs.Names.{virtual_of}
 use Rattle.machine_meaning.specs.States.{MemberOf, SwitchOf}
-use Rattle.machine_drafts.specs.SwitchDrafts.{SwitchDraftOf}
+use Rattle.machine_drafts.specs.SwitchDrafts.{IsStill, SwitchDraftOf}
 use Rattle.machine_meaning.specs.Telling.{differ}
 use Rattle.machine_drafts.specs.Views.{switch_of}
 use Rattle.machine_meaning.specs.declared.said.Letter.{Letter}
@@ -21,6 +21,10 @@ use Rattle.machine_meaning.specs.declared.said.Letter.{Letter}
 -- the switches of a draft as they stood before the event
 abbrev pub switches_before : List SwitchDraftOf → List SwitchOf
 switches_before switches = map (λ (x : SwitchDraftOf). switch_of x.base) switches
+
+-- the switch of a number, if there is one, is up or down as it was, and its ports are as dark as they were
+abbrev pub IsStillAt : List SwitchDraftOf → ℕ → Type 0
+IsStillAt switches n = IfSome (slice_get switches n) IsStill
 
 -- an outside port went dark, or isn't dark any more
 abbrev pub has_turned : TopologyPlan → List SwitchOf → List SwitchOf → ℕ → ℕ → Bool

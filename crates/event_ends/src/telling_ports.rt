@@ -4,8 +4,8 @@ ghost use Rattle.std.specs.List.{AllByRecursion, enumerate_from};
 ghost use Rattle.policies.specs.declared.policy.MemberItem.{MemberItem as MemberItemOf};
 ghost use Rattle.policies.specs.Policies.{plan};
 ghost use Rattle.machine_drafts.specs.InsideSwitches.{is_dark_among, is_dark_over};
-ghost use Rattle.event_ends.specs.InsideTelling.{letters_on, lies_over, member_letters, switches_before};
-ghost use Rattle.event_ends.specs.InsideTelling.{turn_letters};
+ghost use Rattle.event_ends.specs.InsideTelling.{IsStillAt, letters_on, lies_over, member_letters};
+ghost use Rattle.event_ends.specs.InsideTelling.{switches_before, turn_letters};
 ghost use Rattle.machine_meaning.specs.Lists.{places};
 ghost use Rattle.machine_drafts.specs.Outcomes.{bases, draft_in, members_in, switch_bases, switches_in};
 ghost use Rattle.machine_meaning.specs.States.{State};
@@ -77,7 +77,18 @@ fn tell_port(
     letters.push(Letter { to: n, bytes })
 }
 
-/// It is told of those of some outside ports that lie on a switch and changed.
+/// The switch of a number is up or down as it was, and its ports are as dark as they were.
+fn is_still_at(switches: &[SwitchDraft<'_>], n: u32) -> bool
+    ensures { IsTrue result → IsStillAt switches.now n }
+{
+    match switches.get(n as usize) {
+        Some(switch) => switch.is_still(),
+        None => true,
+    }
+}
+
+/// It is told of those of some outside ports that lie on a switch and changed. Where nothing turned at the switch, no
+/// port is looked at.
 fn tell_ports_on(
     alloc: Global,
     topology: &Topology,
@@ -91,6 +102,9 @@ fn tell_ports_on(
     ensures { OnOk result (letters.new ≡ letters.old
         ++ letters_on topology.now (switches_before switches.now) (switches_in switches.now) n v outside.now switch) }
 {
+    if is_still_at(switches, switch) {
+        return Ok(());
+    }
     for port in outside {
         if lies_on(topology, u32::from(v), switch, *port) {
             tell_port(alloc, topology, switches, letters, n, v, *port)?;
@@ -169,15 +183,15 @@ fn tell_members(
     Ok(())
 }
 
-/// Switches are up or down as they were, and what is known of them is what was.
+/// Switches are up or down as they were, and their ports are as dark as they were.
 fn are_still(switches: &[SwitchDraft<'_>]) -> bool
     ensures { IsTrue result → AllByRecursion IsStill switches.now }
 {
     switches.iter().all(|switch| switch.is_still())
 }
 
-/// Each member that is up is told of the outside ports that it sees and that changed. Most events change nothing at a
-/// switch, and then no port is looked at.
+/// Each member that is up is told of the outside ports that it sees and that changed. Most events turn no port, and then
+/// no member is looked at.
 fn tell_turned(
     setup: &Setup,
     members: &[MemberDraft<'_>],

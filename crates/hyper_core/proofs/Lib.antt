@@ -1,4 +1,3 @@
-pub mod Crowded
 pub mod Glanced
 pub mod Opened
 pub mod Counted

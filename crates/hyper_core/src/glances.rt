@@ -75,7 +75,7 @@ pub(crate) fn outbox_for(held: &Held, who: Who) -> Option<&Outbox>
 }
 
 /// Whether a session is up in its round.
-fn is_present(held: &Held, session: &Session) -> bool
+pub(crate) fn is_present(held: &Held, session: &Session) -> bool
     ensures { result ≡ is_present_of (state_in_held held.now) session.now }
 {
     match outbox_for(held, session.who) {

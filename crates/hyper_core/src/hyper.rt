@@ -6,14 +6,13 @@ ghost use Rattle.policies.specs.Sound.{IsSound};
 ghost use Rattle.machine_meaning.specs.Glances.{glance_of};
 ghost use Rattle.machine_drafts.specs.Machines.{state_of};
 ghost use Rattle.event_composes.specs.Costs.{cost_of, most_of, stays_kept};
-ghost use Rattle.hyper_core.specs.Crowding.{is_crowded_by};
 ghost use Rattle.hyper_core.specs.Worlds.{AreTablesOf, installed_on, network_in, rule_count};
 ghost use Rattle.machine_meaning.specs.Sessions.{round_of};
 ghost use Rattle.machine_meaning.specs.Sound.{HasNumbers};
 ghost use Rattle.machine_meaning.specs.States.{opening};
 ghost use Rattle.machine_meaning.specs.Steps.{step_of};
 
-use crate::crowding::is_crowded;
+use crate::crowding::{holds, marks};
 use crate::glances::glance;
 use crate::opening::open as open_machine;
 use crate::stepping::step as step_held;
@@ -28,8 +27,10 @@ use machine_drafts::held::Held;
 use machine_drafts::setup::Setup;
 use packet_map::World;
 use policies::Policy;
+use policy_lock::Marks;
 use std::alloc::Global;
 use std::marker::Model;
+use std::sync::Arc;
 use std::sync::ledger::Ledger;
 use std::thread::Threads;
 use virtual_topology::Topology;
@@ -37,7 +38,8 @@ use virtual_topology::Topology;
 /// The hypervisor.
 #[derive(Drop)]
 pub struct Hyper {
-    setup: Setup,
+    /// It never changes, so copies share it.
+    setup: Arc<Setup, Global>,
     held: Held,
     /// The composed part of what is held, where it is kept; else it is composed from scratch.
     composed: Option<Composed>,
@@ -45,6 +47,7 @@ pub struct Hyper {
 
 impl Model for Hyper {
     ghost use Rattle.machine_drafts.specs.Machines.{HasAll, MachineOf, holding_of, state_in_held};
+    ghost use Rattle.std.specs.Arc.{arc_value};
     ghost use Rattle.std.specs.Prelude.{is_some};
     ghost use Rattle.event_composes.specs.Kept.{IsKept};
     ghost use Rattle.event_composes.specs.Settled.{IsSettledState};
@@ -56,12 +59,13 @@ impl Model for Hyper {
 
     ghost coded = { Prim.hlevel (codes, policy_code) };
 
-    ghost view = { λ a. record { plan = a.setup; holding = holding_of a.held; compiled = is_some a.composed } };
+    ghost view = { λ a. record { plan = arc_value a.setup; holding = holding_of a.held; compiled = is_some a.composed } };
 
     // There is a member for each of the policy's, and a switch. What stands on switches is what the setting gives. The
     // state is sound as long as numbers are left, and the composed part that is kept is that of its setting.
-    ghost invariant = { λ a. HasAll a.setup a.held
-        × (IsSettledState a.setup (state_in_held a.held) × IsKept a.setup (state_in_held a.held) a.composed) };
+    ghost invariant = { λ a. HasAll (arc_value a.setup) a.held
+        × (IsSettledState (arc_value a.setup) (state_in_held a.held)
+        × IsKept (arc_value a.setup) (state_in_held a.held) a.composed) };
 }
 
 impl Hyper {
@@ -72,7 +76,7 @@ impl Hyper {
         ensures opening { IfOk result (λ hyper. state_of hyper ≡ opening policy) }
         ensures compiled { IfOk result (λ hyper. hyper.compiled ≡ true) }
     {
-        let setup = Setup::make(alloc, policy)?;
+        let setup = Arc::new(alloc, Setup::make(alloc, policy)?)?;
         match open_machine(rt, &setup) {
             Ok(opened) => Ok(Hyper {
                 setup,
@@ -133,12 +137,16 @@ impl Hyper {
         self.composed.is_some()
     }
 
-    /// Whether half as much waits as may of what the event may add to: for its session, or for a session of the other
-    /// kind.
-    pub fn is_crowded(&self, event: &Event) -> bool
-        ensures { result ≡ is_crowded_by (state_of self.now) event.now }
-    {
-        is_crowded(&self.held, event)
+    /// Whether the event, which has waited so many milliseconds, had better wait on, since much waits already of what
+    /// it may add to. No promise rests on it.
+    pub fn holds(&self, event: &Event, turns: u32) -> bool {
+        holds(&self.setup, &self.held, event, turns)
+    }
+
+    /// What waits: a bit for each session for which something does, of member n the bit n, of switch n the bit 32 + n,
+    /// of the audit the bit 48; and whether much waits for a switch. No promise rests on it.
+    pub fn marks(&self) -> Marks {
+        marks(&self.held)
     }
 
     /// A machine of the same policy in the same state. Its composed part isn't copied: the first event that needs one
@@ -147,7 +155,7 @@ impl Hyper {
         ensures plan { IfOk result (λ copied. copied.plan ≡ self.now.plan) }
         ensures state { IfOk result (λ copied. state_of copied ≡ state_of self.now) }
     {
-        let setup = self.setup.copy()?;
+        let setup = Arc::try_clone(&self.setup)?;
         match copied_held(&setup, &self.held) {
             Ok(held) => Ok(Hyper {
                 setup,

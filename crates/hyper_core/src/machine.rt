@@ -7,7 +7,7 @@ ghost use Rattle.event_composes.specs.Costs.{StillTakesNone, cost_in, most_in};
 use crate::hyper::Hyper;
 use cv_io::{Duplicate, Memory, Steps};
 use events::{Event, Reply};
-use policy_lock::Machine;
+use policy_lock::{Machine, Marks};
 use std::marker::{Model, PhantomData};
 use std::sync::ledger::Ledger;
 use std::thread::Threads;
@@ -66,8 +66,12 @@ impl Machine for Hyper {
         Hyper::glance(self, event)
     }
 
-    fn is_crowded(&self, event: &Event) -> bool {
-        Hyper::is_crowded(self, event)
+    fn holds(&self, event: &Event, turns: u32) -> bool {
+        Hyper::holds(self, event, turns)
+    }
+
+    fn marks(&self) -> Marks {
+        Hyper::marks(self)
     }
 
     fn copy(&self) -> Result<Hyper, Memory> {

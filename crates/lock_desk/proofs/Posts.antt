@@ -15,13 +15,13 @@ use Rattle.policy_lock.specs.Seat.{IsLater, IsSameSeat, IsSeatOf, LockOf, SeatOf
 use Rattle.policy_lock.specs.declared.machine.Machine.{Ghosts}
 use Rattle.policy_lock.specs.declared.view.Entry.{Entry}
 use Rattle.policy_lock.specs.declared.view.Pass.{Pass}
-use Rattle.policy_lock.proofs.Histories.{calls-append, calls-mine, prefix_more}
+use Rattle.policy_lock.proofs.Histories.{after-append, calls-append, calls-mine, prefix_more}
 use Rattle.policy_lock.proofs.Keeps.{opt_or}
 use Rattle.sessions.specs.Posts.{AddsHeard, AddsTaken, Finds, IsRefusedWhere, MayAdd, taking}
 use Rattle.sessions.specs.declared.desk.Post.{Post}
 use Rattle.lock_desk.specs.Answers.{hearing_of, taking_of}
 use Rattle.lock_desk.specs.Hosts.{IsDone, IsHeard, IsOpened, IsOver, IsTaken, NothingWaits}
-use Rattle.lock_desk.specs.Passes.{HoldsAfter, IsSince, own_posts, post_of, posts_by}
+use Rattle.lock_desk.specs.Passes.{HoldsAfter, IsSince, Shows, own_posts, post_of, posts_by}
 
 abbrev pub answered : Event → Reply → Post
 answered e r = record { event = e; reply = r }
@@ -41,13 +41,14 @@ prefix_still xs ys zs a b = (a.0 ++ b.0, sym (append_assoc xs a.0 b.0) ∙ (ap (
 
 -- a seat is since it was itself
 pub since_itself : {E R S : Type 0} (v : SeatOf E R S) → IsSince v v
-since_itself v = record { number = refl; children = refl; seen = ([], append-nil v.pass.seen) }
+since_itself v = record { number = refl; children = refl; start = refl; seen = ([], append-nil v.pass.seen) }
 
 -- and since then, if it was since then before it saw more
 pub since_still : {E R S : Type 0} (old v w : SeatOf E R S) → IsSince old v → IsSince v w → IsSince old w
 since_still old v w h k = record {
   number = k.number ∙ h.number;
   children = k.children ∙ h.children;
+  start = k.start ∙ h.start;
   seen = prefix_still old.pass.seen v.pass.seen w.pass.seen h.seen k.seen;
 }
 
@@ -56,7 +57,7 @@ pub admitted : {E R S : Type 0} (lock : LockOf S) (old v w : SeatOf E R S) → I
     → IsSameSeat v w → IsPrefix v.pass.seen w.pass.seen → IsSeatOf lock w × IsSince old w
 admitted lock old v w is since same seen = (
   (same.0 ∙ is.0, same.1 ∙ is.1),
-  since_still old v w since (record { number = same.2; children = same.3; seen = seen }),
+  since_still old v w since (record { number = same.2; children = same.3; start = same.1; seen = seen }),
 )
 
 -- who is known is known after any history
@@ -65,6 +66,24 @@ pub known_after : {M S : Type 0} (g : Ghosts M Event Reply S) (knows : S → Who
     → (who : Who) (s : S) (log : List (Entry Event Reply)) → knows s who → knows (after g s log) who
 known_after g knows stays who s [] h = h
 known_after g knows stays who s (x ∷ xs) h = known_after g knows stays who (g.next s x.event) xs (stays s x.event who h)
+
+-- a second that was told was told after any history
+told_after : {M S : Type 0} (g : Ghosts M Event Reply S) (is_at : S → ℕ → Type 0)
+    → ((s : S) (e : Event) (second : ℕ) → is_at s second → is_at (g.next s e) second)
+    → (second : ℕ) (s : S) (log : List (Entry Event Reply)) → is_at s second → is_at (after g s log) second
+told_after g is_at stays second s [] h = h
+told_after g is_at stays second s (x ∷ xs) h =
+    told_after g is_at stays second (g.next s x.event) xs (stays s x.event second h)
+
+-- a seat that has seen more shows what it showed
+pub still_shows : {M S : Type 0} (g : Ghosts M Event Reply S) (is_at : S → ℕ → Type 0)
+    → ((s : S) (e : Event) (second : ℕ) → is_at s second → is_at (g.next s e) second)
+    → (v w : Pass Event Reply S) → w.start ≡ v.start → IsPrefix v.seen w.seen
+    → (second : ℕ) → Shows g is_at v second → Shows g is_at w second
+still_shows {M} {S} g is_at stays v w same later second h = λ s began.
+    subst (λ (log : List (Entry Event Reply)). is_at (after g s log) second) later.1
+    (subst (λ (t : S). is_at t second) (sym (after-append g s v.seen later.0))
+    (told_after g is_at stays second (after g s v.seen) later.0 (h s (sym same ∙ began))))
 
 -- a seat that made no call has the posts that it had
 pub posts-later : {S : Type 0} (v w : Pass Event Reply S) → w.number ≡ v.number → IsLater v w
@@ -158,6 +177,21 @@ module _ {M S : Type 0} (g : Ghosts M Event Reply S) (start : S) (v w : Pass Eve
       by true i = inl (stays g start v w e place r a b p same starts i)
       by false i = inr (adds g start v w e place r a b p same starts i
           ∙ ap (λ q. own_posts v ++ answered e q ∷ []) (p.replied ∙ h i))
+
+  -- a second that was told is shown
+  pub shows_told : (is_at : S → ℕ → Type 0) (second : ℕ) → (g.idle s e ≡ true → is_at s second)
+      → (g.idle s e ≡ false → is_at (g.next s e) second) → Shows g is_at w second
+  shows_told is_at second was now = λ t began.
+      subst (λ (u : S). is_at (after g u w.seen) second) (ap (opt_or start) (sym starts ∙ began)) (by (g.idle s e) refl)
+    where
+      Is : List (Entry Event Reply) → Type 0
+      Is log = is_at (after g start log) second
+
+      by : (i : Bool) → g.idle s e ≡ i → Is w.seen
+      by true i = subst Is (sym (p.idle i)) (was i)
+      by false i =
+          subst Is (sym (p.entered i))
+          (subst (λ (u : S). is_at u second) (sym (after-append g start p.before (entry v.number e r ∷ []))) (now i))
 
   abbrev Waits : Session → ℕ → Type 0
   Waits session at = HoldsAfter g w at (λ t. NothingWaits g.reply t session)

@@ -25,6 +25,7 @@ module _ {E R S : Type 0} where
   pub record IsSince (old new : SeatOf E R S) : Type 0 where
     pub number : new.pass.number ≡ old.pass.number
     pub children : new.pass.children ≡ old.pass.children
+    pub start : new.pass.start ≡ old.pass.start
     pub seen : IsPrefix old.pass.seen new.pass.seen
 
 module _ {S : Type 0} where
@@ -39,6 +40,11 @@ module _ {M E R S : Type 0} (g : Ghosts M E R S) where
     pub long : at ≤ length p.seen
     pub own : calls_by p.number (take at p.seen) ≡ calls_by p.number p.seen
     pub holds : (s : S) → p.start ≡ Some s → P (after g s (take at p.seen))
+
+module _ {M E R S : Type 0} (g : Ghosts M E R S) (is_at : S → ℕ → Type 0) where
+  -- after the history that a seat has seen the machine has come to a second
+  abbrev pub Shows : Pass E R S → ℕ → Type 0
+  Shows p second = (s : S) → p.start ≡ Some s → is_at (after g s p.seen) second
 
 module _ {M S : Type 0} (g : Ghosts M Event Reply S) where
   -- after so many entries of the history, among which are all calls of the seat, the machine refuses what the session

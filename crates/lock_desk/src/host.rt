@@ -1,5 +1,5 @@
 //! What the desk needs of a machine.
-ghost use Rattle.std.specs.Prelude.{◌≡◌, ◌<◌, ℕ, Bool, List, IfOk, OnErr};
+ghost use Rattle.std.specs.Prelude.{◌≡◌, ◌<◌, ◌≤◌, ℕ, Bool, true, false, List, IfOk, OnErr};
 ghost use Rattle.std.specs.Thread.{IsSync};
 ghost use mathlib.Core.List.{IsPrefix};
 ghost use Rattle.of10_frames.specs.Frames.{IsFrame};
@@ -26,6 +26,9 @@ pub trait Host {
     // It knows this member or switch.
     ghost knows: { Self.Machine.State → Who → Type 0 };
 
+    // It was told of this second, or of a later one.
+    ghost is_at: { Self.Machine.State → ℕ → Type 0 };
+
     /// Posts an event to the machine's lock, as [`crate::post`] does.
     fn post<R: Wait + Threads + Sync>(
         rt: &R,
@@ -40,6 +43,12 @@ pub trait Host {
             lock.now.start seat.old.pass seat.new.pass event receipt.place receipt.reply 0 steps) }
         ensures memory { OnErr result (IsLater seat.old.pass seat.new.pass) }
         ensures seen { IsPrefix seat.old.pass.seen seat.new.pass.seen };
+
+    /// For which sessions something waited as the machine was last given back, a bit each. No promise.
+    fn stirred(lock: &PolicyLock<Self::Machine>) -> u64;
+
+    /// Whether much waited for a switch then. No promise.
+    fn is_crowded(lock: &PolicyLock<Self::Machine>) -> bool;
 
     // And knows it ever after.
     ghost stays_known: { (s : Self.Machine.State) (e : Event) (who : Who) → knows s who
@@ -56,6 +65,19 @@ pub trait Host {
 
     ghost ticks: { (s : Self.Machine.State) (second : ℕ)
         → IsDone Self.Machine.idle Self.Machine.reply s (Tick second) };
+
+    // A second that is idle it was told of, and of one that isn't it is told then.
+    ghost told: { (s : Self.Machine.State) (second : ℕ) → Self.Machine.idle s (Tick second) ≡ true → is_at s second };
+
+    ghost tells: { (s : Self.Machine.State) (second : ℕ) → Self.Machine.idle s (Tick second) ≡ false
+        → is_at (Self.Machine.next s (Tick second)) second };
+
+    // Seconds aren't taken back.
+    ghost stays_told: { (s : Self.Machine.State) (e : Event) (second : ℕ) → is_at s second
+        → is_at (Self.Machine.next s e) second };
+
+    ghost earlier: { (s : Self.Machine.State) (second before : ℕ) → is_at s second → before ≤ second
+        → is_at s before };
 
     ghost takes: { (s : Self.Machine.State) (session : Session)
         → IsTaken Self.Machine.idle Self.Machine.reply s session };

@@ -5,10 +5,12 @@
 #![tactic(auto)]
 
 mod answers;
+mod bells;
 mod desk;
 mod host;
 mod posting;
 
+pub use bells::Bells;
 pub use desk::LockDesk;
 pub use host::Host;
 pub use posting::post;

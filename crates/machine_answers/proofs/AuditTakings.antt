@@ -24,14 +24,16 @@ use Rattle.machine_meaning.specs.Takings.{audit_outbox, left_by, reply_of, takes
 use Rattle.machine_meaning.specs.Written.{draft_at}
 use Rattle.machine_answers.specs.AuditLines.{AuditIsWhole, all_put, all_taken, line_in, lines_put}
 use Rattle.machine_answers.proofs.Phases.{drafted_holds}
-use Rattle.machine_answers.proofs.Steps.{acted}
+use Rattle.machine_answers.proofs.Steps.{acted, moment_with}
 
 -- an event that goes through the phases ------------------------------------------------------------------------------
 
 drafted_audit : (p : PolicyOf) (s : State) (e : Event) → (drafted p (heard s e) e).state.audit ≡ s.audit
 drafted_audit p s e =
     let o = acted (length s.members) (length s.switches) p (heard s e) e (refl, refl) in
-    (drafted_holds (length s.members) (length s.switches) s.audit o.0 p (heard s e) e (slow p (heard s e) e) o.1).2
+    ap (λ (x : List (List ℕ) × ℕ). x.0)
+    (drafted_holds (length s.members) (length s.switches) (s.audit, moment_with (heard s e) e) o.0 p (heard s e) e
+    (slow p (heard s e) e) o.1).2
 
 went : (p : PolicyOf) (s : State) (e : Event)
     → s.audit ++ lines_of p (drafted p (heard s e) e) ≡ (put p (drafted p (heard s e) e)).audit

@@ -1,5 +1,5 @@
--- Through all phases of a step the members and the switches stay as many, the lines of the audit stay, and the reply is
--- what the event's own work made it.
+-- Through all phases of a step the members and the switches stay as many, the lines of the audit and the moment stay,
+-- and the reply is what the event's own work made it.
 use Rattle.std.proofs.Common.{◌≡◌, ◌∙◌, ℕ, Bool, true, false, List, [], ◌∷◌, length, map, filter, Option, Some, None}
 use Rattle.std.proofs.Common.{Result, Ok, Err, find, fold, nat_lt, slice_get, if◌then◌else◌}
 use Rattle.std.proofs.lemmas.List.{length-map}
@@ -84,20 +84,25 @@ use Rattle.waitings.specs.declared.state.Purpose.TheVariants as purposes
 long_map : {X Y : Type 0} (f : X → Y) (xs : List X) → length (map f xs) ≡ length xs
 long_map f xs = length-map xs f
 
--- so many members and switches, these lines of the audit, and this reply
-module _ (m k : ℕ) (a : List (List ℕ)) (r : Reply) where
+-- so many members and switches, these lines of the audit and this moment, and this reply
+module _ (m k : ℕ) (a : List (List ℕ) × ℕ) (r : Reply) where
+  -- but that the moment may be another one
+  abbrev pub HoldsAt : ℕ → Draft → Type 0
+  HoldsAt now d = (length d.state.members ≡ m) × (length d.state.switches ≡ k) × ((d.state.audit, now) ≡ a)
+      × (d.reply ≡ r)
+
   abbrev pub Holds : Draft → Type 0
-  Holds d = (length d.state.members ≡ m) × (length d.state.switches ≡ k) × (d.state.audit ≡ a) × (d.reply ≡ r)
+  Holds d = HoldsAt d.state.moment d
 
   -- one member or switch becomes another
   member : (n : ℕ) (f : MemberOf → MemberOf) (d : Draft) → Holds d
-      → (length (changed_at n f d.state.members) ≡ m) × (length d.state.switches ≡ k) × (d.state.audit ≡ a)
-      × (d.reply ≡ r)
+      → (length (changed_at n f d.state.members) ≡ m) × (length d.state.switches ≡ k)
+      × ((d.state.audit, d.state.moment) ≡ a) × (d.reply ≡ r)
   member n f d h = (long_changed n f d.state.members ∙ h.0, h.1, h.2, h.3)
 
   switch : (n : ℕ) (f : SwitchOf → SwitchOf) (d : Draft) → Holds d
-      → (length d.state.members ≡ m) × (length (changed_at n f d.state.switches) ≡ k) × (d.state.audit ≡ a)
-      × (d.reply ≡ r)
+      → (length d.state.members ≡ m) × (length (changed_at n f d.state.switches) ≡ k)
+      × ((d.state.audit, d.state.moment) ≡ a) × (d.reply ≡ r)
   switch n f d h = (h.0, long_changed n f d.state.switches ∙ h.1, h.2, h.3)
 
   ended : (n : ℕ) (cause : DownCause) (d : Draft) → Holds d → Holds (end_switch n cause d)
@@ -237,7 +242,7 @@ module _ (m k : ℕ) (a : List (List ℕ)) (r : Reply) where
   doubt_holds p v [] d h = h
   doubt_holds p v (doubt ∷ doubts) d h = h
 
-  pub tick_holds : (p : PolicyOf) (now : ℕ) (d : Draft) → Holds d → Holds (ticks p now d)
+  pub tick_holds : (p : PolicyOf) (now : ℕ) (d : Draft) → HoldsAt now d → Holds (ticks p now d)
   tick_holds p now d h =
       fold_holds (doubt_at p) Holds (λ e v k. doubt_holds p v (doubts_at p e.state v) e k) (places p.virtuals)
       (record d { state = without_expired (record d.state { moment = now }) })
@@ -251,7 +256,7 @@ module _ (m k : ℕ) (a : List (List ℕ)) (r : Reply) where
 
   -- settling
   abbrev AreMany : State → Type 0
-  AreMany s = (length s.members ≡ m) × (length s.switches ≡ k) × (s.audit ≡ a)
+  AreMany s = (length s.members ≡ m) × (length s.switches ≡ k) × ((s.audit, s.moment) ≡ a)
 
   decided_holds : (s : State) (doubt : Doubt) → AreMany s → AreMany (decided s doubt)
   decided_holds s doubt h = by (find (has_serial doubt.serial) (entries_at (slice_get s.members doubt.member)))

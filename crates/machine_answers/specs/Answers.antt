@@ -1,5 +1,5 @@
 -- How the machine answers sessions.
-use Rattle.std.specs.Prelude.{◌≡◌, ◌<◌, ℕ, Bool, true, List, is_some, length}
+use Rattle.std.specs.Prelude.{◌≡◌, ◌<◌, ◌≤◌, ℕ, Bool, true, false, List, is_some, length}
 use Rattle.cv_io.specs.declared.leaf.Session.{Session}
 use Rattle.cv_io.specs.declared.leaf.Who.{Who}
 use Rattle.cv_io.specs.declared.leaf.Who.TheVariants.{Member, Switch}
@@ -56,6 +56,16 @@ GoingsAreHeard =
 -- a second that changes anything is done
 abbrev pub SecondsAreDone : Type 0
 SecondsAreDone = (p : PolicyOf) (s : State) (second : ℕ) → IsDone (is_idle p) (reply_in p) s (Tick second)
+
+-- one that is idle is not above the moment, and one that isn't is the moment then
+abbrev pub SecondsAreTold : Type 0
+SecondsAreTold =
+    (p : PolicyOf) (s : State) (second : ℕ) → (is_idle p s (Tick second) ≡ true → second ≤ s.moment)
+    × (is_idle p s (Tick second) ≡ false → second ≤ (step_of p s (Tick second)).1.moment)
+
+-- the moment goes on
+abbrev pub MomentsGoOn : Type 0
+MomentsGoOn = (p : PolicyOf) (s : State) (e : Event) → s.moment ≤ (step_of p s e).1.moment
 
 -- a taking finds a message; or nothing waits; or the session has ended
 abbrev pub TakingsAreAnswered : Type 0

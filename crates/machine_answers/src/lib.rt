@@ -3,7 +3,8 @@
 
 ghost use Rattle.machine_answers.specs.Answers.{GoingsAreHeard, MessagesAreHeard, OpeningHasSessions, SecondsAreDone};
 ghost use Rattle.machine_answers.specs.AuditLines.{AuditIsWhole};
-ghost use Rattle.machine_answers.specs.Answers.{SessionsOpen, SessionsStay, TakingsAreAnswered};
+ghost use Rattle.machine_answers.specs.Answers.{MomentsGoOn, SecondsAreTold, SessionsOpen, SessionsStay};
+ghost use Rattle.machine_answers.specs.Answers.{TakingsAreAnswered};
 
 /// As the machine is opened it has the members and the switches of the policy.
 pub fn opening_has_sessions()
@@ -33,6 +34,16 @@ pub fn goings_are_heard()
 /// A second that changes anything is done.
 pub fn seconds_are_done()
     ensures { SecondsAreDone }
+{}
+
+/// One that changes nothing was told before, or a later one was; and one that changes anything is told then.
+pub fn seconds_are_told()
+    ensures { SecondsAreTold }
+{}
+
+/// The moment goes on.
+pub fn moments_go_on()
+    ensures { MomentsGoOn }
 {}
 
 /// A taking finds a message; or nothing waits; or the session has ended.

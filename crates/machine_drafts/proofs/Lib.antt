@@ -13,3 +13,4 @@ pub mod DraftFields
 pub mod Serials
 pub mod Remaining
 pub mod SameStates
+pub mod DarkPorts

@@ -40,7 +40,11 @@ pub record IsUnmoved (d : SwitchDraftOf) : Type 0 where
   pub up : d.now.outbox.up ≡ d.base.outbox.up
   pub standing : d.standing ≡ d.base.standing
 
--- it is up or down as it was, and what is known of it is what was
+-- what is known of a switch has the dark ports that were known before
+abbrev pub IsAsDark : KnownOf → KnownOf → Type 0
+IsAsDark before now = now.dark ≡ before.dark
+
+-- it is up or down as it was, and its ports are as dark as they were
 pub record IsStill (d : SwitchDraftOf) : Type 0 where
   pub up : d.now.outbox.up ≡ d.base.outbox.up
-  pub known : d.now.known ≡ d.base.known
+  pub dark : IsAsDark d.base.known d.now.known

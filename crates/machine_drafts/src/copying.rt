@@ -31,12 +31,6 @@ impl Duplicate for Switch {
     }
 }
 
-impl Duplicate for Setup {
-    fn copy(&self) -> Result<Setup, Memory> {
-        Setup::make(self.alloc(), self.policy().copy()?)
-    }
-}
-
 /// Copies of members and switches.
 fn copied_sessions(held: &Held) -> Result<(List<Member>, List<Switch>), Memory>
     ensures members { IfOk result (λ copied. copied.0 ≡ held.now.members) }

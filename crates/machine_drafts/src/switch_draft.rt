@@ -40,11 +40,13 @@ pub struct SwitchDraft<'a> {
     turn: Turn,
     known: Option<Known>,
     standing: Option<Rows>,
+    /// A port may have gone dark, or have come back: it was told of, or the round ended or began.
+    turned: bool,
 }
 
 impl<'a> Model for SwitchDraft<'a> {
-    ghost use Rattle.std.specs.Prelude.{unwrap_or};
-    ghost use Rattle.machine_drafts.specs.SwitchDrafts.{SwitchDraftOf, switch_after};
+    ghost use Rattle.std.specs.Prelude.{◌≡◌, false, unwrap_or};
+    ghost use Rattle.machine_drafts.specs.SwitchDrafts.{IsAsDark, SwitchDraftOf, switch_after};
 
     ghost Value = { SwitchDraftOf };
 
@@ -53,6 +55,9 @@ impl<'a> Model for SwitchDraft<'a> {
       now = switch_after a.base.now a.turn a.known;
       standing = unwrap_or a.standing a.base.now.standing;
     } };
+
+    // Where no port was told of, ports are as dark as they were.
+    ghost invariant = { λ a. a.turned ≡ false → IsAsDark a.base.now.known (unwrap_or a.known a.base.now.known) };
 }
 
 /// What is known so far, to be changed: a copy at the first change.
@@ -76,6 +81,7 @@ impl<'a> SwitchDraft<'a> {
             turn: base.outbox.stay(),
             known: None,
             standing: None,
+            turned: false,
         }
     }
 
@@ -134,11 +140,11 @@ impl<'a> SwitchDraft<'a> {
         self.turn.up == self.base.outbox.is_up() && self.standing.is_none()
     }
 
-    /// It is up or down as it was, and what is known of it is what was.
+    /// It is up or down as it was, and its ports are as dark as they were.
     pub fn is_still(&self) -> bool
         ensures { IsTrue result → IsStill self.now }
     {
-        self.turn.up == self.base.outbox.is_up() && self.known.is_none()
+        self.turn.up == self.base.outbox.is_up() && !self.turned
     }
 
     /// The round ends: nothing is known of the switch any more, and nothing stands on it.
@@ -146,6 +152,7 @@ impl<'a> SwitchDraft<'a> {
         ensures { self.new ≡ with_round ended_switch self.old }
     {
         self.turn.close();
+        self.turned = true;
         self.known = Some(Known::new(alloc, 0));
         self.standing = Some(Rows::new(alloc));
     }
@@ -155,6 +162,7 @@ impl<'a> SwitchDraft<'a> {
         ensures { self.new ≡ with_round (begun_switch first) self.old }
     {
         self.turn.open();
+        self.turned = true;
         self.known = Some(Known::new(alloc, first));
         self.standing = Some(Rows::new(alloc));
     }
@@ -186,6 +194,7 @@ impl<'a> SwitchDraft<'a> {
         ensures { OnOk result (self.new ≡ with_known (port_status_of reason port.now self.old.now.known) self.old) }
     {
         let mut known = known_so_far(&mut self.known, &self.base.known)?;
+        self.turned = true;
         let noted = known.port_status(reason, port);
         self.known = Some(known);
         noted

@@ -51,16 +51,6 @@ dropped_more serials s t =
     t.entries
     ∙ sym (filter_twice (λ (e : Entry). not (is_among serials e.serial)) (λ e. not (has_serial s e)) t.entries))
 
--- one, and then the others
-pub dropped_first : (s : ℕ) (serials : List ℕ) (t : TableOf) → without_all serials (table_without s t)
-    ≡ without_all (s ∷ serials) t
-dropped_first s serials t =
-    ap (λ es. record t { entries = es })
-    (filter_twice (λ e. not (has_serial s e)) (λ (e : Entry). not (is_among serials e.serial)) t.entries
-    ∙ filter_same (λ (e : Entry). not (has_serial s e) && not (is_among serials e.serial))
-    (λ (e : Entry). not (is_among (s ∷ serials) e.serial))
-    (λ e. sym (not_or (s == e.serial) (is_among serials e.serial))) t.entries)
-
 -- ---- counts that were seen to have risen
 
 touched_serial : (serials : List ℕ) (now : ℕ) (e : Entry) → (touched_among serials now e).serial ≡ e.serial

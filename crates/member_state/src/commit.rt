@@ -2,7 +2,7 @@
 ghost use Rattle.std.specs.Prelude.{◌≡◌, ◌∷◌, [], IfOk, map};
 ghost use Rattle.level_map.specs.InsidePlaces.{RanksRise};
 ghost use Rattle.member_state.specs.InsideRanks.{without_unused};
-ghost use Rattle.member_state.specs.Plans.{IsReady, after_planned, touched_among, without_all};
+ghost use Rattle.member_state.specs.Plans.{IsReady, after_planned, touched_among};
 ghost use Rattle.member_state.specs.States.{held_by};
 
 use crate::planned::Planned;
@@ -11,15 +11,6 @@ use cv_io::{Duplicate, Memory};
 use level_map::LevelMap;
 use member_table::Table;
 
-/// Takes entries out.
-fn drop_each(table: &mut Table, serials: &[u64])
-    ensures { table.new.table ≡ without_all serials.now table.old.table }
-{
-    for serial in serials {
-        table.drop_serial(*serial);
-    }
-}
-
 /// Says of entries that their counts were seen to have risen.
 fn touch_each(table: &mut Table, serials: &[u64], now: u64)
     ensures { table.new.table
@@ -27,6 +18,15 @@ fn touch_each(table: &mut Table, serials: &[u64], now: u64)
 {
     for serial in serials {
         table.touch(*serial, now);
+    }
+}
+
+/// Unless an entry comes, finds anew when the next timeout passes: entries may have gone.
+fn look_ahead_unless(table: &mut Table, comes: bool, now: u64)
+    ensures { table.new ≡ table.old }
+{
+    if !comes {
+        table.look_ahead(now);
     }
 }
 
@@ -62,9 +62,11 @@ fn make(table: &mut Table, levels: &mut LevelMap, planned: Planned, now: u64)
         touched,
         levels: placed,
     } = planned;
+    let comes = change.added.is_some();
     table.commit(change);
-    drop_each(table, dropped.as_slice());
+    table.drop_serials(dropped);
     touch_each(table, touched.as_slice(), now);
+    look_ahead_unless(table, comes, now);
     *levels = placed;
     drop_all_unused(table, levels, ranks.as_slice());
 }

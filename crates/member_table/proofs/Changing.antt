@@ -22,6 +22,17 @@ pub all_stay : (place : Option ℕ) (es : List Entry) → filter (stays [] place
 all_stay place [] = refl
 all_stay place (e ∷ es) = ap (λ xs. e ∷ xs) (all_stay place es)
 
+-- where no place is taken all of these go
+pub all_go : (serials : List ℕ) (es : List Entry)
+    → filter (stays serials None) es ≡ filter (λ e. not (is_among serials e.serial)) es
+all_go serials [] = refl
+all_go serials (e ∷ es) =
+    ap₂ (λ b xs. cond b (e ∷ xs) xs) (or_none (not (is_among serials e.serial))) (all_go serials es)
+  where
+    or_none : (b : Bool) → (b || false) ≡ b
+    or_none true = refl
+    or_none false = refl
+
 none_change : (es : List Entry) → map (changed_by []) es ≡ es
 none_change [] = refl
 none_change (e ∷ es) = ap (λ xs. e ∷ xs) (none_change es)

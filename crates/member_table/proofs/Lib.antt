@@ -8,6 +8,7 @@ pub mod Counts
 pub mod Ranking
 pub mod Staying
 pub mod Kept
+pub mod Quiet
 pub mod Bests
 pub mod Means
 pub mod Changing

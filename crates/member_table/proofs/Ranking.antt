@@ -1,7 +1,7 @@
 -- The ranks of the matches that come and go.
 use Rattle.std.proofs.Common.{◌≡◌, ℕ, ◌+◌, Bool, true, false, not, cond, ◌||◌, ◌&&◌, ◌==◌, ◌++◌, List, [], ◌∷◌, map}
 use Rattle.std.proofs.Common.{filter, find, refl, sym, ap, subst, ◌∙◌, arith, Option, Some, None, count_by, option_map}
-use Rattle.std.proofs.Common.{option_to_list, eq-eqb, eqb-true, nat_lt, true≢false, ne_eqb, ◌-◌, unwrap_or}
+use Rattle.std.proofs.Common.{option_to_list, eq-eqb, eqb-true, true≢false, ne_eqb, ◌-◌, unwrap_or}
 use Rattle.std.proofs.Common.{if◌then◌else◌, zero, suc, length, take, get_or, ◌<◌}
 use Rattle.std.specs.Prelude.{IsPermutation}
 use Rattle.std.specs.List.{list_any, AllByRecursion, AllZip, IsDistinct}
@@ -9,7 +9,7 @@ use Rattle.std.specs.Option.{option_eq}
 use Rattle.match_index.specs.InsideGroups.{SameItems}
 use Rattle.match_index.specs.Items.{has_id}
 use Rattle.match_index.specs.declared.item.Item.{Item}
-use Rattle.match_index.proofs.Counts.{one, any_count, count-append, count-cons, count-permuted}
+use Rattle.match_index.proofs.Counts.{one, count-append, count-cons, count-permuted}
 use Rattle.member_table.specs.Changes.{is_among, is_number}
 use Rattle.member_table.specs.InsideRanking.{AreCounted, count_at, remains}
 use Rattle.member_table.proofs.Changing.{not_number}

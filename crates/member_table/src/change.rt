@@ -1,5 +1,5 @@
 //! What a message changes in a table, and whose time is up.
-ghost use Rattle.std.specs.Prelude.{◌≡◌};
+ghost use Rattle.std.specs.Prelude.{◌≡◌, []};
 ghost use Rattle.member_table.specs.Planning.{removing};
 
 use crate::entry::Entry;
@@ -43,4 +43,16 @@ impl Change {
 pub struct Due {
     pub hard: List<u64>,
     pub idle: List<u64>,
+}
+
+impl Due {
+    /// No one's.
+    pub(crate) fn none(alloc: Global) -> Due
+        ensures { result ≡ record { hard = []; idle = [] } }
+    {
+        Due {
+            hard: List::new(alloc),
+            idle: List::new(alloc),
+        }
+    }
 }

@@ -1,8 +1,8 @@
 //! Changes are made.
-ghost use Rattle.std.specs.Prelude.{◌≡◌, ◌≤◌, ◌+◌, filter, map};
+ghost use Rattle.std.specs.Prelude.{◌≡◌, ◌≤◌, ◌+◌, filter, map, not};
 ghost use Rattle.std.specs.List.{AllByRecursion};
-ghost use Rattle.member_table.specs.Changes.{CanCommit, IsInRange, changed_by, committed, replaced as replaced_of};
-ghost use Rattle.member_table.specs.Changes.{stays};
+ghost use Rattle.member_table.specs.Changes.{CanCommit, IsInRange, changed_by, committed, is_among};
+ghost use Rattle.member_table.specs.Changes.{replaced as replaced_of, stays};
 
 use crate::change::{Change, Modified};
 use crate::entry::Entry;
@@ -28,6 +28,15 @@ impl Table {
         if let Some(entry) = added {
             self.put(entry);
         }
+    }
+
+    /// Takes the entries of some numbers out, many in one pass. The others keep their order.
+    pub fn drop_serials(&mut self, serials: List<u64>)
+        ensures table { self.new.table ≡ record self.old.table
+            { entries = filter (λ e. not (is_among serials e.serial)) self.old.table.entries } }
+        ensures room { self.new.room ≡ self.old.room }
+    {
+        self.remove_all(serials, None);
     }
 
     /// The number of the entry whose place the one that comes takes.

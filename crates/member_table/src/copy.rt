@@ -35,6 +35,7 @@ impl Duplicate for Table {
             limit: self.limit,
             next: self.next,
             room: self.room,
+            soonest: self.soonest,
             order,
             ranks,
         })

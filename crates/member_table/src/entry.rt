@@ -1,7 +1,8 @@
 //! Entries of a member's table.
-ghost use Rattle.std.specs.Prelude.{◌≡◌, ◌↔◌, IsTrue};
+ghost use Rattle.std.specs.Prelude.{◌≡◌, ◌↔◌, ◌<◌, ℕ, IsTrue, false};
 ghost use Rattle.std.specs.List.{list_any};
 ghost use Rattle.member_table.specs.Entries.{identity_of};
+ghost use Rattle.member_table.specs.InsideKept.{IsQuietUntil};
 ghost use Rattle.member_table.specs.Tables.{is_output_to as is_output_to_of, outputs_to as outputs_to_of};
 ghost use Rattle.member_table.specs.Timeouts.{has_passed as has_passed_of, is_hard_due as is_hard_due_of};
 ghost use Rattle.member_table.specs.Timeouts.{is_idle_due as is_idle_due_of};
@@ -79,6 +80,17 @@ fn has_passed(since: u64, timeout: u16, now: u64) -> bool
     timeout != 0 && since <= now && now - since >= u64::from(timeout)
 }
 
+/// A moment before which a timeout doesn't pass; 0 is none.
+fn passes_from(since: u64, timeout: u16) -> u64
+    ensures { (now : ℕ) → now < result → has_passed_of since timeout now ≡ false }
+{
+    if timeout == 0 {
+        u64::MAX
+    } else {
+        since.saturating_add(u64::from(timeout))
+    }
+}
+
 impl Entry {
     /// Whether it has an OUTPUT to the port; `port::NONE` asks for none.
     pub fn outputs_to(&self, port: u16) -> bool
@@ -99,6 +111,13 @@ impl Entry {
         ensures { result ≡ is_idle_due_of now self.now }
     {
         !self.is_hard_due(now) && has_passed(self.last, self.idle, now)
+    }
+
+    /// A moment before which neither of its timeouts passes.
+    pub(crate) fn soonest(&self) -> u64
+        ensures { IsQuietUntil result self.now }
+    {
+        passes_from(self.added, self.hard).min(passes_from(self.last, self.idle))
     }
 }
 

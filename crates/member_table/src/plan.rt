@@ -139,7 +139,7 @@ impl Table {
         if strict {
             self.meant_strictly(asked, port)
         } else {
-            let wanted = Wanted::Covered {
+            let wanted = Wanted {
                 filter: asked.normal,
                 port,
             };

@@ -20,6 +20,8 @@ pub struct Table {
     pub(crate) limit: u32,
     pub(crate) next: u64,
     pub(crate) room: usize,
+    /// No timeout of an entry passes before.
+    pub(crate) soonest: u64,
     pub(crate) order: Order,
     pub(crate) ranks: Ranks,
 }
@@ -36,7 +38,7 @@ impl Model for Table {
     } };
 
     ghost invariant = { λ a. IsKept (record { entries = a.order.entries; next = a.next; limit = a.limit }) a.room
-        a.order a.ranks };
+        a.soonest a.order a.ranks };
 }
 
 impl Table {
@@ -55,6 +57,7 @@ impl Table {
             limit,
             next: 1,
             room: 0,
+            soonest: u64::MAX,
             order: Order::new(alloc),
             ranks: Ranks::new(alloc),
         }
@@ -135,6 +138,7 @@ impl Table {
         ensures found { result ≡ list_any (has_serial serial) self.old.table.entries }
         ensures room { self.new.room ≡ self.old.room }
     {
+        self.soonest = self.soonest.min(now);
         self.order.set_last(serial, now)
     }
 
@@ -169,6 +173,7 @@ impl Table {
         ensures room { self.new.room + 1 ≡ self.old.room }
     {
         let item = item_of(&entry);
+        self.soonest = self.soonest.min(entry.soonest());
         let replaced = self.order.put(entry);
         self.ranks.exchange(replaced, &item);
         self.next += 1;

@@ -47,3 +47,17 @@ fn a_copy_is_taken_from_alone(rt: HostRuntime) -> Result<(), Fail> {
     assert_eq!(rt; second, Taking::Empty);
     Ok(())
 }
+
+#[test]
+fn bytes_that_wait_are_counted(rt: HostRuntime) -> Result<(), Fail> {
+    let mut first = letters(rt.alloc(), &[b"one", b"three"])?;
+    let more = letters(rt.alloc(), &[b"four"])?;
+    assert_eq!(rt; first.bytes(), 8);
+    if first.len() <= 2 && more.len() <= 1 {
+        first.join(more);
+    }
+    assert_eq!(rt; first.bytes(), 12);
+    drop(first.pop());
+    assert_eq!(rt; first.bytes(), 9);
+    Ok(())
+}

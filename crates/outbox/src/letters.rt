@@ -10,6 +10,8 @@ use std::marker::Model;
 #[derive(Drop, Debug)]
 pub struct Letters {
     items: LinkedList<Bytes>,
+    // How many bytes they have together.
+    bytes: usize,
 }
 
 impl Model for Letters {
@@ -27,6 +29,7 @@ impl Letters {
     {
         Letters {
             items: LinkedList::new(alloc),
+            bytes: 0,
         }
     }
 
@@ -36,6 +39,11 @@ impl Letters {
         ensures fits { result < 2 ^ 63 }
     {
         self.items.len()
+    }
+
+    /// How many bytes they have together. No promise rests on it.
+    pub fn bytes(&self) -> usize {
+        self.bytes
     }
 
     /// There are none.
@@ -50,7 +58,9 @@ impl Letters {
         ensures pushed { OnOk result (self.new ≡ self.old ++ message ∷ []) }
         ensures memory { OnErr result (self.new ≡ self.old) }
     {
+        let bytes = self.bytes.saturating_add(message.len());
         self.items.push_back(message)?;
+        self.bytes = bytes;
         Ok(())
     }
 
@@ -60,19 +70,23 @@ impl Letters {
         ensures { self.new ≡ self.old ++ more }
     {
         self.items.append(&mut more.items).unwrap();
+        self.bytes = self.bytes.saturating_add(more.bytes);
     }
 
     pub(crate) fn clear(&mut self)
         ensures { self.new ≡ [] }
     {
         self.items.clear();
+        self.bytes = 0;
     }
 
     /// Takes the first message.
     pub fn pop(&mut self) -> Option<Bytes>
         ensures { MatchOption result ((self.old ≡ []) × (self.new ≡ [])) (λ m. self.old ≡ m ∷ self.new) }
     {
-        self.items.pop_front()
+        let message = self.items.pop_front()?;
+        self.bytes = self.bytes.saturating_sub(message.len());
+        Some(message)
     }
 }
 
@@ -82,6 +96,9 @@ impl Duplicate for Letters {
         for message in &self.items {
             items.push_back(message.copy()?)?;
         }
-        Ok(Letters { items })
+        Ok(Letters {
+            items,
+            bytes: self.bytes,
+        })
     }
 }

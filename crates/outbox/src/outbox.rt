@@ -12,6 +12,9 @@ use std::marker::Model;
 /// A session for which so many messages wait as an event begins is closed as slow where it is put more.
 pub const SLOW: usize = 4096;
 
+// So many bytes are many, in however few messages.
+const HEAVY: usize = 8 << 20;
+
 /// The answer to a taking.
 #[derive(PartialEq, Eq, Debug, Drop)]
 pub enum Taking {
@@ -110,6 +113,11 @@ impl Outbox {
         ensures { result ≡ is_crowded_of self.now }
     {
         self.waiting.len() >= SLOW / 2
+    }
+
+    /// So many bytes wait that who puts it more should do so slowly. No promise rests on it.
+    pub fn is_heavy(&self) -> bool {
+        self.waiting.bytes() >= HEAVY
     }
 
     /// Nothing becomes of it.

@@ -1,5 +1,6 @@
 -- What is known of a clock in memory.
-use Rattle.std.specs.Prelude.{ℕ, List, [], ◌∷◌}
+use Rattle.std.specs.Prelude.{◌≡◌, ℕ, true, List, [], ◌∷◌}
+use Rattle.outside.specs.Outside.{is_listed}
 
 -- the moments that it will answer from here on, of which the last stays, and the greatest one that it answered
 pub record ClockOf : Type 0 where
@@ -16,3 +17,8 @@ abbrev pub later_moments : List ℕ → List ℕ
 later_moments [] = []
 later_moments (moment ∷ []) = moment ∷ []
 later_moments (moment ∷ next ∷ left) = next ∷ left
+
+-- a clock with these moments left may answer this one: one of them, or 0 where there is none
+abbrev pub MayAnswer : List ℕ → ℕ → Type 0
+MayAnswer [] moment = moment ≡ 0
+MayAnswer (next ∷ left) moment = is_listed (next ∷ left) moment ≡ true

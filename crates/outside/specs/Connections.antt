@@ -29,7 +29,8 @@ Gives (Some (link ∷ links)) after remaining reads held writes = (after ≡ Som
 -- both are the same endpoint
 abbrev pub is_same : Endpoint → Endpoint → Bool
 is_same (Member index address rounds) (Member i a r) = (index == i) && pointwise nat_eq address a && (rounds == r)
-is_same (Switch index listen rounds) (Switch i l r) = (index == i) && pointwise nat_eq listen l && (rounds == r)
+is_same (Switch index listen rounds dpid) (Switch i l r d) =
+    (index == i) && pointwise nat_eq listen l && (rounds == r) && (dpid == d)
 is_same (Standby address rounds) (Standby a r) = pointwise nat_eq address a && (rounds == r)
 is_same (Lead listen) (Lead l) = pointwise nat_eq listen l
 is_same _ _ = false

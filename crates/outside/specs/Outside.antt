@@ -1,6 +1,6 @@
 -- What is told of the outside: bytes, where they are known, and counts of faults.
-use Rattle.std.specs.Prelude.{ℕ, Bool, ◌==◌, ◌+◌, ◌<◌, ◌≡◌, ◌⊎◌, List, [], ◌∷◌, ◌++◌, Option, Some, None, take, drop}
-use Rattle.std.specs.Prelude.{min, true, false}
+use Rattle.std.specs.Prelude.{ℕ, zero, suc, Bool, ◌==◌, ◌+◌, ◌<◌, ◌≤◌, ◌≡◌, ◌⊎◌, List, [], ◌∷◌, ◌++◌, Option, Some, None}
+use Rattle.std.specs.Prelude.{drop, false, min, take, true}
 use Rattle.std.specs.List.{list_any}
 
 -- the greatest count
@@ -14,6 +14,11 @@ next_count n = min (n + 1) MOST
 -- a count rose, or stands at its greatest value
 abbrev pub Rose : ℕ → ℕ → Type 0
 Rose before after = (before < after) ⊎ (after ≡ MOST)
+
+-- a count rose at each of so many calls: by as many at least, but that it stands still at its greatest value
+abbrev pub RoseBy : ℕ → ℕ → ℕ → Type 0
+RoseBy zero before after = before ≤ after
+RoseBy (suc n) before after = Rose before after × (min (before + suc n) MOST ≤ after)
 
 -- the number of a call is one of those that are to fail
 abbrev pub is_listed : List ℕ → ℕ → Bool

@@ -1,6 +1,6 @@
 //! Which calls of a form in memory are to fail.
-ghost use Rattle.std.specs.Prelude.{◌≡◌, ◌≤◌, if◌then◌else◌};
-ghost use Rattle.outside.specs.Outside.{is_listed, next_count};
+ghost use Rattle.std.specs.Prelude.{◌≡◌, ◌≤◌, ◌↔◌, IsTrue, if◌then◌else◌};
+ghost use Rattle.outside.specs.Outside.{Rose, is_listed, next_count};
 
 use cv_io::List;
 use std::alloc::Global;
@@ -10,6 +10,13 @@ use thiserror::Error;
 #[derive(Clone, Copy, PartialEq, Eq, Debug, Error)]
 #[error("the outside failed")]
 pub struct Failed;
+
+/// Whether a count rose, or stands at its greatest value, where a rise can't be seen.
+pub fn has_risen(before: u64, now: u64) -> bool
+    ensures { IsTrue result ↔ Rose before now }
+{
+    before < now || now == u64::MAX
+}
 
 /// A count of calls, and of those that failed because they were listed.
 #[derive(Drop, Debug)]

@@ -1,6 +1,6 @@
 //! The clock.
 ghost use Rattle.std.specs.Prelude.{◌≡◌, ℕ, max};
-ghost use Rattle.outside.specs.Clock.{ClockOf, first_moment, later_moments};
+ghost use Rattle.outside.specs.Clock.{ClockOf, MayAnswer, first_moment, later_moments};
 
 use cv_io::{Duplicate, List, Memory};
 use std::marker::Model;
@@ -12,13 +12,19 @@ pub trait Clock {
     // The greatest moment that it answered.
     ghost greatest: { Self → ℕ };
 
+    // It may answer this moment.
+    ghost may: { Self → ℕ → Type 0 };
+
     /// The moment, in seconds.
     fn now(&mut self) -> u64
-        ensures { greatest self.new ≡ max (greatest self.old) result };
+        ensures greatest { greatest self.new ≡ max (greatest self.old) result }
+        ensures may { may self.old result }
+        ensures no_more { (moment : ℕ) → may self.new moment → may self.old moment };
 
     /// Rests a while, after it rested `turns` times in a row.
     fn rest(&mut self, turns: u32)
-        ensures { greatest self.new ≡ greatest self.old };
+        ensures greatest { greatest self.new ≡ greatest self.old }
+        ensures no_more { (moment : ℕ) → may self.new moment → may self.old moment };
 }
 
 /// A clock that answers listed moments in order, the last one ever after, and 0 where none is listed.
@@ -54,12 +60,18 @@ impl MemClock {
 }
 
 impl Clock for MemClock {
+    ghost use Rattle.outside.specs.Clock.{MayAnswer};
+
     ghost greatest = { λ c. c.greatest };
+
+    ghost may = { λ c moment. MayAnswer c.left moment };
 
     fn now(&mut self) -> u64
         ensures moment { result ≡ first_moment self.old.left }
         ensures left { self.new.left ≡ later_moments self.old.left }
         ensures greatest { self.new.greatest ≡ max self.old.greatest result }
+        ensures may { MayAnswer self.old.left result }
+        ensures no_more { (moment : ℕ) → MayAnswer self.new.left moment → MayAnswer self.old.left moment }
     {
         let moment = match self.seconds.get(self.at) {
             Some(moment) => *moment,
@@ -125,7 +137,12 @@ impl<R> Duplicate for SystemClock<'_, R> {
 }
 
 impl<R: time::Clock> Clock for SystemClock<'_, R> {
+    ghost use Rattle.std.specs.Prelude.{⊤};
+
     ghost greatest = { λ c. c.greatest };
+
+    // Nothing is known of the time.
+    ghost may = { λ _ _. ⊤ };
 
     fn now(&mut self) -> u64 {
         let moment = self.moment();

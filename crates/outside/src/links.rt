@@ -18,11 +18,12 @@ pub enum Endpoint {
         address: Text,
         rounds: u32,
     },
-    /// A switch, by its number in the policy, which connects to us.
+    /// A switch, by its number in the policy and its datapath id, which connects to us.
     Switch {
         index: u32,
         listen: Text,
         rounds: u32,
+        dpid: u64,
     },
     /// A second proxy that takes over, at its address.
     Standby {
@@ -58,13 +59,15 @@ impl Endpoint {
                     index,
                     listen,
                     rounds,
+                    dpid,
                 },
                 Endpoint::Switch {
                     index: i,
                     listen: l,
                     rounds: r,
+                    dpid: d,
                 },
-            ) => index == i && listen == l && rounds == r,
+            ) => index == i && listen == l && rounds == r && dpid == d,
             (
                 Endpoint::Standby { address, rounds },
                 Endpoint::Standby {
@@ -94,10 +97,12 @@ impl Duplicate for Endpoint {
                 index,
                 listen,
                 rounds,
+                dpid,
             } => Endpoint::Switch {
                 index: *index,
                 listen: listen.copy()?,
                 rounds: *rounds,
+                dpid: *dpid,
             },
             Endpoint::Standby { address, rounds } => Endpoint::Standby {
                 address: address.copy()?,

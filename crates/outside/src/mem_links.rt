@@ -2,6 +2,7 @@
 ghost use Rattle.std.specs.Prelude.{◌≡◌, ◌≤◌, ◌↔◌, ◌⊎◌, ℕ, true, Option, Some, [], IfOk, IsOk, IsErr, OnOk, OnErr};
 ghost use Rattle.std.specs.Prelude.{IfSome, IsNone, IsTrue, option_copied};
 ghost use Rattle.outside.specs.Outside.{Rose, is_listed, lists_none, next_count};
+ghost use Rattle.outside.specs.Connections.{Gives};
 ghost use Rattle.outside.specs.InMemory.{LinksOf, DialOf, connections, end_of, fails_of, inputs_of};
 ghost use Rattle.outside.specs.declared.links.Endpoint.{Endpoint};
 
@@ -54,7 +55,22 @@ impl Dial for MemDial {
 
     ghost is_reliable = { λ d. lists_none d.fails };
 
-    fn next(&mut self) -> Result<Option<(MemSource, MemSink)>, Failed> {
+    fn next(&mut self) -> Result<Option<(MemSource, MemSink)>, Failed>
+        ensures given { IfOk result (λ next. IfSome next
+            (λ link. Gives (Some (connections self.old.inputs)) (Some (connections self.new.inputs))
+            (Some link.0.left) (lists_none link.0.fails) (Some link.1.held) (lists_none link.1.fails))) }
+        ensures none { IfOk result (λ next. IsNone next ↔ (connections self.old.inputs ≡ [])) }
+        ensures over { IfOk result (λ next. IsNone next → self.new.inputs ≡ self.old.inputs) }
+        ensures kept { OnErr result (self.new.inputs ≡ self.old.inputs) }
+        ensures quiet { OnOk result (self.new.faults ≡ self.old.faults) }
+        ensures fault { OnErr result (Rose self.old.faults self.new.faults) }
+        ensures never_falls { self.old.faults ≤ self.new.faults }
+        ensures reliable { self.new.fails ≡ self.old.fails }
+        ensures dials { lists_none self.old.fails ≡ true → IsOk result }
+        ensures listed { IsTrue (is_listed self.old.fails (next_count self.old.made)) → IsErr result }
+        ensures unlisted { OnErr result (IsTrue (is_listed self.old.fails (next_count self.old.made))) }
+        ensures made { self.new.made ≡ next_count self.old.made }
+    {
         if self.calls.count() {
             return Err(Failed);
         }

@@ -21,6 +21,10 @@ pub trait Sink {
     // It never fails but for want of memory.
     ghost is_reliable: { Self → Bool };
 
+    /// How many calls failed for want of memory. Where it rises with a failed call, memory is the cause.
+    fn wants(&self) -> u64
+        ensures { result ≡ wants self.now };
+
     /// Writes the first bytes of a piece that isn't empty, and tells how many.
     fn write(&mut self, piece: &[u8]) -> Result<usize, Failed>
         requires { 0 < length piece.now }
@@ -35,6 +39,20 @@ pub trait Sink {
         ensures wants_never_fall { wants self.old ≤ wants self.new }
         ensures reliable { is_reliable self.new ≡ is_reliable self.old }
         ensures writes { is_reliable self.old ≡ true → OnErr result (Rose (wants self.old) (wants self.new)) };
+
+    /// Sends what it has collected. One that collects nothing has nothing to send.
+    fn flush(&mut self) -> Result<(), Failed>
+        ensures kept { held self.new ≡ held self.old }
+        ensures quiet { OnOk result (faults self.new ≡ faults self.old) }
+        ensures fault { OnErr result (Rose (faults self.old) (faults self.new)) }
+        ensures never_falls { faults self.old ≤ faults self.new }
+        ensures sated { OnOk result (wants self.new ≡ wants self.old) }
+        ensures wants_never_fall { wants self.old ≤ wants self.new }
+        ensures reliable { is_reliable self.new ≡ is_reliable self.old }
+        ensures writes { is_reliable self.old ≡ true → OnErr result (Rose (wants self.old) (wants self.new)) }
+    {
+        Ok(())
+    }
 }
 
 /// A sink over a list in memory, of which listed calls fail, and those that find no memory, which
@@ -81,6 +99,10 @@ impl Sink for MemSink {
     ghost wants = { λ s. s.wants };
 
     ghost is_reliable = { λ s. lists_none s.fails };
+
+    fn wants(&self) -> u64 {
+        self.wants
+    }
 
     fn write(&mut self, piece: &[u8]) -> Result<usize, Failed>
         requires { 0 < length piece.now }

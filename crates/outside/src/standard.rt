@@ -120,6 +120,10 @@ impl<W: Write> Sink for Outgoing<W> {
 
     ghost is_reliable = { λ _. false };
 
+    fn wants(&self) -> u64 {
+        0
+    }
+
     fn write(&mut self, piece: &[u8]) -> Result<usize, Failed> {
         match write_again(&mut self.writer, piece) {
             Ok(taken) if taken > 0 => Ok(taken),

@@ -9,3 +9,4 @@ pub mod Missing
 pub mod Closes
 pub mod Opens
 pub mod Follows
+pub mod Holds

@@ -60,7 +60,7 @@ impl<M: Machine> PolicyLock<M> {
             } = seat;
             self.table.shared.join_seat::<Gather>(&mut keeper, token);
         }
-        let PolicyLock { table, asleep: _ } = self;
+        let PolicyLock { table, words: _ } = self;
         let mut closed = table.close_with(keeper);
         let Some(locked) = closed.take(0) else {
             unreachable!()

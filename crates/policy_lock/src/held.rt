@@ -3,8 +3,9 @@ ghost use Rattle.std.specs.Prelude.{◌≡◌, ◌<◌, ◌+◌, ◌^◌, [], le
 ghost use Rattle.policy_lock.specs.Locked.{Stands, SameCheckpoint, NewCheckpoint, Costs, IsApplied, IsStoredAfter};
 
 use crate::after::After;
-use crate::locked::{Applied, Locked};
+use crate::locked::{Applied, Locked, Past};
 use crate::machine::Machine;
+use crate::marks::Marks;
 use cv_io::{Memory, Steps};
 use std::alloc::Global;
 use std::sync::ledger::Ledger;
@@ -39,17 +40,23 @@ impl<M: Machine> Held<M> {
         rt: &R,
         event: M::Event,
         steps: &mut Steps<G>,
+        past: &mut Option<Past<M>>,
     ) -> Result<Applied<M::Reply>, Memory>
         requires { self.old.boxed.value.before + 16384 < 2 ^ 64 }
         ensures cost { Costs ⟦<M as Machine>⟧ self.old.boxed.value event steps.old steps.new }
         ensures applied { IsApplied ⟦<M as Machine>⟧ self.old.boxed.value event self.new.boxed.value result }
     {
-        self.boxed.apply(rt, event, steps)
+        self.boxed.apply(rt, event, steps, past)
     }
 
-    /// As [`Machine::is_crowded`].
-    pub fn is_crowded(&self, event: &M::Event) -> bool {
-        self.boxed.machine.is_crowded(event)
+    /// As [`Machine::holds`].
+    pub fn holds(&self, event: &M::Event, turns: u32) -> bool {
+        self.boxed.machine.holds(event, turns)
+    }
+
+    /// As [`Machine::marks`].
+    pub fn marks(&self) -> Marks {
+        self.boxed.machine.marks()
     }
 
     /// As [`Locked::after`].

@@ -7,7 +7,8 @@
 //!
 //! Under the lock lies one slot of `atomic_table` with the machine, and one word: twice the number of
 //! entries, and one more while a seat holds the machine. So a seat reads how far the history has come
-//! without the lock, and only [`PolicyLock::post`] may wait.
+//! without the lock, and only [`PolicyLock::post`] may wait: while another seat holds the machine or
+//! has waited for it too long, and while the machine says that the event had better wait.
 #![tactic(auto)]
 
 mod after;
@@ -18,10 +19,12 @@ mod held;
 mod lock;
 mod locked;
 mod machine;
+mod marks;
 mod opening;
 mod post;
 mod rule;
 mod seats;
+mod taking;
 mod view;
 mod worked;
 
@@ -29,6 +32,7 @@ pub use after::After;
 pub use close::Open;
 pub use lock::{PolicyLock, Receipt, Seat};
 pub use machine::Machine;
+pub use marks::Marks;
 pub use opening::open;
 pub use view::{Entry, Pass};
 pub use worked::worked_examples;

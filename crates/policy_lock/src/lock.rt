@@ -1,6 +1,7 @@
 //! The lock and its seats.
 use crate::held::Held;
 use crate::machine::Machine;
+use crate::marks::Words;
 use crate::rule::Law;
 use crate::view::View;
 use atomic_table::Table;
@@ -8,7 +9,6 @@ use cv_io::List;
 use std::alloc::Global;
 use std::marker::Model;
 use std::snapshot::Snapshot;
-use std::sync::atomic::AtomicU64;
 
 /// A token of the lock's table.
 pub type Token<M> = atomic_table::Seat<
@@ -28,8 +28,7 @@ pub struct PolicyLock<M: Machine> {
         Law<M>,
         Global,
     >,
-    /// How many seats sleep until the machine is given back.
-    pub(crate) asleep: AtomicU64,
+    pub(crate) words: Words,
 }
 
 impl<M: Machine> Model for PolicyLock<M> {
@@ -41,6 +40,18 @@ impl<M: Machine> Model for PolicyLock<M> {
     ghost view = { λ lock. record { id = lock.table.shared.table_id; start = M.meaning lock.table.shared.key.value } };
 
     ghost invariant = { λ lock. (lock.table.shared.table_id.words ≡ 1) × (lock.table.shared.table_id.slots ≡ 1) };
+}
+
+impl<M: Machine> PolicyLock<M> {
+    /// The machine's [`Marks::stirred`](crate::Marks) as it was last given back. No promise rests on it.
+    pub fn stirred(&self) -> u64 {
+        self.words.marks().stirred
+    }
+
+    /// The machine's [`Marks::crowded`](crate::Marks) as it was last given back. No promise rests on it.
+    pub fn is_crowded(&self) -> bool {
+        self.words.marks().crowded
+    }
 }
 
 /// The right to post to a lock. Between calls it holds nothing, so a seat that is dropped stops no
@@ -74,6 +85,4 @@ pub struct Receipt<R: Drop> {
     /// entries there were.
     pub place: u64,
     pub reply: R,
-    /// Before the event much waited of what it may have added to, as [`Machine::is_crowded`] says.
-    pub crowded: bool,
 }

@@ -20,6 +20,13 @@ pub struct Locked<M: Machine> {
     ghost rounds: { before % 16384 ≡ 0 },
 }
 
+/// What a new checkpoint takes the place of: it is let go of once the machine is given back.
+#[derive(Drop)]
+pub struct Past<M: Machine> {
+    pub checkpoint: M,
+    pub events: Vec<M::Event>,
+}
+
 /// What became of an event.
 pub enum Applied<R> {
     /// It is idle, and changed nothing.

@@ -2,6 +2,7 @@
 ghost use Rattle.std.specs.Prelude.{◌≡◌, ◌≤◌, ◌+◌, ℕ, Bool, true, false, MatchResult, MatchOption, IfOk};
 ghost use denote.Param.Send.{IsSync};
 
+use crate::marks::Marks;
 use cv_io::{Memory, Steps};
 use std::sync::ledger::Ledger;
 use std::thread::Threads;
@@ -53,10 +54,14 @@ pub trait Machine: Drop + Send {
             (idle (meaning self.now) event.now ≡ false)
             (λ r. (idle (meaning self.now) event.now ≡ true) × (r ≡ reply (meaning self.now) event.now)) };
 
-    /// Whether much waits already of what the event may add to, so that who posts it should be slow to post more. No
-    /// promise rests on it.
-    fn is_crowded(&self, _event: &Self::Event) -> bool {
+    /// Whether the event, which has waited so many milliseconds, had better wait on. No promise rests on it.
+    fn holds(&self, _event: &Self::Event, _turns: u32) -> bool {
         false
+    }
+
+    /// What waits in the machine. No promise rests on it.
+    fn marks(&self) -> Marks {
+        Marks::none()
     }
 
     /// A machine with the same meaning.

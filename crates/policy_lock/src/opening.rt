@@ -7,11 +7,11 @@ ghost use Rattle.policy_lock.specs.Opening.{new_seat, opening_seats};
 use crate::held::Held;
 use crate::lock::{PolicyLock, Seat};
 use crate::machine::Machine;
+use crate::marks::Words;
 use atomic_table::{Refused, Table};
 use cv_io::{List, Memory};
 use std::alloc::Global;
 use std::snapshot::Snapshot;
-use std::sync::atomic::AtomicU64;
 
 /// Puts the machine under a lock, and gives so many seats, none of which has seen anything: the first
 /// one, and seats that were split off it. The lock closes once these are back, with those that were
@@ -51,7 +51,7 @@ impl<M: Machine> PolicyLock<M> {
             Ok((table, token)) => Ok((
                 PolicyLock {
                     table,
-                    asleep: AtomicU64::new(0),
+                    words: Words::new(),
                 },
                 Seat {
                     token,

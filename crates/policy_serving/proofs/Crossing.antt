@@ -1,15 +1,14 @@
 -- The machine may go to another thread.
 use denote.Param.Send.{IsSend, sendable}
 use denote.Param.SendFields.{as_row_send}
-use Rattle.std.proofs.Crossing.{Box-send}
+use Rattle.std.proofs.Crossing.{Arc-send, Box-send}
 use Rattle.cv_io.proofs.list.List.TheSendSync.{the_send as list}
 use Rattle.machine_drafts.proofs.session.Member.TheSendSync.{the_send as member}
 use Rattle.machine_drafts.proofs.session.Switch.TheSendSync.{the_send as switch}
-use Rattle.machine_drafts.proofs.setup.Setup.TheSendSync.{the_send as setup}
+use Rattle.machine_drafts.proofs.setup.Setup.TheSendSync.{the_send as setup, the_sync as shared_setup}
 use Rattle.policy_serving.proofs.KeptCrossing.{composed}
 use Rattle.machine_drafts.specs.contracts.held.Held as Held
 use Rattle.hyper_core.specs.contracts.hyper.Hyper as Hyper
-use Rattle.machine_drafts.specs.contracts.setup.Setup as Setup
 use Rattle.machine_meaning.proofs.state.Owed.TheSendSync.{the_send as owed}
 use Rattle.outbox.proofs.letters.Letters.TheSendSync.{the_send as letters}
 use Rattle.policy_expr.proofs.expr.Expr.TheLaws.TheKnot as knot
@@ -30,4 +29,4 @@ held_field : IsSend Held.the_field.row
 held_field = search (list, expr_row, expr, member, switch, counts, waiting, owed, letters, sendable) depth 60
 
 pub hyper : IsSend Hyper.the_row
-hyper = let a : IsSend Setup.the_field.row = setup in search (held_field, held, composed, sendable) depth 20
+hyper = search (Arc-send, setup, shared_setup, held_field, held, composed, sendable) depth 20

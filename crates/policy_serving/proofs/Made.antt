@@ -88,10 +88,11 @@ module _ {M : Type 0} (g : Ghosts M Event Reply StateData) (kept : AuditIsKept g
       (sym (ap lines (made_is log legal) ∙ flat_map-append (λ (line : List ℕ). line ++ 10 ∷ []) taken waiting))
 
   module _ (idle : g.idle ≡ is_idle) (told : Endpoint → Option (List Connection)) (reliable : Endpoint → Bool)
-      (places : List Place) (held written : Option (List ℕ)) (faults risen : ℕ) where
-    whole : (undialled failed wanted : Bool)
-        → WritesAll g start told reliable lines_taken places held written faults risen undialled failed wanted
-        → WritesAll g start told reliable (lines_made g start) places held written faults risen undialled failed wanted
+      (may : ℕ → Type 0) (places : List Place) (held written : Option (List ℕ)) (faults risen : ℕ) where
+    whole : (undialled : ℕ) (failed wanted : Bool)
+        → WritesAll g start told reliable may lines_taken places held written faults risen undialled failed wanted
+        → WritesAll g start told reliable may (lines_made g start) places held written faults risen undialled failed
+        wanted
     whole undialled failed wanted w =
         let all = w.log ++ w.rest in
         let end = after g start all in
@@ -108,8 +109,8 @@ module _ {M : Type 0} (g : Ghosts M Event Reply StateData) (kept : AuditIsKept g
               w.wrote;
         }
 
-    begun : WritesSome g start told reliable lines_taken places held written faults risen
-        → WritesSome g start told reliable (lines_made g start) places held written faults risen
+    begun : WritesSome g start told reliable may lines_taken places held written faults risen
+        → WritesSome g start told reliable may (lines_made g start) places held written faults risen
     begun w =
         let all = w.log ++ w.rest in
         record {
@@ -124,9 +125,9 @@ module _ {M : Type 0} (g : Ghosts M Event Reply StateData) (kept : AuditIsKept g
           wrote = subst (Appends held written) (some_made all w.run.legal w.count) w.wrote;
         }
 
-    pub made : (served : Served) → Serves g start told reliable lines_taken places held written faults risen served
-        → Serves g start told reliable (lines_made g start) places held written faults risen served
-    made Done w = whole false false false w
+    pub made : (served : Served) → Serves g start told reliable may lines_taken places held written faults risen served
+        → Serves g start told reliable may (lines_made g start) places held written faults risen served
+    made Done w = whole 0 false false w
     made Link w = (w.0, (w.1.0, (w.1.1.0, whole w.0 w.1.0 w.1.1.0 w.1.1.1)))
     made Spawn same = same
     made Write w = begun w

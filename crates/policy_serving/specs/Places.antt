@@ -12,9 +12,10 @@ use Rattle.virtual_topology.specs.declared.plan.SwitchItem.{SwitchItem}
 abbrev pub member_place : (rounds : ℕ) → ℕ × MemberItem → Place
 member_place rounds (n, m) = record { end = ends.Member n m.address rounds; side = sides.Member n }
 
--- a switch connects to the address where the policy listens, and is any that it names
+-- a place for each switch, which connects to the address where the policy listens; any that it names may be there
 abbrev pub switch_place : (listen : List ℕ) (rounds : ℕ) (dpids : List ℕ) → ℕ × SwitchItem → Place
-switch_place listen rounds dpids (n, s) = record { end = ends.Switch n listen rounds; side = sides.Switch dpids }
+switch_place listen rounds dpids (n, s) =
+    record { end = ends.Switch n listen rounds s.dpid; side = sides.Switch dpids }
 
 abbrev pub dpid_of : SwitchItem → ℕ
 dpid_of s = s.dpid

@@ -1,5 +1,5 @@
 -- What the machine means knows members and switches.
-use Rattle.std.specs.Prelude.{◌≡◌, ◌<◌, ℕ, length}
+use Rattle.std.specs.Prelude.{◌≡◌, ◌<◌, ◌≤◌, ℕ, length}
 use Rattle.cv_io.specs.declared.leaf.Who.{Who}
 use Rattle.cv_io.specs.declared.leaf.Who.TheVariants.{Member, Switch}
 use Rattle.machine_drafts.specs.Machines.{MachineOf, state_of}
@@ -10,6 +10,10 @@ use Rattle.machine_answers.specs.Answers.{HasSession}
 -- its state has this member or switch
 unfoldable pub HasOne : StateData → Who → Type 0
 HasOne d who = HasSession (state_in d) who
+
+-- its moment is this second, or a later one
+unfoldable pub HasTold : StateData → ℕ → Type 0
+HasTold d second = second ≤ (state_in d).moment
 
 -- a machine that was opened knows the members and the switches of its policy
 abbrev pub KnowsItsPolicy : Type 0

@@ -19,12 +19,11 @@ pub record IsOpening (p : PolicyOf) (start : StateData) : Type 0 where
   pub state : state_in start ≡ opening p
 
 -- the endpoints of the policy were served by works that posted to one history of its machine; what is written is the
--- lines that the events of this history put to the audit, or a beginning of these, as `Serves` says; so many calls of
--- the
--- links failed before and after
+-- lines that the events of this history put to the audit, or a beginning of these, as `Serves` says; the clock may
+-- answer such seconds, and so many calls of the links failed before and after
 pub record ServesPolicy {M : Type 0} (g : Ghosts M Event Reply StateData) (told : Endpoint → Option (List Connection))
-    (reliable : Endpoint → Bool) (p : PolicyOf) (held written : Option (List ℕ)) (faults risen : ℕ)
+    (reliable : Endpoint → Bool) (may : ℕ → Type 0) (p : PolicyOf) (held written : Option (List ℕ)) (faults risen : ℕ)
     (served : Served) : Type 0 where
   pub start : StateData
   pub opening : IsOpening p start
-  pub serves : Serves g start told reliable (lines_made g start) (places_of p) held written faults risen served
+  pub serves : Serves g start told reliable may (lines_made g start) (places_of p) held written faults risen served

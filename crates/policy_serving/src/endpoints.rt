@@ -60,12 +60,13 @@ fn add_switches(
     ensures { OnOk result (places.new ≡ places.old
         ++ map (switch_place listen.now rounds (map dpid_of switches.now)) (enumerate_from 0 switches.now)) }
 {
-    for (n, _) in switches.iter().enumerate() {
+    for (n, switch) in switches.iter().enumerate() {
         places.push(Place {
             end: Endpoint::Switch {
                 index: n as u32,
                 listen: listen.copy()?,
                 rounds,
+                dpid: switch.dpid,
             },
             side: Side::Switch {
                 dpids: dpids(alloc, switches)?,

@@ -1,6 +1,7 @@
 //! The machine of the proxy as sessions post to it.
-ghost use Rattle.policy_serving.specs.Proxies.{HasOne};
-ghost use Rattle.policy_serving.specs.Hosting.{goes, hears, opens, stays, takes, ticks};
+ghost use Rattle.policy_serving.specs.Proxies.{HasOne, HasTold};
+ghost use Rattle.policy_serving.specs.Hosting.{earlier, goes, hears, opens, stays, stays_told, takes, tells, ticks};
+ghost use Rattle.policy_serving.specs.Hosting.{told};
 
 use cv_io::Memory;
 use events::{Event, Reply};
@@ -19,6 +20,8 @@ impl Host for Proxy {
 
     ghost knows = { HasOne };
 
+    ghost is_at = { HasTold };
+
     fn post<R: Wait + Threads + Sync>(
         rt: &R,
         lock: &PolicyLock<Hyper>,
@@ -26,6 +29,14 @@ impl Host for Proxy {
         event: Event,
     ) -> Result<Receipt<Reply>, Memory> {
         lock_desk::post(rt, lock, seat, event)
+    }
+
+    fn stirred(lock: &PolicyLock<Hyper>) -> u64 {
+        lock.stirred()
+    }
+
+    fn is_crowded(lock: &PolicyLock<Hyper>) -> bool {
+        lock.is_crowded()
     }
 
     ghost stays_known = { stays };
@@ -37,6 +48,14 @@ impl Host for Proxy {
     ghost goes = { goes };
 
     ghost ticks = { ticks };
+
+    ghost told = { told };
+
+    ghost tells = { tells };
+
+    ghost stays_told = { stays_told };
+
+    ghost earlier = { earlier };
 
     ghost takes = { takes };
 }

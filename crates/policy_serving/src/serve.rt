@@ -1,5 +1,5 @@
 //! Serving a policy.
-ghost use Rattle.std.specs.Prelude.{◌≡◌, ◌<◌, ◌+◌, ◌*◌, ◌^◌, All, IfOk, length, true};
+ghost use Rattle.std.specs.Prelude.{◌≡◌, ◌≢◌, ◌<◌, ◌+◌, ◌*◌, ◌^◌, All, IfOk, length, true};
 ghost use Rattle.outside.specs.Outside.{Rose};
 ghost use Rattle.endpoint_works.specs.Sides.{IsServedSide};
 ghost use Rattle.event_composes.specs.Meanings.{data_in};
@@ -42,12 +42,13 @@ where
     L::Dial: Drop,
     <L::Dial as Dial>::In: Drop + Send,
     <L::Dial as Dial>::Out: Drop + Send,
-    ensures serves { ServesPolicy ⟦<Hyper as Machine>⟧ (L.told links.old) (L.is_reliable links.old) policy
-        (K.held out.old) (K.held out.new) (L.faults links.old) (L.faults links.new) result }
+    ensures serves { ServesPolicy ⟦<Hyper as Machine>⟧ (L.told links.old) (L.is_reliable links.old) (C.may clock.now)
+        policy (K.held out.old) (K.held out.new) (L.faults links.old) (L.faults links.new) result }
     ensures link { result ≡ Served.Link → All (λ place. L.is_reliable links.old place.end ≡ true) (places_of policy)
         → Rose (L.faults links.old) (L.faults links.new) }
     ensures spawn { result ≡ Served.Spawn → Rose (P.faults spawner.old) (P.faults spawner.new) }
     ensures write { result ≡ Served.Write → Rose (K.faults out.old) (K.faults out.new) }
+    ensures quiet { result ≢ Served.Write → K.faults out.new ≡ K.faults out.old }
 {
     audit_is_kept();
     match opened(rt, alloc, policy) {

@@ -51,10 +51,9 @@ every : {X : Type 0} (P Q : X → Type 0) → ((x : X) → P x → Q x) → (xs 
 every P Q f [] p = All-nil Q
 every P Q f (x ∷ xs) p = All-cons Q x xs (f x (All-head P x xs p)) (every P Q f xs (All-tail P x xs p))
 
-module _ {M S D : Type 0} (g : Ghosts M Event Reply S) (start : S) (told : Endpoint
-    → Option (List Connection)) (reliable : Endpoint → Bool)
-    (left : D → Option (List Connection)) (never_fails : D
-    → Bool) (lock : LockOf S) (log : List (Entry Event Reply)) where
+module _ {M S D : Type 0} (g : Ghosts M Event Reply S) (told : Endpoint → Option (List Connection))
+    (reliable : Endpoint → Bool) (may : ℕ → Type 0) (left : D → Option (List Connection)) (never_fails : D → Bool)
+    (lock : LockOf S) (log : List (Entry Event Reply)) where
   abbrev Seated : Type 0
   Seated = SeatOf Event Reply S
 
@@ -62,13 +61,14 @@ module _ {M S D : Type 0} (g : Ghosts M Event Reply S) (start : S) (told : Endpo
   abbrev pub HasAudited : Seated → Type 0
   HasAudited s = All IsAudits (posts_by s.pass.number log)
 
-  module _ (undialled failed wanted : Bool) where
+  module _ (failed wanted : Bool) where
     served-one : (place : Place) (line : Line D) (s w r q : Seated) → IsLineOf told reliable left never_fails place line
         → (own_posts s.pass ≡ []) → HasSeen log w → HasRead g lock left never_fails failed wanted line s w
-        → (own_posts r.pass ≡ []) → HasSeen log q → HasWritten lock r q
-        → IsServed g start told reliable failed wanted place log s.pass.number r.pass.number
+        → (own_posts r.pass ≡ []) → HasSeen log q → HasWritten lock may r q
+        → IsServed g lock.start told reliable may failed wanted place log s.pass.number r.pass.number
     served-one place line s w r q is silent seen h mute met k = record {
       began = s;
+      starts = sym h.later.since.start ∙ h.later.of.1;
       silent = silent;
       ended = w;
       number = sym h.later.since.number;
@@ -96,21 +96,28 @@ module _ {M S D : Type 0} (g : Ghosts M Event Reply S) (start : S) (told : Endpo
       };
     }
 
-    pub served-all : (places : List Place) (lines : List (Line D)) (seats after : List Seated) (s : Seated)
+    pub served-all : (undialled : ℕ) (places : List Place) (lines : List (Line D)) (seats after : List Seated)
+        (s : Seated)
         → AreLinesOf told reliable left never_fails undialled places lines
-        → AreTeams (HasRead g lock left never_fails failed wanted) (HasWritten lock) lines seats after
+        → AreTeams (HasRead g lock left never_fails failed wanted) (HasWritten lock may) lines seats after
         → All (λ (x : Seated). own_posts x.pass ≡ []) seats → All (HasSeen log) after → HasAudited s
-        → AreServed g start told reliable undialled failed wanted places log (numbers (seats ++ s ∷ []))
-    served-all [] lines seats after s are is silent seen audits =
+        → AreServed g lock.start told reliable may undialled failed wanted places log (numbers (seats ++ s ∷ []))
+    served-all undialled [] lines seats after s are is silent seen audits =
         let a =
-        subst (λ (l : List (Line D)). AreTeams (HasRead g lock left never_fails failed wanted) (HasWritten lock) l
-        seats after) are is in
-        record { number = numbered s.pass; is = ap (λ (l : List Seated). numbers (l ++ s ∷ [])) a.0; takings = audits }
-    served-all (place ∷ places) lines seats after s (inl are) is silent seen audits =
-        inl (are.0, served-all places lines seats after s are.1 is silent seen audits)
-    served-all (place ∷ places) lines seats after s (inr one) is silent seen audits =
+        subst (λ (l : List (Line D)). AreTeams (HasRead g lock left never_fails failed wanted) (HasWritten lock may) l
+        seats after) are.1 is in (
+          are.0,
+          record {
+            number = numbered s.pass;
+            is = ap (λ (l : List Seated). numbers (l ++ s ∷ [])) a.0;
+            takings = audits;
+          },
+        )
+    served-all undialled (place ∷ places) lines seats after s (inl are) is silent seen audits =
+        inl (are.0, are.1, served-all are.0 places lines seats after s are.2 is silent seen audits)
+    served-all undialled (place ∷ places) lines seats after s (inr one) is silent seen audits =
         let a =
-        subst (λ (l : List (Line D)). AreTeams (HasRead g lock left never_fails failed wanted) (HasWritten lock) l
+        subst (λ (l : List (Line D)). AreTeams (HasRead g lock left never_fails failed wanted) (HasWritten lock may) l
         seats after) one.are is in
         let Silent : Seated → Type 0 = λ (x : Seated). own_posts x.pass ≡ [] in
         let q = subst (All Silent) a.are_seats silent in
@@ -126,24 +133,24 @@ module _ {M S D : Type 0} (g : Ghosts M Event Reply S) (start : S) (told : Endpo
               (All-head Silent a.first (a.second ∷ a.other_seats) q)
               (All-head (HasSeen log) a.reader (a.writer ∷ a.other_works) m) a.reads
               (All-head Silent a.second a.other_seats q1) (All-head (HasSeen log) a.writer a.other_works m1) a.writes;
-          rest = served-all places one.others a.other_seats a.other_works s one.rest a.rest
+          rest = served-all undialled places one.others a.other_seats a.other_works s one.rest a.rest
               (All-tail Silent a.second a.other_seats q1) (All-tail (HasSeen log) a.writer a.other_works m1) audits;
         })
 
     -- the audit's work posts takings of the audit alone
-    audits-last : (d : Numbered) (places : List Place) (all : List Numbered)
-        → AreServed g start told reliable undialled failed wanted places log all
+    audits-last : (d : Numbered) (undialled : ℕ) (places : List Place) (all : List Numbered)
+        → AreServed g lock.start told reliable may undialled failed wanted places log all
         → All IsAudits (posts_by (last_or d all).0 log)
-    audits-last d [] all is = subst (λ (l : List Numbered). All IsAudits (posts_by (last_or d l).0 log)) (sym is.is)
-        is.takings
-    audits-last d (place ∷ places) all (inl is) = audits-last d places all is.1
-    audits-last d (place ∷ places) all (inr is) =
+    audits-last d undialled [] all is =
+        subst (λ (l : List Numbered). All IsAudits (posts_by (last_or d l).0 log)) (sym is.1.is) is.1.takings
+    audits-last d undialled (place ∷ places) all (inl is) = audits-last d is.0 places all is.2
+    audits-last d undialled (place ∷ places) all (inr is) =
         subst (λ (l : List Numbered). All IsAudits (posts_by (last_or d l).0 log)) (sym is.are)
-        (audits-last is.second places is.others is.rest)
+        (audits-last is.second undialled places is.others is.rest)
 
     -- the works of an endpoint post no such
     first-none : (place : Place) (first second : List ℕ)
-        → IsServed g start told reliable failed wanted place log first second
+        → IsServed g lock.start told reliable may failed wanted place log first second
         → All TakesNone (posts_by first log)
     first-none place first second is =
         let more = adds-rounds (λ (seat : Seated). own_posts seat.pass) (λ (seat : Seated). HasEnded g seat.pass)
@@ -154,10 +161,10 @@ module _ {M S D : Type 0} (g : Ghosts M Event Reply S) (start : S) (told : Endpo
         (sym (ap (map post_of) is.seen.1 ∙ (more.is ∙ ap (λ (l : List Post). l ++ more.more) is.silent))) more.none)
 
     second-none : (place : Place) (first second : List ℕ)
-        → IsServed g start told reliable failed wanted place log first second
+        → IsServed g lock.start told reliable may failed wanted place log first second
         → All TakesNone (posts_by second log)
     second-none place first second is =
-        subst (All TakesNone) (sym is.sent.posted) (senders-none is.cut is.sent.more is.sent.each)
+        subst (All TakesNone) (sym is.sent.posted) (senders-none may is.cut is.sent.more is.sent.each)
 
     -- an entry under one of the numbers is the audit's, or takes no line
     abbrev IsOneOf : List Numbered → List ℕ → Entry Event Reply → Type 0
@@ -166,10 +173,10 @@ module _ {M S D : Type 0} (g : Ghosts M Event Reply S) (start : S) (told : Endpo
     turned : (a b : List ℕ) → same_number a b ≡ true → same_number b a ≡ true
     turned a b e = same-eq b a (sym (same-true a b e))
 
-    others-none : (d : Numbered) (places : List Place) (all : List Numbered)
-        → AreServed g start told reliable undialled failed wanted places log all
+    others-none : (d : Numbered) (undialled : ℕ) (places : List Place) (all : List Numbered)
+        → AreServed g lock.start told reliable may undialled failed wanted places log all
         → All (IsOneOf all (last_or d all).0) log
-    others-none d [] all is =
+    others-none d undialled [] all (none, is) =
         subst (λ (l : List Numbered). All (IsOneOf l (last_or d l).0) log) (sym is.is)
         (every (λ (x : Entry Event Reply). same_number x.by is.number.0 ≡ true → IsAudits (post_of x))
         (IsOneOf (is.number ∷ []) is.number.0)
@@ -179,8 +186,8 @@ module _ {M S D : Type 0} (g : Ghosts M Event Reply S) (start : S) (told : Endpo
         or-none : (b : Bool) → (b || false) ≡ true → b ≡ true
         or-none true e = refl
         or-none false e = e
-    others-none d (place ∷ places) all (inl is) = others-none d places all is.1
-    others-none d (place ∷ places) all (inr is) =
+    others-none d undialled (place ∷ places) all (inl is) = others-none d is.0 places all is.2
+    others-none d undialled (place ∷ places) all (inr is) =
         let n = (last_or is.second is.others).0 in
         subst (λ (l : List Numbered). All (IsOneOf l (last_or d l).0) log) (sym is.are)
         (both (λ (x : Entry Event Reply). same_number x.by is.first.0 ≡ true → TakesNone (post_of x))
@@ -195,7 +202,7 @@ module _ {M S D : Type 0} (g : Ghosts M Event Reply S) (start : S) (told : Endpo
         × IsOneOf is.others n x)
         (λ x p q. (p, q)) log
         (of-number TakesNone is.second.0 log (second-none place is.first.0 is.second.0 is.served))
-        (others-none is.second places is.others is.rest)))
+        (others-none is.second undialled places is.others is.rest)))
       where
         by : (x : Entry Event Reply) → (same_number x.by is.first.0 ≡ true → TakesNone (post_of x))
             → (same_number x.by is.second.0 ≡ true → TakesNone (post_of x))
@@ -211,22 +218,23 @@ module _ {M S D : Type 0} (g : Ghosts M Event Reply S) (start : S) (told : Endpo
             by-second (inl s) = inr (q (turned is.second.0 x.by s))
             by-second (inr s) = r s
 
-    pub audits-alone : (places : List Place) (front : List Numbered) (n : Numbered) (all : List Numbered)
+    pub audits-alone : (undialled : ℕ) (places : List Place) (front : List Numbered) (n : Numbered)
+        (all : List Numbered)
         → all ≡ front ++ n ∷ []
-        → AreServed g start told reliable undialled failed wanted places log all
+        → AreServed g lock.start told reliable may undialled failed wanted places log all
         → All (λ (x : Entry Event Reply). IsTrue (has_number x.by all)) log → All (IsAuditsAlone n.0) log
-    audits-alone places front n all e is under =
+    audits-alone undialled places front n all e is under =
         let last : last_or n all ≡ n = ap (last_or n) e ∙ last-append n front n in
         subst (λ (m : Numbered). All (IsAuditsAlone m.0) log) last
         (both (λ (x : Entry Event Reply). same_number x.by (last_or n all).0 ≡ true → IsAudits (post_of x))
         (λ (x : Entry Event Reply). IsOneOf all (last_or n all).0 x × IsTrue (has_number x.by all))
         (IsAuditsAlone (last_or n all).0)
         (λ x p q. (p, λ isnt. other x isnt (q.0 q.1))) log
-        (of-number IsAudits (last_or n all).0 log (audits-last n places all is))
+        (of-number IsAudits (last_or n all).0 log (audits-last n undialled places all is))
         (both (IsOneOf all (last_or n all).0) (λ (x : Entry Event Reply). IsTrue (has_number x.by all))
         (λ (x : Entry Event Reply). IsOneOf all (last_or n all).0 x × IsTrue (has_number x.by all)) (λ x p q. (p, q))
         log
-        (others-none n places all is) under))
+        (others-none n undialled places all is) under))
       where
         other : (x : Entry Event Reply) → same_number x.by (last_or n all).0 ≡ false
             → (same_number x.by (last_or n all).0 ≡ true) ⊎ TakesNone (post_of x) → TakesNone (post_of x)

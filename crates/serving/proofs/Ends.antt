@@ -1,12 +1,14 @@
 -- How a run ends, once its lock is closed.
-use Rattle.std.proofs.Common.{◌≡◌, ◌+◌, ◌-◌, ◌||◌, ℕ, zero, suc, Bool, true, false, List, [], ◌∷◌, ◌++◌, Option, Result}
+use Rattle.std.specs.List.{IsDistinct}
+use Rattle.std.proofs.Common.{◌≡◌, nat_lt, ◌+◌, ◌-◌, ◌||◌, ℕ, zero, suc, Bool, true, false, List, [], ◌∷◌, ◌++◌, Option}
+use Rattle.std.proofs.Common.{Result}
 use Rattle.std.proofs.Common.{Ok, Err, All, IsTrue, map, take, length, refl, sym, ap, ◌∙◌, subst, append_assoc, inl}
 use Rattle.std.proofs.Common.{inr, arith}
 use Rattle.std.proofs.Math.Seq.{take-append-add}
 use Rattle.std.proofs.lemmas.List.{append-nil, length-append, map-append, take_all}
 use Rattle.std.proofs.lemmas.List.Elements.{All-append, All-cons, All-head, All-nil, All-tail}
 use Rattle.outside.specs.Connections.{Connection}
-use Rattle.outside.specs.Outside.{Rose}
+use Rattle.outside.specs.Outside.{Rose, RoseBy}
 use Rattle.outside.specs.declared.links.Endpoint.{Endpoint}
 use Rattle.cv_io.specs.declared.memory.Memory.{Memory}
 use Rattle.endpoint_works.specs.declared.audit.AuditEnd.{AuditEnd}
@@ -14,8 +16,8 @@ use Rattle.events.specs.declared.event.Event.{Event}
 use Rattle.events.specs.declared.event.Event.TheVariants.{Take}
 use Rattle.events.specs.declared.event.Reply.{Reply}
 use Rattle.policy_lock.specs.Close.{HasSeen, IsClosed}
-use Rattle.policy_lock.specs.History.{IsLegal, after}
-use Rattle.policy_lock.specs.Number.{has_number, numbered, numbers}
+use Rattle.policy_lock.specs.History.{IsLegal, after, same_number}
+use Rattle.policy_lock.specs.Number.{Numbered, has_number, numbered, numbers}
 use Rattle.policy_lock.specs.Opening.{children_of_first, new_seat, opening_seats}
 use Rattle.policy_lock.specs.Seat.{LockOf, SeatOf}
 use Rattle.policy_lock.specs.declared.machine.Machine.{Ghosts}
@@ -77,6 +79,9 @@ neither false false e = (refl, refl)
 neither false true e = absurd (cc)
 neither true f e = absurd (cc)
 
+none-above : (n : ℕ) → nat_lt 0 n ≡ false → n ≡ 0
+none-above n e = grind arith
+
 -- so many seats
 children-count : {S : Type 0} (lock : LockOf S) (k : ℕ) → length (children_of_first {E = Event} {R = Reply} lock k) ≡ k
 children-count lock zero = refl
@@ -88,9 +93,25 @@ pub opening-count : {S : Type 0} (lock : LockOf S) (k : ℕ)
     → length (opening_seats {E = Event} {R = Reply} lock (k + 1)) ≡ k + 1
 opening-count lock k = let n = children-count lock k in grind arith
 
+-- at the same lock, with the same clock
+pub worked-at : {M S D C : Type 0} (g : Ghosts M Event Reply S) (left : D → Option (List Connection))
+    (never_fails : D → Bool) (may : C → ℕ → Type 0) {lock same : LockOf S} {clock copy : C} {failed wanted : Bool}
+    {line_list : List (Line D)} {old new : List (SeatOf Event Reply S)} {held mid : Option (List ℕ)}
+    {faults risen : ℕ} {end : Result AuditEnd Memory} → same ≡ lock → copy ≡ clock
+    → HaveWorked g same left never_fails (may copy) failed wanted line_list old new held mid faults risen end
+    → HaveWorked g lock left never_fails (may clock) failed wanted line_list old new held mid faults risen end
+worked-at {M} {S} {D} {C} g left never_fails may {lock} {same} {clock} {copy} {failed} {wanted} {line_list} {old} {new}
+    {held} {mid}
+    {faults} {risen} {end} l k w =
+    subst (λ (x : LockOf S).
+    HaveWorked g x left never_fails (may clock) failed wanted line_list old new held mid faults risen end) l
+    (subst (λ x. HaveWorked g same left never_fails (may x) failed wanted line_list old new held mid faults risen end) k
+    w)
+
 module _ {M S D : Type 0} (g : Ghosts M Event Reply S) (lock : LockOf S) (told : Endpoint → Option (List Connection))
-    (reliable : Endpoint → Bool) (left : D → Option (List Connection)) (never_fails : D → Bool) (failed wanted : Bool)
-    (line_list : List (Line D)) (old new : List (SeatOf Event Reply S)) (held mid : Option (List ℕ)) where
+    (reliable : Endpoint → Bool) (may : ℕ → Type 0) (left : D → Option (List Connection)) (never_fails : D → Bool)
+    (failed wanted : Bool) (line_list : List (Line D)) (old new : List (SeatOf Event Reply S))
+    (held mid : Option (List ℕ)) where
   abbrev Seated : Type 0
   Seated = SeatOf Event Reply S
 
@@ -100,13 +121,13 @@ module _ {M S D : Type 0} (g : Ghosts M Event Reply S) (lock : LockOf S) (told :
   legal-both s (x ∷ xs) ys h k = (h.0, h.1, legal-both (g.next s x.event) xs ys h.2 k)
 
   module _ {faults risen : ℕ} {end : Result AuditEnd Memory}
-      (w : HaveWorked g lock left never_fails failed wanted line_list old new held mid faults risen end) where
+      (w : HaveWorked g lock left never_fails may failed wanted line_list old new held mid faults risen end) where
     -- the seats are of the lock
     pub seats-of : All (λ (seat : Seated). seat.lock ≡ lock.id) new
     seats-of =
         subst (All (λ (seat : Seated). seat.lock ≡ lock.id)) (sym w.are)
         (All-append (λ (seat : Seated). seat.lock ≡ lock.id) w.front_new (w.last_new ∷ [])
-        (teams-all (HasRead g lock left never_fails failed wanted) (HasWritten lock)
+        (teams-all (HasRead g lock left never_fails failed wanted) (HasWritten lock may)
         (λ (seat : Seated). seat.lock ≡ lock.id)
         (λ line s t h. h.later.of.0) (λ s t h. h.later.of.0) line_list w.front w.front_new w.teams)
         (All-cons (λ (seat : Seated). seat.lock ≡ lock.id) w.last_new [] w.later.of.0
@@ -121,7 +142,7 @@ module _ {M S D : Type 0} (g : Ghosts M Event Reply S) (lock : LockOf S) (told :
         ap numbers w.are
         ∙ (map-append (λ (seat : Seated). numbered seat.pass) w.front_new (w.last_new ∷ [])
         ∙ (ap (λ l. l ++ numbered w.last_new.pass ∷ [])
-        (teams-same (HasRead g lock left never_fails failed wanted) (HasWritten lock)
+        (teams-same (HasRead g lock left never_fails failed wanted) (HasWritten lock may)
         (λ (seat : Seated). numbered seat.pass)
         (λ (seat : Seated). numbered seat.pass)
         (λ line s t h. same-number s t h.later) (λ s t h. same-number s t h.later) line_list w.front w.front_new
@@ -130,11 +151,12 @@ module _ {M S D : Type 0} (g : Ghosts M Event Reply S) (lock : LockOf S) (told :
         ∙ (sym (map-append (λ (seat : Seated). numbered seat.pass) w.front (w.last ∷ [])) ∙ ap numbers (sym w.were)))))
 
     -- a dial failed only where one is not known never to
-    pub link-fails : (undialled lost : Bool) (rest : Rest)
-        → settled rest (undialled || failed) (wanted || lost) ≡ serveds.Link → undialled ≡ false
+    pub link-fails : (undialled : ℕ) (lost : Bool) (rest : Rest)
+        → settled rest (nat_lt 0 undialled || failed) (wanted || lost) ≡ serveds.Link → undialled ≡ 0
         → All (λ (line : Line D). never_fails line.dial ≡ true) line_list → ⊥
     link-fails undialled lost rest is none well =
-        by rest (undialled || failed) (wanted || lost) is (ap (λ (x : Bool). x || failed) none ∙ w.dials well)
+        by rest (nat_lt 0 undialled || failed) (wanted || lost) is
+        (ap (λ (n : ℕ). nat_lt 0 n || failed) none ∙ w.dials well)
       where
         by : (r : Rest) (x y : Bool) → settled r x y ≡ serveds.Link → x ≡ false → ⊥
         by rests.WriteFault x y e f = absurd (cc)
@@ -143,11 +165,11 @@ module _ {M S D : Type 0} (g : Ghosts M Event Reply S) (lock : LockOf S) (told :
         by rests.Written false true e f = absurd (cc)
         by rests.Written false false e f = absurd (cc)
 
-    -- links of which so many calls failed before and after, one where an endpoint could not be dialled
-    module _ (misses missed : ℕ) (undialled : Bool) (undials : undialled ≡ true
-        → Rose misses missed) (places : List Place)
+    -- links of which so many calls failed before and after, one for each endpoint that could not be dialled
+    module _ (misses missed : ℕ) (undialled : ℕ) (undials : RoseBy undialled misses missed) (places : List Place)
         (are : AreLinesOf told reliable left never_fails undialled places line_list)
-        (silent : All IsSilent old) (m : M) (c : IsClosed g lock.start new m) where
+        (silent : All IsSilent old) (once : IsDistinct same_number (map (λ (n : Numbered). n.0) (numbers old))) (m : M)
+        (c : IsClosed g lock.start new m) where
       mute : All IsSilent (w.front ++ w.last ∷ [])
       mute = subst (All IsSilent) w.were silent
 
@@ -183,21 +205,22 @@ module _ {M S D : Type 0} (g : Ghosts M Event Reply S) (lock : LockOf S) (told :
             All-cons P y front (All-head P y (front ++ x ∷ []) all)
             (fronts P front x (All-tail P y (front ++ x ∷ []) all))
 
-        served : AreServed g lock.start told reliable undialled failed wanted places c.log (numbers old)
+        served : AreServed g lock.start told reliable may undialled failed wanted places c.log (numbers old)
         served =
-            subst (λ (l : List Seated). AreServed g lock.start told reliable undialled failed wanted places c.log
+            subst (λ (l : List Seated). AreServed g lock.start told reliable may undialled failed wanted places c.log
             (numbers l)) (sym w.were)
-            (served-all g lock.start told reliable left never_fails lock c.log undialled failed wanted places line_list
+            (served-all g told reliable may left never_fails lock c.log failed wanted undialled places line_list
             w.front w.front_new w.last are w.teams (fronts IsSilent w.front w.last mute)
             (fronts (HasSeen c.log) w.front_new w.last_new seen) (subst (All IsAudits) (sym calls) each))
 
         pub run-with : (rest : List (Entry Event Reply)) → All TakesLine rest
             → IsLegal g (after g lock.start c.log) rest
-            → IsRun g lock.start told reliable undialled failed wanted places c.log rest
+            → IsRun g lock.start told reliable may undialled failed wanted places c.log rest
         run-with rest takings legal = record {
           legal = legal-both lock.start c.log rest c.legal legal;
           takings = takings;
           numbers = numbers old;
+          once = once;
           under = subst (λ n. All (λ (x : Entry Event Reply). IsTrue (has_number x.by n)) c.log) numbers-same c.under;
           works = served;
         }
@@ -206,7 +229,7 @@ module _ {M S D : Type 0} (g : Ghosts M Event Reply S) (lock : LockOf S) (told :
         lines-by-audit : lines_taken c.log ≡ taken_in more
         lines-by-audit =
             taken-by w.last.pass.number c.log
-            (audits-alone g lock.start told reliable left never_fails lock c.log undialled failed wanted places
+            (audits-alone g told reliable may left never_fails lock c.log failed wanted undialled places
             (numbers w.front) (numbered w.last.pass) (numbers old)
             (ap numbers w.were ∙ map-append (λ (seat : Seated). numbered seat.pass) w.front (w.last ∷ [])) served
             (subst (λ n. All (λ (x : Entry Event Reply). IsTrue (has_number x.by n)) c.log) numbers-same c.under))
@@ -222,7 +245,7 @@ module _ {M S D : Type 0} (g : Ghosts M Event Reply S) (lock : LockOf S) (told :
         module _ (wrote : Appends held mid (lines (taken_in more))) (written : Option (List ℕ)) where
           -- all that waited was written too
           pub writes-all : (t : S) → WroteRest g (g.meaning m) t mid written → g.idle t (Take audit) ≡ true
-              → WritesAll g lock.start told reliable lines_taken places held written misses missed undialled failed
+              → WritesAll g lock.start told reliable may lines_taken places held written misses missed undialled failed
               wanted
           writes-all t r idle = record {
             log = c.log;
@@ -239,7 +262,7 @@ module _ {M S D : Type 0} (g : Ghosts M Event Reply S) (lock : LockOf S) (told :
 
           -- some of it was
           pub writes-some : (s t : S) → s ≡ g.meaning m → WroteRestUpTo g s t mid written
-              → WritesSome g lock.start told reliable lines_taken places held written misses missed
+              → WritesSome g lock.start told reliable may lines_taken places held written misses missed
           writes-some s t is r = record {
             undialled = undialled;
             failed = failed;
@@ -259,7 +282,7 @@ module _ {M S D : Type 0} (g : Ghosts M Event Reply S) (lock : LockOf S) (told :
 
         -- the end of what was taken is cut off
         pub writes-cut : (count : ℕ) → Appends held mid (take count (lines (taken_in more)))
-            → WritesSome g lock.start told reliable lines_taken places held mid misses missed
+            → WritesSome g lock.start told reliable may lines_taken places held mid misses missed
         writes-cut count wrote = record {
           undialled = undialled;
           failed = failed;
@@ -275,12 +298,12 @@ module _ {M S D : Type 0} (g : Ghosts M Event Reply S) (lock : LockOf S) (told :
 
       -- a run whose audit could not be written
       pub serves-cut : is_cut_off end ≡ true
-          → Serves g lock.start told reliable lines_taken places held mid misses missed serveds.Write
+          → Serves g lock.start told reliable may lines_taken places held mid misses missed serveds.Write
       serves-cut cut = by end cut w.audit
         where
           by : (e : Result AuditEnd Memory) → is_cut_off e ≡ true
               → HasWrittenAudit (own_posts w.last.pass) held mid faults risen (own_posts w.last_new.pass) e
-              → WritesSome g lock.start told reliable lines_taken places held mid misses missed
+              → WritesSome g lock.start told reliable may lines_taken places held mid misses missed
           by (Ok ends.WriteFault) is h = writes-cut h.0.more h.0.each h.0.posted h.0.count h.0.wrote
           by (Ok ends.Ended) is h = absurd (cc)
           by (Err m) is h = absurd (cc)
@@ -297,8 +320,9 @@ module _ {M S D : Type 0} (g : Ghosts M Event Reply S) (lock : LockOf S) (told :
           by (Err m) is h = h.0
 
       some-of : (written : Option (List ℕ))
-          → WritesAll g lock.start told reliable lines_taken places held written misses missed undialled failed wanted
-          → WritesSome g lock.start told reliable lines_taken places held written misses missed
+          → WritesAll g lock.start told reliable may lines_taken places held written misses missed undialled failed
+          wanted
+          → WritesSome g lock.start told reliable may lines_taken places held written misses missed
       some-of written a = record {
         undialled = undialled;
         failed = failed;
@@ -317,8 +341,8 @@ module _ {M S D : Type 0} (g : Ghosts M Event Reply S) (lock : LockOf S) (told :
       pub serves-rest : is_cut_off end ≡ false
           → (lost : Bool) (t : S) (written : Option (List ℕ)) (before after : ℕ) (rest : Rest)
           → EndsRest g (g.meaning m) t mid written before after rest
-          → Serves g lock.start told reliable lines_taken places held written misses missed
-          (settled rest (undialled || failed) (wanted || lost))
+          → Serves g lock.start told reliable may lines_taken places held written misses missed
+          (settled rest (nat_lt 0 undialled || failed) (wanted || lost))
       serves-rest whole lost t written before after rests.WriteFault h =
           let a = audited whole in writes-some a.more a.each a.posted a.wrote written (g.meaning m) t refl h.0
       serves-rest whole lost t written before after rests.Memory h =
@@ -327,23 +351,25 @@ module _ {M S D : Type 0} (g : Ghosts M Event Reply S) (lock : LockOf S) (told :
           (up-to-here g (g.meaning m) t mid written h))
       serves-rest whole lost t written before after rests.Written h =
           let a = audited whole in
-          by (undialled || failed) (wanted || lost) refl refl
+          by (nat_lt 0 undialled || failed) (wanted || lost) refl refl
           (writes-all a.more a.each a.posted a.wrote written t h.0 h.1)
         where
-          by : (x y : Bool) → (undialled || failed) ≡ x → (wanted || lost) ≡ y
-              → WritesAll g lock.start told reliable lines_taken places held written misses missed undialled failed
+          by : (x y : Bool) → (nat_lt 0 undialled || failed) ≡ x → (wanted || lost) ≡ y
+              → WritesAll g lock.start told reliable may lines_taken places held written misses missed undialled failed
               wanted
-              → Serves g lock.start told reliable lines_taken places held written misses missed
+              → Serves g lock.start told reliable may lines_taken places held written misses missed
               (settled rests.Written x y)
           by true y e d a = (undialled, (failed, (wanted, a)))
           by false true e d a = inr (some-of written a)
           by false false e d a =
-              let u = neither undialled failed e in let v = neither wanted lost d in
-              subst (λ (x : Bool). WritesAll g lock.start told reliable lines_taken places held written misses missed x
-              false false) u.0
-              (subst (λ (x : Bool). WritesAll g lock.start told reliable lines_taken places held written misses missed
+              let u = neither (nat_lt 0 undialled) failed e in let v = neither wanted lost d in
+              subst (λ (n : ℕ). WritesAll g lock.start told reliable may lines_taken places held written misses missed n
+              false false) (none-above undialled u.0)
+              (subst (λ (x : Bool). WritesAll g lock.start told reliable may lines_taken places held written misses
+              missed
               undialled x false) u.1
-              (subst (λ (x : Bool). WritesAll g lock.start told reliable lines_taken places held written misses missed
+              (subst (λ (x : Bool). WritesAll g lock.start told reliable may lines_taken places held written misses
+              missed
               undialled failed x) v.0 a))
 
 -- no run ends so for want of works
@@ -363,6 +389,12 @@ write-rises g s t mid written before after rests.Written true y h e = absurd (cc
 write-rises g s t mid written before after rests.Written false true h e = absurd (cc)
 write-rises g s t mid written before after rests.Written false false h e = absurd (cc)
 
+-- a run that doesn't end so wrote all that it took
+pub rest-quiet : (rest : Rest) (x y : Bool) → (settled rest x y ≡ serveds.Write → ⊥) → rest ≡ rests.WriteFault → ⊥
+rest-quiet rests.WriteFault x y not is = not refl
+rest-quiet rests.Memory x y not is = absurd (cc)
+rest-quiet rests.Written x y not is = absurd (cc)
+
 -- an audit that is cut off met a sink that failed
 pub cut-rises : (end : Result AuditEnd Memory) (posts now : List Post) (held mid : Option (List ℕ)) (before after : ℕ)
     → is_cut_off end ≡ true
@@ -380,6 +412,7 @@ whole-quiet (Ok ends.Ended) posts now held mid before after is h = h.1
 whole-quiet (Err m) posts now held mid before after is h = h.1
 
 -- why a dial failed
-pub link-cause : (failed : Bool) {P : Type 0} → (failed ≡ true → P) → (failed ≡ false → ⊥) → P
-link-cause true f none = f refl
-link-cause false f none = absurd (none refl)
+pub link-cause : (undialled before after : ℕ) → RoseBy undialled before after → (undialled ≡ 0 → ⊥)
+    → Rose before after
+link-cause zero before after rose none = absurd (none refl)
+link-cause (suc n) before after rose none = rose.0

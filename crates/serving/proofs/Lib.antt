@@ -6,5 +6,7 @@ mod Audits
 mod Endings
 mod Ends
 mod Seats
+mod Numbers
 mod Crossing
 mod Worked
+mod Taken

@@ -118,17 +118,18 @@ module _ {P : Type 0} (posts : P → List Post) (ended : P → Session → ℕ �
       adds-both (posts v) (posts u) (posts w) (adds-given links h.0 v u h.1) (adds-rounds h.0 left u w us h.2)
 
 -- nor does one that writes to them
-pub senders-none : (cut : Bool) (posts : List Post) → All (IsSenders cut) posts → All TakesNone posts
-senders-none cut [] h = All-nil TakesNone
-senders-none cut (post ∷ posts) h =
-    All-cons TakesNone post posts (by (All-head (IsSenders cut) post posts h))
-    (senders-none cut posts (All-tail (IsSenders cut) post posts h))
+pub senders-none : (may : ℕ → Type 0) (cut : Bool) (posts : List Post) → All (IsSenders may cut) posts
+    → All TakesNone posts
+senders-none may cut [] h = All-nil TakesNone
+senders-none may cut (post ∷ posts) h =
+    All-cons TakesNone post posts (by (All-head (IsSenders may cut) post posts h))
+    (senders-none may cut posts (All-tail (IsSenders may cut) post posts h))
   where
     other : (b : Bool) (line : List ℕ) → b ≡ false → (if b then line ∷ [] else []) ≡ []
     other false line e = refl
     other true line e = absurd (cc)
 
-    by : IsSenders cut post → TakesNone post
+    by : IsSenders may cut post → TakesNone post
     by (inl t) = ap (λ (p : Post). line_of p.event p.reply) t.2.1 ∙ other (is_audit t.0.who) t.2.0 t.1
-    by (inr (inl s)) = ap (λ (p : Post). line_of p.event p.reply) s.1
+    by (inr (inl s)) = ap (λ (p : Post). line_of p.event p.reply) s.2
     by (inr (inr g)) = ap (λ (p : Post). line_of p.event p.reply) g.1.2

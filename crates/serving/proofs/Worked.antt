@@ -1,5 +1,5 @@
 -- What the works of endpoints came to, by their seats.
-use Rattle.std.proofs.Common.{◌≡◌, Bool, true, false, List, Option, All, map, refl, sym, ap, ◌∙◌, subst, Some}
+use Rattle.std.proofs.Common.{◌≡◌, ℕ, Bool, true, false, List, Option, All, map, refl, sym, ap, ◌∙◌, subst, Some}
 use Rattle.std.specs.List.{list_any}
 use Rattle.outside.specs.Connections.{Connection}
 use Rattle.outside.specs.Works.{AllChanged}
@@ -30,9 +30,9 @@ abbrev JobOf : (R H M S D C I O : Type 0) → Type 0
 JobOf R H M S D C I O = Task R (LockDesk R H M S) (Dialled D) C (SeatOf Event Reply S) I O
 
 module _ {R H M S D C I O : Type 0} (g : Ghosts M Event Reply S) (lock : LockOf S) (left : D → Option (List Connection))
-    (never_fails : D → Bool) (IsShared : Type 0) (failed wanted : Bool) where
+    (never_fails : D → Bool) (may : C → ℕ → Type 0) (clock : C) (IsShared : Type 0) (failed wanted : Bool) where
   reads-one : (line : Line D) (s : SeatOf Event Reply S) (t u : JobOf R H M S D C I O) → IsReaderFor lock line s t
-      → (Does g left never_fails IsShared t u × Flags failed wanted u)
+      → (Does g left never_fails may IsShared t u × Flags failed wanted u)
       → HasRead g lock left never_fails failed wanted line s (pass_of u)
   reads-one line s (works.Reader r) (works.Reader u) h k = record {
     later = record {
@@ -60,16 +60,18 @@ module _ {R H M S D C I O : Type 0} (g : Ghosts M Event Reply S) (lock : LockOf 
   reads-one line s (works.Reader r) (works.Writer u) h k = absurd k.0
   reads-one line s (works.Writer r) u h k = absurd h
 
-  writes-one : (s : SeatOf Event Reply S) (t u : JobOf R H M S D C I O) → IsWriterFor lock s t
-      → (Does g left never_fails IsShared t u × Flags failed wanted u) → HasWritten lock s (pass_of u)
+  writes-one : (s : SeatOf Event Reply S) (t u : JobOf R H M S D C I O) → IsWriterFor lock clock s t
+      → (Does g left never_fails may IsShared t u × Flags failed wanted u) → HasWritten lock (may clock) s (pass_of u)
   writes-one s (works.Writer r) (works.Writer u) h k = record {
     later = record {
       of = seat-of r.desk.lock.now lock u.pass u.pass (sym h.1) refl k.0.0.1;
       since = since-seat s r.pass u.pass h.0 k.0.1;
     };
     cut = k.0.2.0.cut;
-    sent = subst (λ (x : SeatOf Event Reply S). HasSent k.0.2.0.cut (own_posts x.pass) (own_posts u.pass.pass)) h.0
-        k.0.2.2;
+    sent =
+        subst (λ (x : C). HasSent (may x) k.0.2.0.cut (own_posts s.pass) (own_posts u.pass.pass)) h.3
+        (subst (λ (x : SeatOf Event Reply S).
+        HasSent (may r.clock) k.0.2.0.cut (own_posts x.pass) (own_posts u.pass.pass)) h.0 k.0.2.2);
   }
   writes-one s (works.Writer r) (works.Reader u) h k = absurd k.0
   writes-one s (works.Reader r) u h k = absurd h
@@ -77,32 +79,34 @@ module _ {R H M S D C I O : Type 0} (g : Ghosts M Event Reply S) (lock : LockOf 
   -- a dial that never fails hasn't
   reads-well : (line : Line D) (s : SeatOf Event Reply S) (t u : JobOf R H M S D C I O)
       → (never_fails line.dial ≡ true) × IsReaderFor lock line s t
-      → Does g left never_fails IsShared t u → failed_of u ≡ false
+      → Does g left never_fails may IsShared t u → failed_of u ≡ false
   reads-well line s (works.Reader r) (works.Reader u) h k =
       ap has_failed k.2.1 ∙ k.2.2.dials (ap never_fails h.1.4 ∙ h.0)
   reads-well line s (works.Reader r) (works.Writer u) h k = absurd k
   reads-well line s (works.Writer r) u h k = absurd h.1
 
-  writes-well : (s : SeatOf Event Reply S) (t u : JobOf R H M S D C I O) → IsWriterFor lock s t
-      → Does g left never_fails IsShared t u → failed_of u ≡ false
+  writes-well : (s : SeatOf Event Reply S) (t u : JobOf R H M S D C I O) → IsWriterFor lock clock s t
+      → Does g left never_fails may IsShared t u → failed_of u ≡ false
   writes-well s (works.Writer r) (works.Writer u) h k = refl
   writes-well s (works.Writer r) (works.Reader u) h k = absurd k
   writes-well s (works.Reader r) u h k = absurd h
 
   module _ (lines : List (Line D)) (seats : List (SeatOf Event Reply S)) (begun now : List (JobOf R H M S D C I O))
-      (teams : AreTeams (IsReaderFor lock) (IsWriterFor lock) lines seats begun)
-      (done : AllChanged (Does g left never_fails IsShared) begun now) where
+      (teams : AreTeams (IsReaderFor lock) (IsWriterFor lock clock) lines seats begun)
+      (done : AllChanged (Does g left never_fails may IsShared) begun now) where
     pub worked-teams : list_any failed_of now ≡ failed → list_any wanted_of now ≡ wanted
-        → AreTeams (HasRead g lock left never_fails failed wanted) (HasWritten lock) lines seats (map pass_of now)
+        → AreTeams (HasRead g lock left never_fails failed wanted) (HasWritten lock (may clock)) lines seats
+        (map pass_of now)
     worked-teams f w =
         teams-map (λ line s u. HasRead g lock left never_fails failed wanted line s (pass_of u))
-        (λ s u. HasWritten lock s (pass_of u)) pass_of
-        (HasRead g lock left never_fails failed wanted) (HasWritten lock) (λ line s u h. h) (λ s u h. h) lines seats now
-        (teams-changed (IsReaderFor lock) (IsWriterFor lock)
+        (λ s u. HasWritten lock (may clock) s (pass_of u)) pass_of
+        (HasRead g lock left never_fails failed wanted) (HasWritten lock (may clock)) (λ line s u h. h) (λ s u h. h)
+        lines seats now
+        (teams-changed (IsReaderFor lock) (IsWriterFor lock clock)
         (λ line s u. HasRead g lock left never_fails failed wanted line s (pass_of u))
-        (λ s u. HasWritten lock s (pass_of u))
-        (λ t u. Does g left never_fails IsShared t u × Flags failed wanted u) lines seats begun now teams
-        (changed-and (Does g left never_fails IsShared) (Flags failed wanted) begun now done
+        (λ s u. HasWritten lock (may clock) s (pass_of u))
+        (λ t u. Does g left never_fails may IsShared t u × Flags failed wanted u) lines seats begun now teams
+        (changed-and (Does g left never_fails may IsShared) (Flags failed wanted) begun now done
         (λ k d lt. (any-known failed_of failed now f k d lt, any-known wanted_of wanted now w k d lt))) reads-one
         writes-one)
 
@@ -115,8 +119,10 @@ module _ {R H M S D C I O : Type 0} (g : Ghosts M Event Reply S) (lock : LockOf 
         (λ (u : JobOf R H M S D C I O). failed_of u ≡ false) (λ line s u h. h) (λ s u h. h)
         lines seats now
         (teams-changed (λ line s t. (never_fails line.dial ≡ true) × IsReaderFor lock line s t)
-        (λ s t. IsWriterFor lock s t)
-        (λ line s u. failed_of u ≡ false) (λ s u. failed_of u ≡ false) (Does g left never_fails IsShared) lines seats
+        (λ s t. IsWriterFor lock clock s t)
+        (λ line s u. failed_of u ≡ false) (λ s u. failed_of u ≡ false) (Does g left never_fails may IsShared) lines
+        seats
         begun now
-        (teams-lines (IsReaderFor lock) (IsWriterFor lock) (λ (line : Line D). never_fails line.dial ≡ true) lines seats
+        (teams-lines (IsReaderFor lock) (IsWriterFor lock clock) (λ (line : Line D). never_fails line.dial ≡ true) lines
+        seats
         begun teams well) done reads-well writes-well))

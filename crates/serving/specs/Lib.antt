@@ -5,3 +5,4 @@ pub mod Working
 pub mod Endings
 pub mod Attending
 pub mod Runs
+pub mod Laws

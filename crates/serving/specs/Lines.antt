@@ -1,5 +1,5 @@
 -- The endpoints that have a dial.
-use Rattle.std.specs.Prelude.{◌≡◌, ◌⊎◌, Bool, true, List, [], ◌∷◌, Option}
+use Rattle.std.specs.Prelude.{◌≡◌, ◌⊎◌, ℕ, suc, Bool, true, List, [], ◌∷◌, Option}
 use Rattle.outside.specs.Connections.{Connection}
 use Rattle.outside.specs.declared.links.Endpoint.{Endpoint}
 use Rattle.serving.specs.declared.dialling.Line.{Line}
@@ -22,8 +22,9 @@ module _ {D : Type 0} (told : Endpoint → Option (List Connection)) (reliable :
     pub is : IsLineOf place line
     pub rest : Rest others
 
-  -- the endpoints of the places have these dials, in their order, but for some that could not be dialled
-  abbrev pub AreLinesOf : (failed : Bool) → List Place → List (Line D) → Type 0
-  AreLinesOf failed [] lines = lines ≡ []
-  AreLinesOf failed (place ∷ places) lines =
-      ((failed ≡ true) × AreLinesOf failed places lines) ⊎ IsDialled place (AreLinesOf failed places) lines
+  -- the endpoints of the places have these dials, in their order, but for so many that could not be dialled
+  abbrev pub AreLinesOf : (undialled : ℕ) → List Place → List (Line D) → Type 0
+  AreLinesOf undialled [] lines = (undialled ≡ 0) × (lines ≡ [])
+  AreLinesOf undialled (place ∷ places) lines =
+      ((others : ℕ) × (undialled ≡ suc others) × AreLinesOf others places lines)
+      ⊎ IsDialled place (AreLinesOf undialled places) lines

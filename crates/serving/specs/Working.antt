@@ -27,15 +27,15 @@ module _ {S : Type 0} (lock : LockOf S) where
     pub since : IsSince old new
 
   -- the work that wrote to the connections of an endpoint had the seat `old`, which is `new` then
-  pub record HasWritten (old new : SeatOf Event Reply S) : Type 0 where
+  pub record HasWritten (may : ℕ → Type 0) (old new : SeatOf Event Reply S) : Type 0 where
     pub later : IsLaterSeat old new
     pub cut : Bool
-    pub sent : HasSent cut (own_posts old.pass) (own_posts new.pass)
+    pub sent : HasSent may cut (own_posts old.pass) (own_posts new.pass)
 
 -- what a work of an endpoint does, from how it was; of a runtime that threads may share
 module _ {R H M S D C I O : Type 0} (g : Ghosts M Event Reply S) (left : D → Option (List Connection)) (never_fails : D
     → Bool)
-    (IsShared : Type 0) where
+    (may : C → ℕ → Type 0) (IsShared : Type 0) where
   abbrev pub Does : (old new : Task R (LockDesk R H M S) (Dialled D) C (SeatOf Event Reply S) I O) → Type 0
   Does (works.Reader old) (works.Reader new) =
       (IsShared × IsSeatOf old.desk.lock.now new.pass × IsSince old.desk.since.value new.pass)
@@ -48,7 +48,8 @@ module _ {R H M S D C I O : Type 0} (g : Ghosts M Event Reply S) (left : D → O
   Does (works.Writer old) (works.Writer new) =
       (IsShared × IsSeatOf old.desk.lock.now new.pass × IsSince old.desk.since.value new.pass)
       × IsSince old.pass new.pass
-      × ((end : Sent) × (new.end ≡ Some end) × HasSent end.cut (own_posts old.pass.pass) (own_posts new.pass.pass))
+      × ((end : Sent) × (new.end ≡ Some end) × HasSent (may old.clock) end.cut
+      (own_posts old.pass.pass) (own_posts new.pass.pass))
 
 module _ {M S D : Type 0} (g : Ghosts M Event Reply S) (lock : LockOf S) (left : D
     → Option (List Connection)) (never_fails : D → Bool) where
@@ -64,16 +65,18 @@ module _ {M S D : Type 0} (g : Ghosts M Event Reply S) (lock : LockOf S) (left :
         (λ (seat : SeatOf Event Reply S). HasEnded g seat.pass) IsSince
         line.side (never_fails line.dial) (left line.dial) rest old new end
 
-  -- all works have ended, whose seats were `old` and are `new`; the last is that of the audit
-  pub record HaveWorked (failed wanted : Bool) (lines : List (Line D)) (old new : List (SeatOf Event Reply S))
-      (held written : Option (List ℕ)) (faults risen : ℕ) (end : Result AuditEnd Memory) : Type 0 where
+  -- all works have ended, whose seats were `old` and are `new`; the last is that of the audit. Their clocks may answer
+  -- such seconds
+  pub record HaveWorked (may : ℕ → Type 0) (failed wanted : Bool) (lines : List (Line D))
+      (old new : List (SeatOf Event Reply S)) (held written : Option (List ℕ)) (faults risen : ℕ)
+      (end : Result AuditEnd Memory) : Type 0 where
     pub front : List (SeatOf Event Reply S)
     pub last : SeatOf Event Reply S
     pub were : old ≡ front ++ last ∷ []
     pub front_new : List (SeatOf Event Reply S)
     pub last_new : SeatOf Event Reply S
     pub are : new ≡ front_new ++ last_new ∷ []
-    pub teams : AreTeams (HasRead failed wanted) (HasWritten lock) lines front front_new
+    pub teams : AreTeams (HasRead failed wanted) (HasWritten lock may) lines front front_new
     -- no dial failed, where each is one that never does
     pub dials : All (λ (line : Line D). never_fails line.dial ≡ true) lines → failed ≡ false
     pub later : IsLaterSeat lock last last_new

@@ -57,7 +57,8 @@ abbrev pub wanted_of : {R D A C P I O : Type 0} → Task R D A C P I O → Bool
 wanted_of (works.Reader r) = has_wanted r.end
 wanted_of (works.Writer w) = wanted_to_send w.end
 
--- the works of an endpoint that has this line, as they begin: with a seat each, at the desk over a lock
+-- the works of an endpoint that has this line, as they begin: with a seat each, at the desk over a lock, and a copy of
+-- the clock
 module _ {R H M S D C I O : Type 0} (lock : LockOf S) where
   abbrev pub IsReaderFor : Line D → SeatOf Event Reply S
       → Task R (LockDesk R H M S) (Dialled D) C (SeatOf Event Reply S) I O → Type 0
@@ -66,7 +67,8 @@ module _ {R H M S D C I O : Type 0} (lock : LockOf S) where
       × (r.arrivals.dial ≡ line.dial)
   IsReaderFor line seat (works.Writer w) = ⊥
 
-  abbrev pub IsWriterFor : SeatOf Event Reply S → Task R (LockDesk R H M S) (Dialled D) C (SeatOf Event Reply S) I O
-      → Type 0
-  IsWriterFor seat (works.Reader r) = ⊥
-  IsWriterFor seat (works.Writer w) = (w.pass ≡ seat) × (w.desk.lock.now ≡ lock) × (w.desk.since.value ≡ seat)
+  abbrev pub IsWriterFor : C → SeatOf Event Reply S
+      → Task R (LockDesk R H M S) (Dialled D) C (SeatOf Event Reply S) I O → Type 0
+  IsWriterFor clock seat (works.Reader r) = ⊥
+  IsWriterFor clock seat (works.Writer w) =
+      (w.pass ≡ seat) × (w.desk.lock.now ≡ lock) × (w.desk.since.value ≡ seat) × (w.clock ≡ clock)

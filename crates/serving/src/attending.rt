@@ -1,12 +1,13 @@
 //! Attending to the endpoints that were dialled.
 ghost use Rattle.std.specs.Prelude.{◌≡◌, ◌≢◌, ◌<◌, ◌+◌, ◌*◌, ◌^◌, ◌||◌, [], All, Bool, IfOk, List, OnErr, Option};
-ghost use Rattle.std.specs.Prelude.{false, length, true};
-ghost use Rattle.std.specs.Prelude.{ℕ, is_err, vec_capacity};
+ghost use Rattle.std.specs.Prelude.{ℕ, is_err, length, map, true, vec_capacity};
+ghost use Rattle.std.specs.List.{IsDistinct};
 ghost use Rattle.outside.specs.Connections.{Connection};
-ghost use Rattle.outside.specs.Outside.{Rose};
+ghost use Rattle.outside.specs.Outside.{Rose, RoseBy};
 ghost use Rattle.outside.specs.declared.links.Endpoint.{Endpoint};
 ghost use Rattle.endpoint_works.specs.Sides.{IsServedSide};
-ghost use Rattle.policy_lock.specs.Number.{missing, numbers};
+ghost use Rattle.policy_lock.specs.History.{same_number};
+ghost use Rattle.policy_lock.specs.Number.{Numbered, missing, numbers};
 ghost use Rattle.policy_lock.specs.Seat.{IsSeatOf};
 ghost use Rattle.serving.specs.Attending.{IsSilent, is_cut_off, settled};
 ghost use Rattle.serving.specs.Histories.{lines_taken};
@@ -21,7 +22,7 @@ use crate::staff::Office;
 use crate::working::work;
 use cv_io::{Duplicate, List, Memory};
 use endpoint_works::{AuditEnd, Handover, Others};
-use lock_desk::Host;
+use lock_desk::{Bells, Host};
 use outside::{Clock, Dial, Sink};
 use policy_lock::{Machine, PolicyLock, Seat};
 use std::alloc::Global;
@@ -39,6 +40,7 @@ pub(crate) fn attend<
     rt: &R,
     alloc: Global,
     lock: PolicyLock<H::Machine>,
+    bells: Bells,
     seats: List<Seat<H::Machine>>,
     lines: Lines<D>,
     handovers: Vec<Handover<D::Out>>,
@@ -54,24 +56,36 @@ where
     requires seats { length seats ≡ 2 * length lines.lines + 1 }
     requires theirs { All (IsSeatOf lock) seats }
     requires all { missing (numbers seats) ≡ 0 }
+    requires once { IsDistinct same_number (map (λ (n : Numbered). n.0) (numbers seats)) }
     requires silent { All IsSilent seats }
     requires sides { All (λ line. IsServedSide (H.knows lock.start) line.side) lines.lines }
     requires empty { room.items ≡ [] }
     requires room { 2 * length lines.lines < vec_capacity room }
     ensures serves { IfOk result (λ served. (told : Endpoint → Option (List Connection)) (reliable : Endpoint → Bool)
-        (places : List Place) (faults risen : ℕ) → (lines.failed ≡ true → Rose faults risen)
-        → AreLinesOf told reliable D.left D.is_reliable lines.failed places lines.lines
-        → Serves ⟦<H::Machine as Machine>⟧ lock.start told reliable lines_taken places (K.held out.old) (K.held out.new)
+        (places : List Place) (faults risen : ℕ) → RoseBy lines.undialled faults risen
+        → AreLinesOf told reliable D.left D.is_reliable lines.undialled places lines.lines
+        → Serves ⟦<H::Machine as Machine>⟧ lock.start told reliable (C.may clock.now) lines_taken places
+        (K.held out.old) (K.held out.new)
         faults risen served) }
-    ensures link { IfOk result (λ served. served ≡ Served.Link → lines.failed ≡ false
+    ensures link { IfOk result (λ served. served ≡ Served.Link → lines.undialled ≡ 0
         → All (λ line. D.is_reliable line.dial ≡ true) lines.lines → ⊥) }
     ensures spawn { IfOk result (λ served. served ≢ Served.Spawn) }
     ensures write { IfOk result (λ served. served ≡ Served.Write → Rose (K.faults out.old) (K.faults out.new)) }
     ensures memory { OnErr result (K.held out.new ≡ K.held out.old) }
+    ensures quiet { IfOk result (λ served. served ≢ Served.Write → K.faults out.new ≡ K.faults out.old) }
+    ensures silent { OnErr result (K.faults out.new ≡ K.faults out.old) }
 {
-    let Lines { lines, failed } = lines;
+    let Lines { lines, undialled } = lines;
     let others = Others::new(2 * lines.len() as u64);
-    let office = Office::<R, H, _, C>::new(rt, alloc, &lock, &others, clock, handovers.as_slice());
+    let office = Office::<R, H, _, C>::new(
+        rt,
+        alloc,
+        &lock,
+        &bells,
+        &others,
+        clock,
+        handovers.as_slice(),
+    );
     let worked = work(&office, lines, seats, room, out)?;
     let Ok(mut machine) = lock.close(worked.seats) else {
         unreachable!()
@@ -81,7 +95,7 @@ where
     }
     let rest = write_rest::<H, R, K>(rt, &mut machine, out);
     let lost = worked.end.is_err();
-    Ok(settle(rest, failed, worked.failed, worked.wanted, lost))
+    Ok(settle(rest, undialled > 0, worked.failed, worked.wanted, lost))
 }
 
 /// Whether a line of the audit could not be written.

@@ -1,5 +1,5 @@
 //! The end of a run: what still waits of the audit is written.
-ghost use Rattle.std.specs.Prelude.{◌≡◌, ◌<◌, IfOk, OnErr, OnOk};
+ghost use Rattle.std.specs.Prelude.{◌≡◌, ◌≢◌, ◌<◌, IfOk, OnErr, OnOk};
 ghost use Rattle.serving.specs.Endings.{EndsRest, TakesNext};
 
 use cv_io::{Bytes, Memory, Steps};
@@ -30,8 +30,9 @@ pub(crate) fn write_rest<H: Host, R: Wait + Threads + Sync, K: Sink>(
     machine: &mut H::Machine,
     out: &mut K,
 ) -> Rest
-    ensures { EndsRest ⟦<H::Machine as Machine>⟧ (H.Machine.meaning machine.old) (H.Machine.meaning machine.new)
+    ensures ends { EndsRest ⟦<H::Machine as Machine>⟧ (H.Machine.meaning machine.old) (H.Machine.meaning machine.new)
         (K.held out.old) (K.held out.new) (K.faults out.old) (K.faults out.new) result }
+    ensures quiet { result ≢ Rest.WriteFault → K.faults out.new ≡ K.faults out.old }
 {
     for _ in rt.forever() {
         match next_line::<H, R>(rt, machine) {

@@ -1,6 +1,6 @@
 //! The dials of the endpoints.
-ghost use Rattle.std.specs.Prelude.{◌≡◌, ◌≤◌, IfOk, MatchOption, true};
-ghost use Rattle.outside.specs.Outside.{Rose};
+ghost use Rattle.std.specs.Prelude.{◌≡◌, ◌≤◌, IfOk, MatchOption};
+ghost use Rattle.outside.specs.Outside.{Rose, RoseBy};
 ghost use Rattle.outside.specs.declared.links.Endpoint.{Endpoint};
 ghost use Rattle.serving.specs.Lines.{AreLinesOf, IsLineOf};
 
@@ -17,11 +17,11 @@ pub(crate) struct Line<D: Drop> {
     pub dial: D,
 }
 
-/// The endpoints that have a dial, and whether one has none.
+/// The endpoints that have a dial, and how many have none.
 #[derive(Drop)]
 pub(crate) struct Lines<D: Drop> {
     pub lines: List<Line<D>>,
-    pub failed: bool,
+    pub undialled: usize,
 }
 
 /// Dials every endpoint. Those that can't be dialled are left out.
@@ -33,19 +33,20 @@ pub(crate) fn dial_all<L: Links>(
 where
     L::Dial: Drop,
     ensures lines { IfOk result (λ all. AreLinesOf (L.told links.old) (L.is_reliable links.old)
-        L.Dial.left L.Dial.is_reliable all.failed places all.lines) }
-    ensures fault { IfOk result (λ all. all.failed ≡ true → Rose (L.faults links.old) (L.faults links.new)) }
+        L.Dial.left L.Dial.is_reliable all.undialled places all.lines) }
+    ensures fault { IfOk result (λ all. RoseBy all.undialled (L.faults links.old) (L.faults links.new)) }
     ensures never_falls { L.faults links.old ≤ L.faults links.new }
 {
-    let mut lines = List::with_capacity(alloc, places.len())?;
-    let mut failed = false;
+    let count = places.len();
+    let mut lines = List::with_capacity(alloc, count)?;
     for place in places.into_vec() {
-        match dial_one(links, place) {
-            Some(line) => lines.push(line)?,
-            None => failed = true,
-        }
+        let Some(line) = dial_one(links, place) else {
+            continue;
+        };
+        lines.push(line)?;
     }
-    Ok(Lines { lines, failed })
+    let undialled = count - lines.len();
+    Ok(Lines { lines, undialled })
 }
 
 /// Dials an endpoint, if that can be done.

@@ -6,10 +6,12 @@ mod attending;
 mod closing;
 mod dialling;
 mod gathering;
+mod laws;
 mod place;
 mod run;
 mod staff;
 mod working;
 
+pub use laws::{cut_only_where_closed, done_serves_all};
 pub use place::Place;
 pub use run::{Served, serve};

@@ -1,5 +1,5 @@
 //! A run: every endpoint is served.
-ghost use Rattle.std.specs.Prelude.{◌≡◌, ◌<◌, ◌+◌, ◌*◌, ◌^◌, All, IfOk, OnErr, length, true};
+ghost use Rattle.std.specs.Prelude.{◌≡◌, ◌≢◌, ◌<◌, ◌+◌, ◌*◌, ◌^◌, All, IfOk, OnErr, length, true};
 ghost use Rattle.outside.specs.Outside.{Rose};
 ghost use Rattle.endpoint_works.specs.Sides.{IsServedSide};
 ghost use Rattle.serving.specs.Histories.{lines_taken};
@@ -10,7 +10,7 @@ use crate::dialling::dial_all;
 use crate::place::Place;
 use cv_io::{Duplicate, List, Memory};
 use endpoint_works::Handover;
-use lock_desk::Host;
+use lock_desk::{Bells, Host};
 use outside::{Clock, Dial, Links, Sink, Spawner};
 use policy_lock::{Machine, open};
 use std::alloc::Global;
@@ -62,12 +62,13 @@ where
     requires served { All (λ place. IsServedSide (H.knows (H.Machine.meaning machine)) place.side) places }
     requires few { 2 * length places + 1 < 2 ^ 32 }
     ensures serves { Serves ⟦<H::Machine as Machine>⟧ (H.Machine.meaning machine) (L.told links.old)
-        (L.is_reliable links.old) lines_taken places (K.held out.old) (K.held out.new)
+        (L.is_reliable links.old) (C.may clock.now) lines_taken places (K.held out.old) (K.held out.new)
         (L.faults links.old) (L.faults links.new) result }
     ensures link { result ≡ Served.Link → All (λ place. L.is_reliable links.old place.end ≡ true) places
         → Rose (L.faults links.old) (L.faults links.new) }
     ensures spawn { result ≡ Served.Spawn → Rose (P.faults spawner.old) (P.faults spawner.new) }
     ensures write { result ≡ Served.Write → Rose (K.faults out.old) (K.faults out.new) }
+    ensures quiet { result ≢ Served.Write → K.faults out.new ≡ K.faults out.old }
 {
     match try_serve::<H, R, K, L, P, C>(rt, alloc, machine, places, out, links, spawner, clock) {
         Ok(served) => served,
@@ -100,7 +101,7 @@ where
     requires served { All (λ place. IsServedSide (H.knows (H.Machine.meaning machine)) place.side) places }
     requires few { 2 * length places + 1 < 2 ^ 32 }
     ensures serves { IfOk result (Serves ⟦<H::Machine as Machine>⟧ (H.Machine.meaning machine) (L.told links.old)
-        (L.is_reliable links.old) lines_taken places (K.held out.old) (K.held out.new)
+        (L.is_reliable links.old) (C.may clock.now) lines_taken places (K.held out.old) (K.held out.new)
         (L.faults links.old) (L.faults links.new)) }
     ensures link { IfOk result (λ served. served ≡ Served.Link
         → All (λ place. L.is_reliable links.old place.end ≡ true) places
@@ -109,16 +110,21 @@ where
         → Rose (P.faults spawner.old) (P.faults spawner.new)) }
     ensures write { IfOk result (λ served. served ≡ Served.Write → Rose (K.faults out.old) (K.faults out.new)) }
     ensures memory { OnErr result (K.held out.new ≡ K.held out.old) }
+    ensures quiet { IfOk result (λ served. served ≢ Served.Write → K.faults out.new ≡ K.faults out.old) }
+    ensures silent { OnErr result (K.faults out.new ≡ K.faults out.old) }
 {
     let lines = dial_all(alloc, links, places)?;
     let count = lines.lines.len();
     let handovers = handovers(alloc, count)?;
+    let bells = Bells::new(alloc)?;
     let room = Vec::with_capacity(alloc, 2 * count + 1)?;
     let (lock, seats) = open(alloc, machine, 2 * count as u32 + 1)?;
     if spawner.admit().is_err() {
         return Ok(Served::Spawn);
     }
-    attend::<H, R, L::Dial, K, C>(rt, alloc, lock, seats, lines, handovers, room, out, clock)
+    attend::<H, R, L::Dial, K, C>(
+        rt, alloc, lock, bells, seats, lines, handovers, room, out, clock,
+    )
 }
 
 /// A place between the two works of each endpoint.

@@ -5,12 +5,11 @@ ghost use Rattle.serving.specs.Works.{AreTeams, IsReaderFor, IsWriterFor};
 use crate::dialling::Line;
 use cv_io::{Duplicate, List, Memory};
 use endpoint_works::{Dialled, Handover, Others, Reader, Task, Writer};
-use lock_desk::{Host, LockDesk};
+use lock_desk::{Bells, Host, LockDesk};
 use outside::{Clock, Dial, Sink};
 use policy_lock::{PolicyLock, Seat};
 use std::alloc::Global;
 use std::collections::VecDeque;
-use std::snapshot::Snapshot;
 use std::sync::Wait;
 use std::thread::Threads;
 
@@ -23,6 +22,7 @@ pub(crate) struct Office<'a, R, H: Host, K: Drop, C> {
     pub rt: &'a R,
     pub alloc: Global,
     pub lock: &'a PolicyLock<H::Machine>,
+    pub bells: &'a Bells,
     pub others: &'a Others,
     /// Each work has a copy of it.
     pub clock: &'a C,
@@ -35,17 +35,20 @@ impl<'a, R: Wait + Threads + Sync, H: Host, K: Sink + Drop, C: Clock> Office<'a,
         rt: &'a R,
         alloc: Global,
         lock: &'a PolicyLock<H::Machine>,
+        bells: &'a Bells,
         others: &'a Others,
         clock: &'a C,
         handovers: &'a [Handover<K>],
     ) -> Self
         ensures lock { result.lock.now ≡ lock.now }
+        ensures clock { result.clock.now ≡ clock.now }
         ensures handovers { result.handovers.now ≡ handovers.now }
     {
         Office {
             rt,
             alloc,
             lock,
+            bells,
             others,
             clock,
             handovers,
@@ -57,11 +60,7 @@ impl<'a, R: Wait + Threads + Sync, H: Host, K: Sink + Drop, C: Clock> Office<'a,
         ensures lock { result.lock.now ≡ self.now.lock.now }
         ensures since { result.since.value ≡ seat.now }
     {
-        LockDesk {
-            rt: self.rt,
-            lock: self.lock,
-            since: Snapshot::of(seat),
-        }
+        LockDesk::new(self.rt, self.lock, self.bells, seat)
     }
 
     /// The place between the two works of the line of this number.
@@ -114,6 +113,7 @@ fn writer<'a, R: Wait + Threads + Sync, H: Host, K: Sink + Drop, C: Clock>(
     ensures pass { result.pass ≡ seat }
     ensures lock { result.desk.lock.now ≡ office.now.lock.now }
     ensures since { result.desk.since.value ≡ seat }
+    ensures clock { result.clock ≡ clock }
 {
     Writer {
         rt: office.rt,
@@ -143,7 +143,8 @@ where
     D::Out: Drop,
     requires handovers { length office.now.handovers.now ≡ length lines }
     requires seats { length seats ≡ 2 * length lines }
-    ensures { IfOk result (AreTeams (IsReaderFor office.now.lock.now) (IsWriterFor office.now.lock.now) lines seats) }
+    ensures { IfOk result (AreTeams (IsReaderFor office.now.lock.now)
+        (IsWriterFor office.now.lock.now office.now.clock.now) lines seats) }
 {
     let mut tasks = List::with_capacity(office.alloc, seats.len())?;
     let mut lines = VecDeque::from(lines.into_vec());

@@ -58,9 +58,10 @@ where
     requires empty { room.items ≡ [] }
     requires room { 2 * length lines < vec_capacity room }
     ensures worked { IfOk result (λ worked. HaveWorked ⟦<H::Machine as Machine>⟧ office.now.lock.now
-        D.left D.is_reliable worked.failed worked.wanted lines seats worked.seats
+        D.left D.is_reliable (C.may office.now.clock.now) worked.failed worked.wanted lines seats worked.seats
         (K.held out.old) (K.held out.new) (K.faults out.old) (K.faults out.new) worked.end) }
     ensures memory { OnErr result (K.held out.new ≡ K.held out.old) }
+    ensures silent { OnErr result (K.faults out.new ≡ K.faults out.old) }
 {
     let mut clock = office.clock.copy()?;
     let mut seats = seats;

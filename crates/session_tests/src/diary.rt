@@ -8,10 +8,13 @@ ghost use Rattle.session_tests.specs.Diary.{gives as gives_of, next as next_of, 
 use cv_io::{Bytes, Duplicate, Memory, Session, Steps, Who};
 use events::{Event, Reply};
 use lock_desk::Host;
-use policy_lock::{Machine, PolicyLock, Receipt, Seat};
+use policy_lock::{Machine, Marks, PolicyLock, Receipt, Seat};
 use std::sync::Wait;
 use std::sync::ledger::Ledger;
 use std::thread::Threads;
+
+// The bit of the audit among the marks.
+const AUDIT: u32 = 48;
 
 /// Its line; whether that waits, and whether the session is up.
 #[derive(Drop)]
@@ -123,6 +126,18 @@ impl Machine for Diary {
         }
     }
 
+    // What is said waits while the line does, for a few turns.
+    fn holds(&self, event: &Event, turns: u32) -> bool {
+        matches!(event, Event::Msg { .. }) && self.waits && turns < 3
+    }
+
+    fn marks(&self) -> Marks {
+        Marks {
+            stirred: if self.waits { 1 << AUDIT } else { 0 },
+            crowded: false,
+        }
+    }
+
     fn copy(&self) -> Result<Diary, Memory> {
         Ok(Diary {
             line: self.line.copy()?,
@@ -149,6 +164,9 @@ impl Host for Diaries {
 
     ghost knows = { λ _ _. Unit {0} };
 
+    // Seconds are nothing to it.
+    ghost is_at = { λ _ _. Unit {0} };
+
     fn post<R: Wait + Threads + Sync>(
         rt: &R,
         lock: &PolicyLock<Diary>,
@@ -156,6 +174,14 @@ impl Host for Diaries {
         event: Event,
     ) -> Result<Receipt<Reply>, Memory> {
         lock_desk::post(rt, lock, seat, event)
+    }
+
+    fn stirred(lock: &PolicyLock<Diary>) -> u64 {
+        lock.stirred()
+    }
+
+    fn is_crowded(lock: &PolicyLock<Diary>) -> bool {
+        lock.is_crowded()
     }
 
     ghost stays_known = { λ _ _ _ known. known };
@@ -167,6 +193,14 @@ impl Host for Diaries {
     ghost goes = { goes };
 
     ghost ticks = { ticks };
+
+    ghost told = { λ _ _ _. tt };
+
+    ghost tells = { λ _ _ _. tt };
+
+    ghost stays_told = { λ _ _ _ told. told };
+
+    ghost earlier = { λ _ _ _ told _. told };
 
     ghost takes = { takes };
 }

@@ -2,13 +2,14 @@
 use cv_io::{Bytes, Duplicate, List, Memory, Steps, Text};
 use outside::{
     Clock, Dial, DiskFiles, Endpoint, Failed, FileFault, Files, Links, MemSink, MemSource, Sink,
-    Source, SystemClock, TcpLinks,
+    Source, SystemClock,
 };
 use std::alloc::Global;
 use std::fs;
 use std::process::Abort;
 use std::sync::ledger::Ledger;
 use std::test::Fail;
+use tcp_links::{Settings, TcpLinks};
 
 fn crosses_threads<T: Send>(_value: &T) {}
 
@@ -118,9 +119,11 @@ where
     E::In: Drop,
     E::Out: Drop,
 {
-    let (_, mut sink) = from.next()?.ok_or(Failed)?;
-    let (mut source, _) = to.next()?.ok_or(Failed)?;
+    // a side that is dropped ends its connection
+    let (_kept_source, mut sink) = from.next()?.ok_or(Failed)?;
+    let (mut source, _kept_sink) = to.next()?.ok_or(Failed)?;
     sink.write(b"x")?;
+    sink.flush()?;
     let mut place = [0u8; 1];
     source.read(&mut place)?;
     Ok(place[0])
@@ -128,17 +131,14 @@ where
 
 const ADDRESS: &[u8] = b"127.0.0.1:46633";
 
-fn switch_end(alloc: Global) -> Result<Endpoint, Memory> {
-    Ok(Endpoint::Switch {
-        index: 0,
+fn lead_end(alloc: Global) -> Result<Endpoint, Memory> {
+    Ok(Endpoint::Lead {
         listen: Text::from_slice(alloc, ADDRESS)?,
-        rounds: 1,
     })
 }
 
-fn member_end(alloc: Global) -> Result<Endpoint, Memory> {
-    Ok(Endpoint::Member {
-        index: 0,
+fn standby_end(alloc: Global) -> Result<Endpoint, Memory> {
+    Ok(Endpoint::Standby {
         address: Text::from_slice(alloc, ADDRESS)?,
         rounds: 1,
     })
@@ -146,11 +146,11 @@ fn member_end(alloc: Global) -> Result<Endpoint, Memory> {
 
 #[test]
 fn a_connection(rt: HostRuntime) -> Result<(), Fail> {
-    let switch = switch_end(rt.alloc())?;
-    let member = member_end(rt.alloc())?;
-    let mut links = TcpLinks::new(&rt, rt.alloc());
-    let to = linked(&mut links, &switch)?;
-    let from = linked(&mut links, &member)?;
+    let lead = lead_end(rt.alloc())?;
+    let standby = standby_end(rt.alloc())?;
+    let mut links = TcpLinks::new(&rt, rt.alloc(), Settings::usual());
+    let to = linked(&mut links, &lead)?;
+    let from = linked(&mut links, &standby)?;
     assert_eq!(rt; sent(from, to), Ok(b'x'));
     Ok(())
 }

@@ -12,4 +12,6 @@ mod loops;
 #[cfg(test)]
 mod runs;
 #[cfg(test)]
+mod sockets;
+#[cfg(test)]
 mod works;

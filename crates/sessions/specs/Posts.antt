@@ -1,5 +1,5 @@
 -- Posts to a desk, with their answers.
-use Rattle.std.specs.Prelude.{◌≡◌, ◌⊎◌, ℕ, Bool, List, [], ◌∷◌, ◌++◌, map, ⊤}
+use Rattle.std.specs.Prelude.{◌≡◌, ◌⊎◌, ◌<◌, ◌≤◌, ℕ, Bool, List, [], ◌∷◌, ◌++◌, map, ⊤}
 use Rattle.cv_io.specs.declared.leaf.Session.{Session}
 use Rattle.cv_io.specs.declared.leaf.Who.{Who}
 use Rattle.events.specs.declared.event.Event.TheVariants as events
@@ -43,6 +43,14 @@ AddsHeard old new post (hearings.Closed at) = new ≡ old
 abbrev pub IsRefusedWhere : (ℕ → Type 0) → Heard → Type 0
 IsRefusedWhere ended hearings.Heard = ⊤
 IsRefusedWhere ended (hearings.Closed at) = ended at
+
+-- what was shown is shown still
+abbrev pub StillShows : (shown shows : ℕ → Type 0) → Type 0
+StillShows shown shows = (second : ℕ) → shown second → shows second
+
+-- each second above the first one is shown, up to the other
+abbrev pub ShowsUpTo : (shows : ℕ → Type 0) (first last : ℕ) → Type 0
+ShowsUpTo shows first last = (second : ℕ) → first < second → second ≤ last → shows second
 
 -- the post was made, or was idle
 abbrev pub MayAdd : List Post → List Post → Post → Type 0

@@ -44,6 +44,12 @@ pub record SourceFailed (kept : List ℕ) (before after : ℕ) (is_reliable : Bo
   pub rose : Rose before after
   pub unreliable : is_reliable ≡ false
 
+-- the sink failed, and not for want of memory; so it is none that never fails but for that
+pub record SinkBroke (before after wants wanted : ℕ) (is_reliable : Bool) : Type 0 where
+  pub rose : Rose before after
+  pub sated : Rose wants wanted → ⊥
+  pub unreliable : is_reliable ≡ false
+
 -- the sink failed; one that never does but for want of memory found none
 pub record SinkFailed (before after wants wanted : ℕ) (is_reliable : Bool) : Type 0 where
   pub rose : Rose before after

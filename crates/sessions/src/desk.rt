@@ -1,11 +1,12 @@
 //! Where sessions post.
-ghost use Rattle.std.specs.Prelude.{◌≡◌, ◌∷◌, ◌++◌, [], ℕ, List, IfOk, OnOk, OnErr};
+ghost use Rattle.std.specs.Prelude.{◌≡◌, ◌≤◌, ◌∷◌, ◌++◌, [], ℕ, List, IfOk, OnOk, OnErr};
 ghost use Rattle.of10_frames.specs.Frames.{IsFrame};
-ghost use Rattle.sessions.specs.Posts.{AddsHeard, AddsTaken, Finds, IsRefusedWhere, MayAdd};
+ghost use Rattle.sessions.specs.Posts.{AddsHeard, AddsTaken, Finds, IsRefusedWhere, MayAdd, StillShows};
 ghost use Rattle.sessions.specs.Posts.{coming_up, going, message, second_told};
 
 use cv_io::{Bytes, Memory, Session, Who};
 use events::{Event, Reply};
+use outside::Clock;
 
 /// A post that was not idle: its event, and the answer to it. Contracts speak of such posts.
 #[derive(Drop, Debug)]
@@ -34,7 +35,7 @@ pub enum Taken {
     Closed { at: u64 },
 }
 
-/// Where sessions post. Each call is one post, and may wait.
+/// Where sessions post. Each call that takes a pass is one post, and may wait.
 ///
 /// Who posts has a pass. Contracts see of it the posts that were made with it, each with its answer, without the idle
 /// ones, which changed nothing: a refused frame or going, a taking that found nothing, a second that is not above those
@@ -61,11 +62,15 @@ pub trait Desk {
     // After so many entries, as the pass has seen them, nothing waited for the session.
     ghost waits: { Self.Pass → Session → ℕ → Type 0 };
 
+    // As far as the pass has seen, the clock has come to this second.
+    ghost shows: { Self.Pass → ℕ → Type 0 };
+
     /// A member or a switch comes up, in its next round.
     fn up(&self, pass: &mut Self::Pass, who: Who, arp: bool) -> Result<Session, Memory>
         requires pass { admits self.now pass.old }
         requires served { serves self.now who }
         ensures pass { admits self.now pass.new }
+        ensures shown { StillShows (shows pass.old) (shows pass.new) }
         ensures who { IfOk result (λ session. session.who ≡ who) }
         ensures posted { IfOk result (λ session. posts pass.new
             ≡ posts pass.old ++ coming_up who arp session.round ∷ []) }
@@ -76,6 +81,7 @@ pub trait Desk {
         requires pass { admits self.now pass.old }
         requires frame { IsFrame frame }
         ensures pass { admits self.now pass.new }
+        ensures shown { StillShows (shows pass.old) (shows pass.new) }
         ensures posted { IfOk result (AddsHeard (posts pass.old) (posts pass.new) (message session.now frame)) }
         ensures closed { IfOk result (IsRefusedWhere (ended pass.new session.now)) }
         ensures memory { OnErr result (posts pass.new ≡ posts pass.old) };
@@ -84,6 +90,7 @@ pub trait Desk {
     fn gone(&self, pass: &mut Self::Pass, session: &Session) -> Result<Heard, Memory>
         requires { admits self.now pass.old }
         ensures pass { admits self.now pass.new }
+        ensures shown { StillShows (shows pass.old) (shows pass.new) }
         ensures posted { IfOk result (AddsHeard (posts pass.old) (posts pass.new) (going session.now)) }
         ensures closed { IfOk result (IsRefusedWhere (ended pass.new session.now)) }
         ensures memory { OnErr result (posts pass.new ≡ posts pass.old) };
@@ -92,14 +99,37 @@ pub trait Desk {
     fn tick(&self, pass: &mut Self::Pass, second: u64) -> Result<(), Memory>
         requires { admits self.now pass.old }
         ensures pass { admits self.now pass.new }
+        ensures shown { StillShows (shows pass.old) (shows pass.new) }
         ensures posted { OnOk result (MayAdd (posts pass.old) (posts pass.new) (second_told second)) }
+        ensures shows { OnOk result (shows pass.new second) }
         ensures memory { OnErr result (posts pass.new ≡ posts pass.old) };
 
     /// Takes the first message that waits for the session.
     fn take(&self, pass: &mut Self::Pass, session: &Session) -> Result<Taken, Memory>
         requires { admits self.now pass.old }
         ensures pass { admits self.now pass.new }
+        ensures shown { StillShows (shows pass.old) (shows pass.new) }
         ensures posted { IfOk result (AddsTaken (posts pass.old) (posts pass.new) session.now) }
         ensures found { IfOk result (Finds (ended pass.new session.now) (waits pass.new session.now)) }
         ensures memory { OnErr result (posts pass.new ≡ posts pass.old) };
+
+    /// Whether a second may be posted now. Who may not looks at its clock later.
+    fn may_tick(&self) -> bool {
+        true
+    }
+
+    /// Rests a while, after it rested `turns` times in a row, and no longer than until something waits for the session or
+    /// it has ended, if the desk can tell.
+    fn rest<C: Clock>(&self, _session: &Session, clock: &mut C, turns: u32)
+        ensures greatest { C.greatest clock.new ≡ C.greatest clock.old }
+        ensures no_more { (moment : ℕ) → C.may clock.new moment → C.may clock.old moment }
+    {
+        clock.rest(turns);
+    }
+
+    /// Ends a rest for the session, if the desk can.
+    fn wake(&self, _session: &Session) {}
+
+    // Where it has come to a second it has come to those before.
+    ghost earlier: { (pass : Self.Pass) (second before : ℕ) → shows pass second → before ≤ second → shows pass before };
 }

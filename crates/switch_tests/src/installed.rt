@@ -126,7 +126,8 @@ fn come_net(alloc: Global, table: &mut Installed) -> Result<Batch, Fail> {
     Ok(table.change(&List::new(alloc), &net, 13)?)
 }
 
-fn go_net(alloc: Global, table: &mut Installed) -> Result<Batch, Fail> {
+/// The net's pairs go. The batch is the result.
+pub fn go_net(alloc: Global, table: &mut Installed) -> Result<Batch, Fail> {
     let net = of_net(alloc)?;
     Ok(table.change(&net, &List::new(alloc), 21)?)
 }
@@ -138,7 +139,7 @@ fn fill(alloc: Global, table: &mut Installed) -> Result<Batch, Fail> {
 }
 
 /// A table of all pairs.
-fn full(alloc: Global) -> Result<Installed, Fail> {
+pub fn full(alloc: Global) -> Result<Installed, Fail> {
     let mut table = Installed::new(alloc);
     drop(fill(alloc, &mut table)?);
     Ok(table)

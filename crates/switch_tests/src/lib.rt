@@ -6,6 +6,8 @@ mod batches;
 #[cfg(test)]
 mod counts;
 #[cfg(test)]
+mod cut_batches;
+#[cfg(test)]
 mod gates;
 #[cfg(test)]
 mod installed;

@@ -9,6 +9,10 @@
 //!     -- member N M       the controller of member N has a connection: it says what the lines that follow are the
 //!                         digits of, and ends once M bytes were written to it
 //!     -- switch N M       the same of switch N
+//!     -- after WHO N M    what the connection says from here on it says once M bytes were written to WHO N
+//!     -- say TIMES HEX    the connection says these bytes so many times
+//!     -- full N           a write by which more than N bytes were written to the connection lasts until it says
+//!                         nothing more
 //!     -- fail WHAT        the first such call fails: a read of the script, of a file, a write, a dial, or the running
 //!                         of works: script, file, write, dial, spawn
 //!     $ covisor WORDS..   runs the program with these words; what the operator was told stands before the status, each

@@ -1,7 +1,7 @@
 //! A row: what a run of the program is given.
 ghost use Rattle.std.specs.Prelude.{◌≡◌, ◌<◌};
 
-use crate::wires::{Party, RowLinks, RowSpawner, Wire, Written};
+use crate::wires::{Party, Pause, RowLinks, RowSpawner, Wire, Wires, Written};
 use covisor_proxy::run;
 use cv_io::{Bytes, List, Memory, Steps, Text};
 use outside::{MemClock, MemFile, MemFiles, MemSink, MemSource};
@@ -136,31 +136,76 @@ impl Row {
             "fail write" => self.fails.write = true,
             "fail dial" => self.fails.dial = true,
             "fail spawn" => self.fails.spawn = true,
-            _ => return self.begin_wire(alloc, mark),
+            _ => return self.mark_with(alloc, mark),
         }
         Ok(())
     }
 
+    /// Does what a mark of several words says.
+    fn mark_with(&mut self, alloc: Global, mark: &str) -> Result<(), Memory> {
+        match mark.split_once(" ") {
+            Some(("pad", number)) => self.pad(number),
+            Some(("after", wait)) => self.wait(wait),
+            Some(("full", number)) => {
+                self.fill(number);
+                Ok(())
+            }
+            Some(("say", saying)) => self.say_often(alloc, saying),
+            _ => self.begin_wire(alloc, mark),
+        }
+    }
+
     fn begin_wire(&mut self, alloc: Global, mark: &str) -> Result<(), Memory> {
         let Some((party, until)) = connection(mark) else {
-            return self.pad(mark);
+            return Ok(());
         };
         self.part = Part::Wire;
         self.wires.push(Wire {
             party,
             says: Bytes::new(alloc),
+            pauses: List::new(alloc),
+            holds: usize::MAX,
             until,
         })
     }
 
-    fn pad(&mut self, mark: &str) -> Result<(), Memory> {
-        let Some(number) = mark.strip_prefix("pad ") else {
-            return Ok(());
-        };
+    fn pad(&mut self, number: &str) -> Result<(), Memory> {
         for _ in 0..number.parse::<u32>().unwrap_or(0) {
             self.script.push(b'#')?;
         }
         self.script.push(b'\n')
+    }
+
+    /// What the last connection says from here on waits for what is written to another.
+    fn wait(&mut self, mark: &str) -> Result<(), Memory> {
+        let Some((party, until)) = connection(mark) else {
+            return Ok(());
+        };
+        match self.wires.as_mut_slice().last_mut() {
+            Some(wire) => {
+                let at = wire.says.len();
+                wire.pauses.push(Pause { at, party, until })
+            }
+            None => Ok(()),
+        }
+    }
+
+    /// The last connection holds so many bytes, and takes more only once it says nothing more.
+    fn fill(&mut self, number: &str) {
+        if let (Ok(holds), Some(wire)) = (number.parse(), self.wires.as_mut_slice().last_mut()) {
+            wire.holds = holds;
+        }
+    }
+
+    /// The last connection says the same so many times.
+    fn say_often(&mut self, alloc: Global, mark: &str) -> Result<(), Memory> {
+        let Some((number, digits)) = mark.split_once(" ") else {
+            return Ok(());
+        };
+        for _ in 0..number.parse::<u32>().unwrap_or(0) {
+            self.say(alloc, digits)?;
+        }
+        Ok(())
     }
 
     /// A line of the policy, of the script or of a connection.
@@ -258,7 +303,8 @@ fn run_between<R: Wait + Threads + Sync, G: Ledger>(
     written: &[Written],
     steps: &mut Steps<G>,
 ) -> u8 {
-    let mut links = RowLinks::new(rt, row.wires.as_slice(), written, row.fails.dial);
+    let wires = row.wires.as_slice();
+    let mut links = RowLinks::new(rt, Wires { wires, written }, row.fails.dial);
     let mut spawner = RowSpawner::new(row.fails.spawn);
     let clock = MemClock::new(List::new(alloc));
     run(

@@ -85,6 +85,8 @@ impl Desk for Book {
 
     ghost waits = { λ _ _ _. ⊤ };
 
+    ghost shows = { λ _ _. ⊤ };
+
     fn up(&self, pass: &mut Log, who: Who, arp: bool) -> Result<Session, Memory> {
         pass.calls.push(Call::Up)?;
         pass.keep(Event::Up { who, arp }, Reply::Opened { round: 1 })?;
@@ -133,4 +135,6 @@ impl Desk for Book {
         }
         Ok(Taken::Closed { at: 7 })
     }
+
+    ghost earlier = { λ _ _ _ shown _. shown };
 }

@@ -2,7 +2,7 @@
 use super::desks::{Book, Call, Log, SESSION};
 use cv_io::{Bytes, List, Memory};
 use of10_frames::Framer;
-use outside::MemSource;
+use outside::{Failed, MemSource, Source};
 use sessions::{ReadEnd, run_reader};
 use std::alloc::Global;
 use std::sync::Wait;
@@ -126,6 +126,91 @@ fn a_source_that_fails(rt: HostRuntime) -> Result<(), Fail> {
     let (alloc, fault) = (rt.alloc(), ReadEnd::ReadFault);
     assert!(rt; reads(&rt, alloc, &[], BARRIER, &[2], fault, HEARD)?);
     assert!(rt; reads(&rt, alloc, &[], BARRIER, &[1], fault, NOT_HEARD)?);
+    Ok(())
+}
+
+/// A source that gives three bytes at a call.
+#[derive(Drop)]
+struct Dripping {
+    source: MemSource,
+}
+
+impl Source for Dripping {
+    ghost use Rattle.std.specs.Prelude.{None, false};
+
+    ghost remaining = { λ _. None };
+
+    ghost faults = { λ dripping. dripping.source.faults };
+
+    ghost is_reliable = { λ _. false };
+
+    fn read(&mut self, into: &mut [u8]) -> Result<usize, Failed> {
+        let most = into.len().min(3);
+        self.source.read(&mut into[..most])
+    }
+}
+
+/// Four frames that come three bytes at a call, of which one call fails.
+fn four_frames(alloc: Global, fails: u64) -> Result<Dripping, Memory> {
+    let mut bytes = Bytes::new(alloc);
+    for _ in 0..4 {
+        bytes.extend_from_slice(BARRIER)?;
+    }
+    let fails = List::from_slice(alloc, &[fails])?;
+    Ok(Dripping {
+        source: MemSource::new(bytes, fails),
+    })
+}
+
+/// How a reader of them ends.
+fn end_of_dripping<R: Wait>(
+    rt: &R,
+    alloc: Global,
+    pass: &mut Log,
+    fails: u64,
+) -> Result<ReadEnd, Memory> {
+    let mut source = four_frames(alloc, fails)?;
+    let mut framer = Framer::new(alloc);
+    run_reader(
+        rt,
+        alloc,
+        &Book {},
+        pass,
+        &SESSION,
+        &mut framer,
+        &mut source,
+    )
+}
+
+/// Whether it ends by the call that fails, with these calls of a desk that hears all.
+fn drips<R: Wait>(rt: &R, alloc: Global, fails: u64, calls: &[Call]) -> Result<bool, Memory> {
+    let mut pass = Log::new(alloc, 9, 0);
+    let end = end_of_dripping(rt, alloc, &mut pass, fails);
+    let called = pass.into_calls();
+    Ok(end? == ReadEnd::ReadFault && called.as_slice() == calls)
+}
+
+const HEARD_TWO: &[Call] = &[Call::Hear, Call::Hear, Call::Gone];
+
+const HEARD_THREE: &[Call] = &[Call::Hear, Call::Hear, Call::Hear, Call::Gone];
+
+// Before the Nth call 3 (N - 1) bytes were read: of frames of eight bytes those that are whole are posted.
+#[test]
+fn sources_that_fail_later(rt: HostRuntime) -> Result<(), Fail> {
+    for (fails, calls) in [
+        (1, NOT_HEARD),
+        (2, NOT_HEARD),
+        (3, NOT_HEARD),
+        (4, HEARD),
+        (5, HEARD),
+        (6, HEARD),
+        (7, HEARD_TWO),
+        (8, HEARD_TWO),
+        (9, HEARD_THREE),
+        (10, HEARD_THREE),
+    ] {
+        assert!(rt; drips(&rt, rt.alloc(), fails, calls)?, "call {fails}");
+    }
     Ok(())
 }
 

@@ -1,7 +1,7 @@
 //! The loop that writes to a peer.
 use super::desks::{Book, Call, Log, SESSION};
 use cv_io::{Bytes, List, Memory};
-use outside::{Clock, MemClock, MemSink};
+use outside::{Clock, Failed, MemClock, MemSink, Sink};
 use sessions::{WriteEnd, run_writer};
 use std::alloc::Global;
 use std::sync::Wait;
@@ -63,7 +63,11 @@ struct Resting {
 }
 
 impl Clock for Resting {
+    ghost use Rattle.std.specs.Prelude.{◌≡◌};
+
     ghost greatest = { λ _. 0 };
+
+    ghost may = { λ _ moment. moment ≡ 0 };
 
     fn now(&mut self) -> u64 {
         0
@@ -87,6 +91,58 @@ fn a_rest_is_told_how_many_went_before(rt: HostRuntime) -> Result<(), Fail> {
     drop(pass);
     assert_eq!(rt; end?, WriteEnd::Closed { at: 7 });
     assert!(rt; clock.told && clock.rests == 3);
+    Ok(())
+}
+
+/// A sink that collects, and notes how many writes went before each time that it is to send what it has.
+#[derive(Drop)]
+struct Collecting {
+    writes: u32,
+    sent: List<u32>,
+}
+
+impl Sink for Collecting {
+    ghost use Rattle.std.specs.Prelude.{None, false};
+    ghost use Rattle.outside.specs.Outside.{MOST};
+
+    ghost held = { λ _. None };
+
+    ghost faults = { λ _. MOST };
+
+    ghost wants = { λ _. 0 };
+
+    ghost is_reliable = { λ _. false };
+
+    fn wants(&self) -> u64 {
+        0
+    }
+
+    fn write(&mut self, piece: &[u8]) -> Result<usize, Failed> {
+        self.writes = self.writes.saturating_add(1);
+        Ok(piece.len())
+    }
+
+    fn flush(&mut self) -> Result<(), Failed> {
+        match self.sent.push(self.writes) {
+            Ok(()) => Ok(()),
+            Err(_) => Err(Failed),
+        }
+    }
+}
+
+#[test]
+fn what_was_collected_is_sent_where_nothing_waits(rt: HostRuntime) -> Result<(), Fail> {
+    let mut pass = Log::waiting(rt.alloc(), messages(rt.alloc(), &[b"abc", b"de"])?);
+    pass.empties = 1;
+    let mut sink = Collecting {
+        writes: 0,
+        sent: List::new(rt.alloc()),
+    };
+    let mut clock = MemClock::new(List::new(rt.alloc()));
+    let end = run_writer(&rt, &Book {}, &mut pass, &SESSION, &mut sink, &mut clock);
+    drop(pass);
+    assert_eq!(rt; end?, WriteEnd::Closed { at: 7 });
+    assert!(rt; sink.sent.as_slice() == [2].as_slice());
     Ok(())
 }
 
@@ -119,5 +175,75 @@ fn messages_are_written(rt: HostRuntime) -> Result<(), Fail> {
     let fault = WriteEnd::WriteFault;
     assert!(rt; writes(&rt, rt.alloc(), 0, ended, b"abcde", Call::Take)?);
     assert!(rt; writes(&rt, rt.alloc(), 2, fault, b"abc", Call::Gone)?);
+    Ok(())
+}
+
+/// A sink that takes a byte at a call.
+#[derive(Drop)]
+struct Narrow {
+    sink: MemSink,
+}
+
+impl Sink for Narrow {
+    ghost use Rattle.std.specs.Prelude.{None, false};
+
+    ghost held = { λ _. None };
+
+    ghost faults = { λ narrow. narrow.sink.faults };
+
+    ghost wants = { λ narrow. narrow.sink.wants };
+
+    ghost is_reliable = { λ _. false };
+
+    fn wants(&self) -> u64 {
+        self.sink.wants()
+    }
+
+    fn write(&mut self, piece: &[u8]) -> Result<usize, Failed> {
+        self.sink.write(&piece[..1])
+    }
+}
+
+/// A writer over a sink that takes a byte at a call, of which one call fails: how it ends, and what is written.
+fn narrowed<R: Wait>(
+    rt: &R,
+    alloc: Global,
+    pass: &mut Log,
+    fails: u64,
+) -> Result<(WriteEnd, Bytes), Memory> {
+    let fails = List::from_slice(alloc, &[fails])?;
+    let mut clock = MemClock::new(List::new(alloc));
+    let mut sink = Narrow {
+        sink: MemSink::new(Bytes::new(alloc), fails),
+    };
+    let end = run_writer(rt, &Book {}, pass, &SESSION, &mut sink, &mut clock)?;
+    Ok((end, sink.sink.held))
+}
+
+/// Whether a writer of four messages over it ends by the call that fails, writes this, and posts at last that the
+/// session went.
+fn narrows<R: Wait>(rt: &R, alloc: Global, fails: u64, want: &[u8]) -> Result<bool, Memory> {
+    let mut pass = Log::waiting(alloc, messages(alloc, &[b"abc", b"", b"de", b"fghijk"])?);
+    let written = narrowed(rt, alloc, &mut pass, fails);
+    let calls = pass.into_calls();
+    let (end, held) = written?;
+    Ok(
+        end == WriteEnd::WriteFault
+            && held.as_slice() == want
+            && calls.as_slice().last() == Some(&Call::Gone),
+    )
+}
+
+// Before the Nth call N - 1 bytes were written, wherever that is in a message.
+#[test]
+fn sinks_that_fail_later(rt: HostRuntime) -> Result<(), Fail> {
+    let all = b"abcdefghijk";
+    for written in 0..10usize {
+        let fails = written as u64 + 1;
+        assert!(rt;
+            narrows(&rt, rt.alloc(), fails, &all[..written])?,
+            "call {fails}"
+        );
+    }
     Ok(())
 }

@@ -58,6 +58,15 @@ fn lines_are_written(rt: HostRuntime) -> Result<(), Fail> {
     Ok(())
 }
 
+#[test]
+fn lines_are_taken_behind_a_fault(rt: HostRuntime) -> Result<(), Fail> {
+    let (end, held, posts) = audit(&rt, rt.alloc(), &[1])?;
+    assert_eq!(rt; end, AuditEnd::WriteFault);
+    assert!(rt; held.is_empty());
+    assert!(rt; posts.as_slice() == b"kk".as_slice());
+    Ok(())
+}
+
 /// A clock at whose first rest the other works end. It notes how many lines had been written by then.
 #[derive(Drop)]
 struct Ending<'a> {
@@ -67,7 +76,11 @@ struct Ending<'a> {
 }
 
 impl Clock for Ending<'_> {
+    ghost use Rattle.std.specs.Prelude.{◌≡◌};
+
     ghost greatest = { λ _. 0 };
+
+    ghost may = { λ _ moment. moment ≡ 0 };
 
     fn now(&mut self) -> u64 {
         0

@@ -76,6 +76,8 @@ impl Desk for Book {
 
     ghost waits = { λ _ _ _. ⊤ };
 
+    ghost shows = { λ _ _. ⊤ };
+
     fn up(&self, pass: &mut Log, who: Who, arp: bool) -> Result<Session, Memory> {
         pass.keep(Event::Up { who, arp }, Reply::Opened { round: 1 })?;
         Ok(Session { who, round: 1 })
@@ -115,6 +117,8 @@ impl Desk for Book {
         }
         Ok(Taken::Closed { at: 7 })
     }
+
+    ghost earlier = { λ _ _ _ shown _. shown };
 }
 
 impl LaterDesk for Book {

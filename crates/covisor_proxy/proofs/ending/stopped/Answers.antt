@@ -1,15 +1,16 @@
-use Rattle.std.proofs.Common.{◌+◌, Err, inr, refl, subst, sym}
+use Rattle.std.proofs.Common.{◌+◌, Err, refl, subst, sym}
 use Rattle.replay_report.specs.Players.{progress_of, reported}
 use Rattle.replay_report.specs.Reports.{refusal_text}
 use Rattle.covisor_proxy.specs.Asked.{cut_given_of, given_of}
 use Rattle.covisor_proxy.specs.Following.{Reaches}
 use Rattle.replay_report.specs.Takings.{as_line}
 use Rattle.covisor_proxy.specs.Noted.{IsEnd}
-use Rattle.covisor_proxy.specs.Outcomes.{Ends, moment}
+use Rattle.covisor_proxy.specs.Outcomes.{Replayed, moment}
 use Rattle.covisor_proxy.specs.declared.status.Status.{Status}
 use Rattle.covisor_proxy.specs.declared.stop.Stop.{Stop}
-use Rattle.covisor_proxy.specs.declared.stop.Stop.TheVariants.{Refused, Read}
-use Rattle.covisor_proxy.proofs.Finishing.{breaks-off, ends-stopped}
+use Rattle.covisor_proxy.specs.declared.stop.Stop.TheVariants.{Memory, Read, Refused, Write}
+use Rattle.covisor_proxy.proofs.Counting.{cut-whole}
+use Rattle.covisor_proxy.proofs.Finishing.{breaks-off, ends-begun, ends-short, ends-stopped}
 use Rattle.covisor_proxy.proofs.ToldRuns.{stop_of}
 use Rattle.covisor_proxy.proofs.ending.stopped.Goals as goal
 
@@ -32,9 +33,26 @@ returns-in-Read-clause-ends g c = λ form p old left reads steps r.
     let new = moment left reads (g.K.Sink.held c.write_fault.new.out) (g.K.Sink.faults c.write_fault.new.out) steps in
     let there : Reaches (Err Read) form p at w old mid =
     subst (λ (x : Stop). Reaches (Err x) form p at w old mid) c.in-Read.is r in
-    subst (λ (x : Status). Ends x (given_of form p) (cut_given_of form p) old new) (sym c.write_fault.ensures.status)
-    (inr (breaks-off (cut_given_of form p) old mid new there.0 there.1 there.2 refl refl refl
-    c.write_fault.ensures.writes))
+    subst (λ (x : Status). Replayed x (given_of form p) (cut_given_of form p) old new)
+    (sym c.write_fault.ensures.status)
+    (breaks-off (given_of form p) (cut_given_of form p) old mid new there.0 there.1 there.2 refl refl refl
+    (cut-whole form p there.0.read) c.write_fault.ensures.writes)
+
+pub returns-in-Write-clause-ends : goal.returns-in-Write-clause-ends
+returns-in-Write-clause-ends g c = λ form p old left reads steps r.
+    let mid = moment left reads (g.K.Sink.held c.args.out.now) (g.K.Sink.faults c.args.out.now) steps in
+    let there : Reaches (Err Write) form p (progress_of c.args.player.now) (reported c.args.player.now) old mid =
+    subst (λ (x : Stop). Reaches (Err x) form p (progress_of c.args.player.now) (reported c.args.player.now) old mid)
+    c.in-Write.is r in
+    ends-short (given_of form p) (cut_given_of form p) old mid there.0 there.1
+
+pub returns-in-Memory-clause-ends : goal.returns-in-Memory-clause-ends
+returns-in-Memory-clause-ends g c = λ form p old left reads steps r.
+    let mid = moment left reads (g.K.Sink.held c.args.out.now) (g.K.Sink.faults c.args.out.now) steps in
+    let there : Reaches (Err Memory) form p (progress_of c.args.player.now) (reported c.args.player.now) old mid =
+    subst (λ (x : Stop). Reaches (Err x) form p (progress_of c.args.player.now) (reported c.args.player.now) old mid)
+    c.in-Memory.is r in
+    ends-begun (given_of form p) (cut_given_of form p) old mid there
 
 pub returns-in-Refused-clause-end : goal.returns-in-Refused-clause-end
 returns-in-Refused-clause-end g c =

@@ -1,8 +1,8 @@
 use Rattle.std.proofs.Common.{◌≡◌, ℕ, List, ◌++◌, Option, inl, inr, subst, sym, take}
 use Rattle.outside.specs.Outside.{Rose}
 use Rattle.replay_report.specs.Players.{reported}
-use Rattle.covisor_proxy.specs.Following.{StopsWith, Writes}
-use Rattle.covisor_proxy.specs.Written.{Appends}
+use Rattle.covisor_proxy.specs.Following.{StopsWith}
+use Rattle.covisor_proxy.specs.Written.{Appends, Writes}
 use Rattle.covisor_proxy.specs.declared.status.Status.{Status}
 use Rattle.covisor_proxy.specs.declared.status.Status.TheVariants.{Line}
 use Rattle.covisor_proxy.proofs.Appending.{appends_both}
@@ -14,7 +14,10 @@ stops_line : (held mid held' : Option (List ℕ)) (faults between faults' : ℕ)
     → Writes mid held' between faults' last → StopsWith Line held held' faults faults' w last
 stops_line held mid held' faults between faults' w last e q (inl a) = inl (appends_both held mid held' w last e a)
 stops_line held mid held' faults between faults' w last e q (inr a) =
-    inr (subst (λ (x : ℕ). Rose x faults') q a.0, (a.1.0, appends_both held mid held' w (take a.1.0 last) e a.1.1))
+    inr (
+      subst (λ (x : ℕ). Rose x faults') q a.0,
+      (a.1.0, a.1.1, appends_both held mid held' w (take a.1.0 last) e a.1.2),
+    )
 
 pub returns-in-Ok : goal.returns-in-Ok
 returns-in-Ok g c =

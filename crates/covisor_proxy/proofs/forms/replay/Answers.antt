@@ -1,9 +1,9 @@
 use Rattle.std.proofs.Common.{◌+◌, ℕ, ap, refl, subst, sym}
 use Rattle.replay_report.specs.Players.{form_of, plan_of, progress_of, reported}
-use Rattle.covisor_proxy.specs.Asked.{given_of}
+use Rattle.covisor_proxy.specs.Asked.{cut_given_of, given_of}
 use Rattle.covisor_proxy.specs.Following.{IsBegun}
 use Rattle.covisor_proxy.specs.Outcomes.{moment}
-use Rattle.covisor_proxy.proofs.Finishing.{begins-none, reached-end, reaches-of}
+use Rattle.covisor_proxy.proofs.Finishing.{reached-end, reaches-of, replayed-none}
 use Rattle.covisor_proxy.proofs.ToldRuns.{told_end}
 use Rattle.covisor_proxy.proofs.forms.replay.Goals as goal
 
@@ -11,13 +11,13 @@ pub returns-in_default-clause-ends : goal.returns-in_default-clause-ends
 returns-in_default-clause-ends g c =
     let here = moment (g.S.Source.remaining c.args.input.now) (g.S.Source.faults c.args.input.now)
     (g.K.Sink.held c.args.out.now) (g.K.Sink.faults c.args.out.now) c.args.steps.now in
-    begins-none (given_of c.args.form c.args.policy) here here refl refl
+    replayed-none (given_of c.args.form c.args.policy) (cut_given_of c.args.form c.args.policy) here here refl refl
 
 pub returns-in_default-begin-clause-ends : goal.returns-in_default-begin-clause-ends
 returns-in_default-begin-clause-ends g c =
     let here = moment (g.S.Source.remaining c.args.input.now) (g.S.Source.faults c.args.input.now)
     (g.K.Sink.held c.args.out.now) (g.K.Sink.faults c.args.out.now) c.args.steps.now in
-    begins-none (given_of c.args.form c.args.policy) here here refl refl
+    replayed-none (given_of c.args.form c.args.policy) (cut_given_of c.args.form c.args.policy) here here refl refl
 
 pub replay_over-outcome-requires-clause-begins : goal.replay_over-outcome-requires-clause-begins
 replay_over-outcome-requires-clause-begins g c ks lives =

@@ -3,65 +3,47 @@ use Rattle.hyper_core.specs.contracts.machine.HyperMachine.TheImpl.{ghosts as hy
 use Rattle.script_text.specs.declared.form.Form.TheVariants.{Replay}
 use Rattle.covisor_proxy.specs.Asked.{no_report}
 use Rattle.covisor_proxy.specs.Noted.{NotesNone}
-use Rattle.covisor_proxy.specs.Outcomes.{moment}
-use Rattle.covisor_proxy.specs.Serving.{EndsServing, EndsUnopened, links_of}
+use Rattle.covisor_proxy.specs.Outside.{outside_of}
+use Rattle.covisor_proxy.specs.Serving.{EndsServing}
 use Rattle.covisor_proxy.specs.declared.status.Status.{Status}
-use Rattle.covisor_proxy.proofs.Finishing.{ended-served, ended-unserved}
+use Rattle.covisor_proxy.proofs.Joining.{runs-served, runs-unopened}
 use Rattle.covisor_proxy.proofs.ToldRuns.{none_held, served_noted, unserved_held}
 use Rattle.covisor_proxy.proofs.live.serve_file.Goals as goal
 
-pub returns-in-Ok-clause-ends : goal.returns-in-Ok-clause-ends
-returns-in-Ok-clause-ends g c = λ left reads steps.
-    let old = moment left reads (g.K.Sink.held c.args.out.now) (g.K.Sink.faults c.args.out.now) steps in
-    let new = moment left reads (g.K.Sink.held c.serve.new.out) (g.K.Sink.faults c.serve.new.out) steps in
-    let links = links_of (g.L.Links.told c.args.links.now) (g.L.Links.is_reliable c.args.links.now)
-    (g.L.Links.faults c.args.links.now) (g.L.Links.faults c.serve.new.links) in
-    let files = g.F.Files.files c.args.files.now in
-    ended-served hyper links c.args.name.now files (g.F.Files.faults c.args.files.now)
-    (g.F.Files.faults c.open.new.files) old new
-    c.serve.result c.in-Ok.policy c.in-Ok.ensures (c.serve.ensures.ends left reads steps) refl
+pub returns-in-Ok-clause-runs : goal.returns-in-Ok-clause-runs
+returns-in-Ok-clause-runs g c = λ left reads steps.
+    let before = outside_of (g.F.Files.files c.args.files.now) (g.F.Files.faults c.args.files.now) left reads (g.K.Sink.held c.args.out.now) (g.K.Sink.faults c.args.out.now)
+    (g.L.Links.told c.args.links.now) (g.L.Links.is_reliable c.args.links.now) (g.L.Links.faults c.args.links.now)
+    (g.P.Spawner.faults c.args.spawner.now) steps in
+    let after = outside_of (g.F.Files.files c.open.new.files) (g.F.Files.faults c.open.new.files) left reads (g.K.Sink.held c.serve.new.out) (g.K.Sink.faults c.serve.new.out)
+    (g.L.Links.told c.serve.new.links) (g.L.Links.is_reliable c.serve.new.links) (g.L.Links.faults c.serve.new.links)
+    (g.P.Spawner.faults c.serve.new.spawner) steps in
+    runs-served hyper (g.C.Clock.may c.args.clock.now) before after c.args.name.now c.serve.result c.in-Ok.policy
+    c.in-Ok.ensures
+    (c.serve.ensures.ends before.files after.files before.fails after.fails left reads steps) refl
 
-pub returns-in-Err-clause-ends : goal.returns-in-Err-clause-ends
-returns-in-Err-clause-ends g c = λ left reads steps.
-    let old = moment left reads (g.K.Sink.held c.args.out.now) (g.K.Sink.faults c.args.out.now) steps in
-    let new = moment left reads (g.K.Sink.held c.tell.new.out) (g.K.Sink.faults c.tell.new.out) steps in
-    let links = links_of (g.L.Links.told c.args.links.now) (g.L.Links.is_reliable c.args.links.now)
-    (g.L.Links.faults c.args.links.now) (g.L.Links.faults c.args.links.now) in
-    let files = g.F.Files.files c.args.files.now in
-    let fails = g.F.Files.faults c.args.files.now in
-    let fails' = g.F.Files.faults c.open.new.files in
-    ended-unserved hyper links c.args.name.now files fails fails' old new c.tell.result
-    (c.tell.ensures.ends files fails fails' no_report no_report Replay left reads steps c.in-Err.ensures)
+pub returns-in-Err-clause-runs : goal.returns-in-Err-clause-runs
+returns-in-Err-clause-runs g c = λ left reads steps.
+    let before = outside_of (g.F.Files.files c.args.files.now) (g.F.Files.faults c.args.files.now) left reads (g.K.Sink.held c.args.out.now) (g.K.Sink.faults c.args.out.now)
+    (g.L.Links.told c.args.links.now) (g.L.Links.is_reliable c.args.links.now) (g.L.Links.faults c.args.links.now)
+    (g.P.Spawner.faults c.args.spawner.now) steps in
+    let after = outside_of (g.F.Files.files c.open.new.files) (g.F.Files.faults c.open.new.files) left reads (g.K.Sink.held c.tell.new.out) (g.K.Sink.faults c.tell.new.out)
+    (g.L.Links.told c.args.links.now) (g.L.Links.is_reliable c.args.links.now) (g.L.Links.faults c.args.links.now)
+    (g.P.Spawner.faults c.args.spawner.now) steps in
+    runs-unopened hyper (g.C.Clock.may c.args.clock.now) before after c.args.name.now c.tell.result
+    (c.tell.ensures.ends before.files before.fails after.fails no_report no_report Replay left reads steps
+    c.in-Err.ensures)
 
 pub returns-in-Ok-clause-form : goal.returns-in-Ok-clause-form
 returns-in-Ok-clause-form g c = λ is.
-    let old = moment None 0 (g.K.Sink.held c.args.out.now) (g.K.Sink.faults c.args.out.now) 0 in
-    let new = moment None 0 (g.K.Sink.held c.serve.new.out) (g.K.Sink.faults c.serve.new.out) 0 in
-    let links = links_of (g.L.Links.told c.args.links.now) (g.L.Links.is_reliable c.args.links.now)
-    (g.L.Links.faults c.args.links.now) (g.L.Links.faults c.serve.new.links) in
-    subst (λ (x : Status). EndsServing hyper links x c.in-Ok.policy old new) is (c.serve.ensures.ends None 0 0)
-
-pub returns-in-Err-clause-link : goal.returns-in-Err-clause-link
-returns-in-Err-clause-link g c = λ is never.
-    let old = moment None 0 (g.K.Sink.held c.args.out.now) (g.K.Sink.faults c.args.out.now) 0 in
-    let new = moment None 0 (g.K.Sink.held c.tell.new.out) (g.K.Sink.faults c.tell.new.out) 0 in
-    let files = g.F.Files.files c.args.files.now in
-    let fails = g.F.Files.faults c.args.files.now in
-    let fails' = g.F.Files.faults c.open.new.files in
-    let ends = c.tell.ensures.ends files fails fails' no_report no_report Replay None 0 0 c.in-Err.ensures in
-    absurd (subst (λ (x : Status). EndsUnopened x no_report no_report Replay c.args.name.now files fails fails' old new)
-    is ends).3
-
-pub returns-in-Err-clause-spawn : goal.returns-in-Err-clause-spawn
-returns-in-Err-clause-spawn g c = λ is.
-    let old = moment None 0 (g.K.Sink.held c.args.out.now) (g.K.Sink.faults c.args.out.now) 0 in
-    let new = moment None 0 (g.K.Sink.held c.tell.new.out) (g.K.Sink.faults c.tell.new.out) 0 in
-    let files = g.F.Files.files c.args.files.now in
-    let fails = g.F.Files.faults c.args.files.now in
-    let fails' = g.F.Files.faults c.open.new.files in
-    let ends = c.tell.ensures.ends files fails fails' no_report no_report Replay None 0 0 c.in-Err.ensures in
-    absurd (subst (λ (x : Status). EndsUnopened x no_report no_report Replay c.args.name.now files fails fails' old new)
-    is ends).3
+    let before = outside_of None 0 None 0 (g.K.Sink.held c.args.out.now) (g.K.Sink.faults c.args.out.now)
+    (g.L.Links.told c.args.links.now) (g.L.Links.is_reliable c.args.links.now) (g.L.Links.faults c.args.links.now)
+    (g.P.Spawner.faults c.args.spawner.now) 0 in
+    let after = outside_of None 0 None 0 (g.K.Sink.held c.serve.new.out) (g.K.Sink.faults c.serve.new.out)
+    (g.L.Links.told c.serve.new.links) (g.L.Links.is_reliable c.serve.new.links) (g.L.Links.faults c.serve.new.links)
+    (g.P.Spawner.faults c.serve.new.spawner) 0 in
+    subst (λ (x : Status). EndsServing hyper (g.C.Clock.may c.args.clock.now) x c.in-Ok.policy before after) is
+    (c.serve.ensures.ends None None 0 0 None 0 0)
 
 pub returns-in-Ok-clause-notes : goal.returns-in-Ok-clause-notes
 returns-in-Ok-clause-notes g c = λ left.

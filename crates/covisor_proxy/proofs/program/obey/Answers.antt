@@ -1,4 +1,5 @@
 use Rattle.std.proofs.Common.{[], Err, Some, refl, subst, sym}
+use Rattle.std.proofs.lemmas.Bool.{false≢true}
 use Rattle.outside.specs.declared.files.FileFault.TheVariants as faults
 use Rattle.made_script.specs.Summary.{summary_text}
 use Rattle.replay_report.specs.Making.{made_of}
@@ -6,87 +7,96 @@ use Rattle.hyper_core.specs.contracts.machine.HyperMachine.TheImpl.{ghosts as hy
 use Rattle.covisor_proxy.specs.Asked.{cut_given_for, given_for}
 use Rattle.replay_report.specs.Takings.{as_line}
 use Rattle.covisor_proxy.specs.Noted.{Notes}
-use Rattle.covisor_proxy.specs.Outcomes.{moment}
-use Rattle.covisor_proxy.specs.Runs.{Ended}
-use Rattle.covisor_proxy.specs.Serving.{links_of}
+use Rattle.covisor_proxy.specs.Outcomes.{code_of}
+use Rattle.covisor_proxy.specs.Outside.{outside_of}
+use Rattle.covisor_proxy.specs.Runs.{Runs}
 use Rattle.command_line.specs.declared.command.Command.{Command}
-use Rattle.command_line.specs.declared.command.Command.TheVariants.{Make}
+use Rattle.command_line.specs.declared.command.Command.TheVariants.{ExplainPolicy, Make, Replay, ReplayPolicy}
 use Rattle.covisor_proxy.proofs.Finishing.{ends-made}
+use Rattle.covisor_proxy.proofs.Joining.{runs-unserved}
 use Rattle.covisor_proxy.proofs.ToldRuns.{built_in_noted, explain_held, made_noted, replay_held}
 use Rattle.covisor_proxy.proofs.program.obey.Goals as goal
 
-pub returns-in-Replay-clause-ends : goal.returns-in-Replay-clause-ends
-returns-in-Replay-clause-ends g c =
-    let old = moment (g.S.Source.remaining c.args.input.now) (g.S.Source.faults c.args.input.now)
-    (g.K.Sink.held c.args.out.now) (g.K.Sink.faults c.args.out.now) c.args.steps.now in
-    let new = moment (g.S.Source.remaining c.replay_built_in.new.input) (g.S.Source.faults c.replay_built_in.new.input)
-    (g.K.Sink.held c.replay_built_in.new.out) (g.K.Sink.faults c.replay_built_in.new.out)
-    c.replay_built_in.new.steps in
-    let links = links_of (g.L.Links.told c.args.links.now) (g.L.Links.is_reliable c.args.links.now)
-    (g.L.Links.faults c.args.links.now) (g.L.Links.faults c.args.links.now) in
-    subst (λ (x : Command). Ended hyper links c.replay_built_in.result (Some x) (g.F.Files.files c.args.files.now)
-    (g.F.Files.faults c.args.files.now) (g.F.Files.faults c.args.files.now) old new) (sym c.in-Replay.is)
-    (Err faults.Memory, tt, c.replay_built_in.ensures.ends)
+pub returns-in-Replay-clause-runs : goal.returns-in-Replay-clause-runs
+returns-in-Replay-clause-runs g c =
+    let may = g.C.Clock.may c.args.clock.now in
+    let before = outside_of (g.F.Files.files c.args.files.now) (g.F.Files.faults c.args.files.now)
+    (g.S.Source.remaining c.args.input.now) (g.S.Source.faults c.args.input.now) (g.K.Sink.held c.args.out.now) (g.K.Sink.faults c.args.out.now)
+    (g.L.Links.told c.args.links.now) (g.L.Links.is_reliable c.args.links.now) (g.L.Links.faults c.args.links.now)
+    (g.P.Spawner.faults c.args.spawner.now) c.args.steps.now in
+    let after = outside_of (g.F.Files.files c.args.files.now) (g.F.Files.faults c.args.files.now)
+    (g.S.Source.remaining c.replay_built_in.new.input) (g.S.Source.faults c.replay_built_in.new.input) (g.K.Sink.held c.replay_built_in.new.out) (g.K.Sink.faults c.replay_built_in.new.out)
+    (g.L.Links.told c.args.links.now) (g.L.Links.is_reliable c.args.links.now) (g.L.Links.faults c.args.links.now)
+    (g.P.Spawner.faults c.args.spawner.now) c.replay_built_in.new.steps in
+    subst (λ (x : Command). Runs hyper may before after (code_of c.replay_built_in.result) (Some x)) (sym c.in-Replay.is)
+    (runs-unserved hyper may before after c.replay_built_in.result (Some Replay) (Err faults.Memory) tt refl
+    (λ is has. c.replay_built_in.ensures.whole is) c.replay_built_in.ensures.ends)
 
-pub returns-in-Make-clause-ends : goal.returns-in-Make-clause-ends
-returns-in-Make-clause-ends g c =
-    let old = moment (g.S.Source.remaining c.args.input.now) (g.S.Source.faults c.args.input.now)
-    (g.K.Sink.held c.args.out.now) (g.K.Sink.faults c.args.out.now) c.args.steps.now in
-    let new = moment (g.S.Source.remaining c.args.input.now) (g.S.Source.faults c.args.input.now)
-    (g.K.Sink.held c.make.new.out) (g.K.Sink.faults c.make.new.out) c.make.new.steps in
-    let making = Some (Make c.in-Make.seed c.in-Make.count) in
-    let links = links_of (g.L.Links.told c.args.links.now) (g.L.Links.is_reliable c.args.links.now)
-    (g.L.Links.faults c.args.links.now) (g.L.Links.faults c.args.links.now) in
-    subst (λ (x : Command). Ended hyper links c.make.result (Some x) (g.F.Files.files c.args.files.now)
-    (g.F.Files.faults c.args.files.now) (g.F.Files.faults c.args.files.now) old new) (sym c.in-Make.is) (
-      Err faults.Memory,
-      tt,
-      ends-made c.make.result (given_for making (Err faults.Memory)) (cut_given_for making (Err faults.Memory))
-          (summary_text (made_of c.in-Make.seed c.in-Make.count)) old new
-          (λ script. refl) (λ script. c.make.ensures.steps) refl c.make.ensures.ends,
-    )
+pub returns-in-Make-clause-runs : goal.returns-in-Make-clause-runs
+returns-in-Make-clause-runs g c =
+    let may = g.C.Clock.may c.args.clock.now in
+    let before = outside_of (g.F.Files.files c.args.files.now) (g.F.Files.faults c.args.files.now)
+    (g.S.Source.remaining c.args.input.now) (g.S.Source.faults c.args.input.now) (g.K.Sink.held c.args.out.now) (g.K.Sink.faults c.args.out.now)
+    (g.L.Links.told c.args.links.now) (g.L.Links.is_reliable c.args.links.now) (g.L.Links.faults c.args.links.now)
+    (g.P.Spawner.faults c.args.spawner.now) c.args.steps.now in
+    let after = outside_of (g.F.Files.files c.args.files.now) (g.F.Files.faults c.args.files.now)
+    (g.S.Source.remaining c.args.input.now) (g.S.Source.faults c.args.input.now) (g.K.Sink.held c.make.new.out) (g.K.Sink.faults c.make.new.out)
+    (g.L.Links.told c.args.links.now) (g.L.Links.is_reliable c.args.links.now) (g.L.Links.faults c.args.links.now)
+    (g.P.Spawner.faults c.args.spawner.now) c.make.new.steps in
+    subst (λ (x : Command). Runs hyper may before after (code_of c.make.result) (Some x)) (sym c.in-Make.is)
+    (runs-unserved hyper may before after c.make.result (Some (Make c.in-Make.seed c.in-Make.count)) (Err faults.Memory)
+    tt refl (λ is has. absurd (false≢true has))
+    (ends-made c.make.result (given_for (Some (Make c.in-Make.seed c.in-Make.count)) (Err faults.Memory))
+    (cut_given_for (Some (Make c.in-Make.seed c.in-Make.count)) (Err faults.Memory))
+    (summary_text (made_of c.in-Make.seed c.in-Make.count)) before.now after.now
+    (λ script. refl) (λ script. c.make.ensures.steps) refl c.make.ensures.ends))
 
-pub returns-in-ReplayPolicy-clause-ends : goal.returns-in-ReplayPolicy-clause-ends
-returns-in-ReplayPolicy-clause-ends g c =
-    let old = moment (g.S.Source.remaining c.args.input.now) (g.S.Source.faults c.args.input.now)
-    (g.K.Sink.held c.args.out.now) (g.K.Sink.faults c.args.out.now) c.args.steps.now in
-    let new = moment (g.S.Source.remaining c.replay_file.new.input) (g.S.Source.faults c.replay_file.new.input)
-    (g.K.Sink.held c.replay_file.new.out) (g.K.Sink.faults c.replay_file.new.out) c.replay_file.new.steps in
-    let links = links_of (g.L.Links.told c.args.links.now) (g.L.Links.is_reliable c.args.links.now)
-    (g.L.Links.faults c.args.links.now) (g.L.Links.faults c.args.links.now) in
-    let fails' = g.F.Files.faults c.replay_file.new.files in
-    subst (λ (x : Command). Ended hyper links c.replay_file.result (Some x) (g.F.Files.files c.args.files.now)
-    (g.F.Files.faults c.args.files.now) fails' old new) (sym c.in-ReplayPolicy.is)
-    c.replay_file.ensures.ends
+pub returns-in-ReplayPolicy-clause-runs : goal.returns-in-ReplayPolicy-clause-runs
+returns-in-ReplayPolicy-clause-runs g c =
+    let may = g.C.Clock.may c.args.clock.now in
+    let before = outside_of (g.F.Files.files c.args.files.now) (g.F.Files.faults c.args.files.now)
+    (g.S.Source.remaining c.args.input.now) (g.S.Source.faults c.args.input.now) (g.K.Sink.held c.args.out.now) (g.K.Sink.faults c.args.out.now)
+    (g.L.Links.told c.args.links.now) (g.L.Links.is_reliable c.args.links.now) (g.L.Links.faults c.args.links.now)
+    (g.P.Spawner.faults c.args.spawner.now) c.args.steps.now in
+    let after = outside_of (g.F.Files.files c.replay_file.new.files) (g.F.Files.faults c.replay_file.new.files)
+    (g.S.Source.remaining c.replay_file.new.input) (g.S.Source.faults c.replay_file.new.input) (g.K.Sink.held c.replay_file.new.out) (g.K.Sink.faults c.replay_file.new.out)
+    (g.L.Links.told c.args.links.now) (g.L.Links.is_reliable c.args.links.now) (g.L.Links.faults c.args.links.now)
+    (g.P.Spawner.faults c.args.spawner.now) c.replay_file.new.steps in
+    subst (λ (x : Command). Runs hyper may before after (code_of c.replay_file.result) (Some x)) (sym c.in-ReplayPolicy.is)
+    (let e = c.replay_file.ensures.ends in
+    runs-unserved hyper may before after c.replay_file.result (Some (ReplayPolicy c.in-ReplayPolicy.name)) e.0 e.1 refl
+    (λ is has. c.replay_file.ensures.whole is) e.2)
 
-pub returns-in-ExplainPolicy-clause-ends : goal.returns-in-ExplainPolicy-clause-ends
-returns-in-ExplainPolicy-clause-ends g c =
-    let old = moment (g.S.Source.remaining c.args.input.now) (g.S.Source.faults c.args.input.now)
-    (g.K.Sink.held c.args.out.now) (g.K.Sink.faults c.args.out.now) c.args.steps.now in
-    let new = moment (g.S.Source.remaining c.replay_file-in-ExplainPolicy.new.input)
-    (g.S.Source.faults c.replay_file-in-ExplainPolicy.new.input)
-    (g.K.Sink.held c.replay_file-in-ExplainPolicy.new.out) (g.K.Sink.faults c.replay_file-in-ExplainPolicy.new.out)
-    c.replay_file-in-ExplainPolicy.new.steps in
-    let links = links_of (g.L.Links.told c.args.links.now) (g.L.Links.is_reliable c.args.links.now)
-    (g.L.Links.faults c.args.links.now) (g.L.Links.faults c.args.links.now) in
-    let fails' = g.F.Files.faults c.replay_file-in-ExplainPolicy.new.files in
-    subst (λ (x : Command). Ended hyper links c.replay_file-in-ExplainPolicy.result (Some x)
-    (g.F.Files.files c.args.files.now) (g.F.Files.faults c.args.files.now) fails' old new)
-    (sym c.in-ExplainPolicy.is)
-    c.replay_file-in-ExplainPolicy.ensures.ends
+pub returns-in-ExplainPolicy-clause-runs : goal.returns-in-ExplainPolicy-clause-runs
+returns-in-ExplainPolicy-clause-runs g c =
+    let may = g.C.Clock.may c.args.clock.now in
+    let before = outside_of (g.F.Files.files c.args.files.now) (g.F.Files.faults c.args.files.now)
+    (g.S.Source.remaining c.args.input.now) (g.S.Source.faults c.args.input.now) (g.K.Sink.held c.args.out.now) (g.K.Sink.faults c.args.out.now)
+    (g.L.Links.told c.args.links.now) (g.L.Links.is_reliable c.args.links.now) (g.L.Links.faults c.args.links.now)
+    (g.P.Spawner.faults c.args.spawner.now) c.args.steps.now in
+    let after = outside_of (g.F.Files.files c.replay_file-in-ExplainPolicy.new.files) (g.F.Files.faults c.replay_file-in-ExplainPolicy.new.files)
+    (g.S.Source.remaining c.replay_file-in-ExplainPolicy.new.input) (g.S.Source.faults c.replay_file-in-ExplainPolicy.new.input) (g.K.Sink.held c.replay_file-in-ExplainPolicy.new.out) (g.K.Sink.faults c.replay_file-in-ExplainPolicy.new.out)
+    (g.L.Links.told c.args.links.now) (g.L.Links.is_reliable c.args.links.now) (g.L.Links.faults c.args.links.now)
+    (g.P.Spawner.faults c.args.spawner.now) c.replay_file-in-ExplainPolicy.new.steps in
+    subst (λ (x : Command). Runs hyper may before after (code_of c.replay_file-in-ExplainPolicy.result) (Some x)) (sym c.in-ExplainPolicy.is)
+    (let e = c.replay_file-in-ExplainPolicy.ensures.ends in
+    runs-unserved hyper may before after c.replay_file-in-ExplainPolicy.result
+    (Some (ExplainPolicy c.in-ExplainPolicy.name)) e.0 e.1 refl
+    (λ is has. c.replay_file-in-ExplainPolicy.ensures.whole is) e.2)
 
-pub returns-in-Serve-clause-ends : goal.returns-in-Serve-clause-ends
-returns-in-Serve-clause-ends g c =
-    let old = moment (g.S.Source.remaining c.args.input.now) (g.S.Source.faults c.args.input.now)
-    (g.K.Sink.held c.args.out.now) (g.K.Sink.faults c.args.out.now) c.args.steps.now in
-    let new = moment (g.S.Source.remaining c.args.input.now) (g.S.Source.faults c.args.input.now)
-    (g.K.Sink.held c.serve_file.new.out) (g.K.Sink.faults c.serve_file.new.out) c.args.steps.now in
-    let links = links_of (g.L.Links.told c.args.links.now) (g.L.Links.is_reliable c.args.links.now)
-    (g.L.Links.faults c.args.links.now) (g.L.Links.faults c.serve_file.new.links) in
-    let fails' = g.F.Files.faults c.serve_file.new.files in
-    subst (λ (x : Command). Ended hyper links c.serve_file.result (Some x) (g.F.Files.files c.args.files.now)
-    (g.F.Files.faults c.args.files.now) fails' old new) (sym c.in-Serve.is)
-    (c.serve_file.ensures.ends (g.S.Source.remaining c.args.input.now) (g.S.Source.faults c.args.input.now)
+pub returns-in-Serve-clause-runs : goal.returns-in-Serve-clause-runs
+returns-in-Serve-clause-runs g c =
+    let may = g.C.Clock.may c.args.clock.now in
+    let before = outside_of (g.F.Files.files c.args.files.now) (g.F.Files.faults c.args.files.now)
+    (g.S.Source.remaining c.args.input.now) (g.S.Source.faults c.args.input.now) (g.K.Sink.held c.args.out.now) (g.K.Sink.faults c.args.out.now)
+    (g.L.Links.told c.args.links.now) (g.L.Links.is_reliable c.args.links.now) (g.L.Links.faults c.args.links.now)
+    (g.P.Spawner.faults c.args.spawner.now) c.args.steps.now in
+    let after = outside_of (g.F.Files.files c.serve_file.new.files) (g.F.Files.faults c.serve_file.new.files)
+    (g.S.Source.remaining c.args.input.now) (g.S.Source.faults c.args.input.now) (g.K.Sink.held c.serve_file.new.out) (g.K.Sink.faults c.serve_file.new.out)
+    (g.L.Links.told c.serve_file.new.links) (g.L.Links.is_reliable c.serve_file.new.links) (g.L.Links.faults c.serve_file.new.links)
+    (g.P.Spawner.faults c.serve_file.new.spawner) c.args.steps.now in
+    subst (λ (x : Command). Runs hyper may before after (code_of c.serve_file.result) (Some x)) (sym c.in-Serve.is)
+    (c.serve_file.ensures.runs (g.S.Source.remaining c.args.input.now) (g.S.Source.faults c.args.input.now)
     c.args.steps.now)
 
 pub returns-in-Replay-clause-notes : goal.returns-in-Replay-clause-notes

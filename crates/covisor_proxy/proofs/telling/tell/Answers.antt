@@ -27,7 +27,7 @@ returns-in-Unread-clause-ends g c = λ files fails fails' all cut form left read
     subst (λ (x : NoPolicy). Opens files fails fails' c.args.name.now (Err x)) c.in-Unread.is o in
     subst (λ (x : Status). EndsUnopened x all cut form c.args.name.now files fails fails' old new)
     (sym c.write_fault.ensures.status)
-    (told-unread all cut form c.args.name.now files fails fails' old new refl h c.write_fault.ensures.writes)
+    (told-unread all cut form c.args.name.now files fails fails' old new refl h refl c.write_fault.ensures.writes)
 
 pub returns-in-Refused-clause-ends : goal.returns-in-Refused-clause-ends
 returns-in-Refused-clause-ends g c = λ files fails fails' all cut form left reads steps o.

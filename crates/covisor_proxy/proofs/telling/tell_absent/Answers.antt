@@ -1,5 +1,5 @@
 use Rattle.std.proofs.Common.{◌∙◌, inl, subst, sym}
-use Rattle.covisor_proxy.specs.Following.{Writes}
+use Rattle.covisor_proxy.specs.Written.{Writes}
 use Rattle.covisor_proxy.specs.Noted.{NotesNone}
 use Rattle.covisor_proxy.specs.declared.opening.NoPolicy.TheVariants.{Absent}
 use Rattle.covisor_proxy.specs.declared.status.Status.{Status}

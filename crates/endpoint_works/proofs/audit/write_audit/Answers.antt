@@ -1,35 +1,15 @@
-use Rattle.std.proofs.Common.{◌∷◌, ◌++◌, [], subst, sym, ◌∙◌}
-use Rattle.outside.specs.Outside.{Rose}
-use Rattle.sessions.proofs.Bytes.{after-err, after-ok}
-use Rattle.sessions.specs.Streams.{Appends, AppendsSome}
-use Rattle.endpoint_works.proofs.Audits.{audited-more, audited-part}
+use Rattle.endpoint_works.proofs.Audits.{audited-dropped, rose-on}
 use Rattle.endpoint_works.proofs.audit.write_audit.Goals as goal
 
-pub returns-then-is_err-clause-posted : goal.returns-then-is_err-clause-posted
-returns-then-is_err-clause-posted g c =
-    audited-part (g.D.Desk.posts c.args.pass.now) (g.D.Desk.posts c.loop.pass) (g.D.Desk.posts c.take.new.pass)
-    (g.K.Sink.held c.args.out.now) (g.K.Sink.held c.loop.out) (g.K.Sink.held c.write_line.new.out)
-    c.loop.invariant.audited
-    c.in-Message.line (rw c.in-Message.is at c.in_ok-line.ensures.posted)
-    (subst (λ z. AppendsSome (g.K.Sink.held c.loop.out) (g.K.Sink.held c.write_line.new.out) (z ++ 10 ∷ []))
-    c.as_slice.ensures
-    (after-err c.write_line.result (sym c.if-is_err.ensures.value) c.write_line.ensures.some))
+pub returns-in-WriteFault-clause-posted : goal.returns-in-WriteFault-clause-posted
+returns-in-WriteFault-clause-posted g c =
+    audited-dropped (g.D.Desk.posts c.args.pass.now) (g.D.Desk.posts c.write_lines.new.pass)
+    (g.K.Sink.held c.args.out.now) (g.K.Sink.held c.write_lines.new.out)
+    (g.D.Desk.posts c.drop_lines.new.pass) (g.K.Sink.held c.drop_lines.new.out)
+    (rw c.in-WriteFault.is at c.in_ok-end.ensures.posted) c.drop_lines.ensures.taken c.drop_lines.ensures.kept
 
-pub loop-preserved-in-Message : goal.loop-preserved-in-Message
-loop-preserved-in-Message g c = record {
-  audited = audited-more (g.D.Desk.posts c.args.pass.now) (g.D.Desk.posts c.loop.pass) (g.D.Desk.posts c.take.new.pass)
-      (g.K.Sink.held c.args.out.now) (g.K.Sink.held c.loop.out) (g.K.Sink.held c.write_line.new.out)
-      c.loop.invariant.audited
-      c.in-Message.line (rw c.in-Message.is at c.in_ok-line.ensures.posted)
-      (subst (λ z. Appends (g.K.Sink.held c.loop.out) (g.K.Sink.held c.write_line.new.out) (z ++ 10 ∷ []))
-      c.as_slice.ensures
-      (after-ok c.write_line.result (sym c.if-is_err.ensures.value) c.write_line.ensures.written));
-  faults = after-ok c.write_line.result (sym c.if-is_err.ensures.value) c.write_line.ensures.quiet
-      ∙ c.loop.invariant.faults;
-  admits = c.take.ensures.pass;
-}
-
-pub returns-then-is_err-clause-end : goal.returns-then-is_err-clause-end
-returns-then-is_err-clause-end g c =
-    subst (λ z. Rose z (g.K.Sink.faults c.write_line.new.out)) c.loop.invariant.faults
-    (after-err c.write_line.result (sym c.if-is_err.ensures.value) c.write_line.ensures.fault)
+pub returns-in-WriteFault-clause-end : goal.returns-in-WriteFault-clause-end
+returns-in-WriteFault-clause-end g c =
+    rose-on (g.K.Sink.faults c.args.out.now) (g.K.Sink.faults c.write_lines.new.out)
+    (g.K.Sink.faults c.drop_lines.new.out) c.write_lines.ensures.never_falls
+    (rw c.in-WriteFault.is at c.in_ok-end.ensures.end) c.drop_lines.ensures.never_falls

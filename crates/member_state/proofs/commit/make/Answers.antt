@@ -1,7 +1,6 @@
 use Rattle.std.proofs.Common.{◌≡◌, ◌∙◌, ap}
-use Rattle.level_map.specs.Levels.{Levels}
 use Rattle.level_map.proofs.Rising.{ranks_of_rising}
-use Rattle.member_table.specs.Tables.{TableOf}
+use Rattle.member_table.specs.Tables.{Held, TableOf}
 use Rattle.member_state.specs.InsideRanks.{without_unused}
 use Rattle.member_state.specs.Plans.{after_planned, planned_table, without_all}
 use Rattle.member_state.specs.States.{HeldState, held_by}
@@ -17,14 +16,15 @@ returns c =
     let p = c.args.planned in
     let now = c.args.now in
     let h : HeldState = held_by c.args.table.now c.args.levels.now in
-    let dropped : c.drop_each.new.table.table ≡ planned_table h.state.table p = c.drop_each.ensures
-    ∙ (ap (λ ss. without_all ss c.commit.new.self.table) c.as_slice.ensures
-    ∙ ap (without_all p.dropped) c.commit.ensures.table) in
+    let dropped : c.drop_serials.new.self.table ≡ planned_table h.state.table p = c.drop_serials.ensures.table
+    ∙ ap (without_all p.dropped) c.commit.ensures.table in
     let touched : c.touch_each.new.table.table ≡ table_touched p.touched now (planned_table h.state.table p) =
     c.touch_each.ensures
-    ∙ (ap (λ ss. table_touched ss now c.drop_each.new.table.table) c.as_slice-2.ensures
+    ∙ (ap (λ ss. table_touched ss now c.drop_serials.new.self.table) c.as_slice.ensures
     ∙ ap (table_touched p.touched now) dropped) in
+    let looked : c.look_ahead_unless.new.table.table ≡ table_touched p.touched now (planned_table h.state.table p) =
+    ap (λ (t : Held). t.table) c.look_ahead_unless.ensures ∙ touched in
     let levels : c.drop_all_unused.new.levels ≡ (after_planned h.state p now).levels = c.drop_all_unused.ensures
-    ∙ (ap (λ ss. without_unused c.touch_each.new.table.table.entries ss p.levels) c.as_slice-3.ensures
-    ∙ (ap (λ (u : TableOf). without_unused u.entries p.ranks p.levels) touched ∙ levels_made h p now c.requires)) in
-    λ i. record { table = touched i; levels = levels i }
+    ∙ (ap (λ ss. without_unused c.look_ahead_unless.new.table.table.entries ss p.levels) c.as_slice-2.ensures
+    ∙ (ap (λ (u : TableOf). without_unused u.entries p.ranks p.levels) looked ∙ levels_made h p now c.requires)) in
+    λ i. record { table = looked i; levels = levels i }

@@ -15,7 +15,7 @@ loop-n-preserved c =
     let dpids = map dpid_of c.args.switches.now in
     let make = switch_place c.args.listen.now rounds dpids in
     let item = λ (listen ids : List ℕ). let y : Place =
-    record { end = ends.Switch n listen rounds; side = sides.Switch ids } in y in
+    record { end = ends.Switch n listen rounds x.dpid; side = sides.Switch ids } in y in
     c.in_ok-push.ensures.pushed
     ∙ (ap (λ listen. c.loop-n.places ++ item listen c.in_ok-dpids.field-0 ∷ []) c.in_ok-copy.ensures
     ∙ (ap (λ ids. c.loop-n.places ++ item c.args.listen.now ids ∷ []) c.in_ok-dpids.ensures

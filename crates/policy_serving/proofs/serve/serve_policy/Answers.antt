@@ -20,19 +20,20 @@ returns-in-Ok-clause-serves g c =
     let start = data_in c.in-Ok.machine in
     let told = g.L.Links.told c.args.links.now in
     let reliable = g.L.Links.is_reliable c.args.links.now in
+    let may = g.C.Clock.may c.args.clock.now in
     let held = g.K.Sink.held c.args.out.now in
     let written = g.K.Sink.held c.serve.new.out in
     let faults = g.L.Links.faults c.args.links.now in
     let risen = g.L.Links.faults c.serve.new.links in
     let here = c.in-Ok.ensures.opening in
     let serves =
-    subst (λ (places : List Place). Serves hyper start told reliable lines_taken places held written faults risen
+    subst (λ (places : List Place). Serves hyper start told reliable may lines_taken places held written faults risen
     c.serve.result)
     c.in-Ok.ensures.places c.serve.ensures.serves in
     record {
       start = start;
       opening = here;
-      serves = made hyper c.audit_is_kept.ensures start (none_waits c.args.policy start here) refl told reliable
+      serves = made hyper c.audit_is_kept.ensures start (none_waits c.args.policy start here) refl told reliable may
           (places_of c.args.policy) held written faults risen c.serve.result serves;
     }
 

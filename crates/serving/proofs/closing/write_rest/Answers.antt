@@ -5,8 +5,8 @@ use Rattle.sessions.specs.Streams.{Appends, AppendsSome}
 use Rattle.serving.proofs.Endings.{wrote-more, wrote-part}
 use Rattle.serving.proofs.closing.write_rest.Goals as goal
 
-pub returns-then-is_err : goal.returns-then-is_err
-returns-then-is_err g c =
+pub returns-then-is_err-clause-ends : goal.returns-then-is_err-clause-ends
+returns-then-is_err-clause-ends g c =
     let t = rw c.in-Ok-Some.field-0-is at c.in-Ok-Some.ensures.taken in (
       wrote-part g.H.Machine.Machine (g.H.Machine.Machine.meaning c.args.machine.now)
           (g.H.Machine.Machine.meaning c.loop.machine)

@@ -50,8 +50,12 @@ loop-line-preserved g c =
             c.reader.ensures.since,
             c.reader.ensures.side,
             c.reader.ensures.dial,
-          )
-          (c.writer.ensures.pass, c.writer.ensures.lock, c.writer.ensures.since));
+          ) (
+            c.writer.ensures.pass,
+            c.writer.ensures.lock,
+            c.writer.ensures.since,
+            c.writer.ensures.clock ∙ c.in_ok-clock.ensures,
+          ));
     }
 
 pub returns : goal.returns

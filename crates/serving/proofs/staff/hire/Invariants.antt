@@ -14,7 +14,7 @@ invariant-loop-line g l = record {
   seats : l.fn.seats ≡ used ++ l.seats.items;
   handovers : l.number + length l.lines.items ≡ length l.office.handovers.now;
   even : length l.seats.items ≡ 2 * length l.lines.items;
-  teams : AreTeams (IsReaderFor l.office.lock.now) (IsWriterFor l.office.lock.now) done used l.tasks;
+  teams : AreTeams (IsReaderFor l.office.lock.now) (IsWriterFor l.office.lock.now l.office.clock.now) done used l.tasks;
 }
 
 abbrev pub decreases-loop-line : goal.decreases-loop-line

@@ -110,14 +110,17 @@ returns-clause-worked g c =
           subst
           (AreTeams (HasRead {M = g.row.H-Machine.Denot} {S = g.row.H-Machine-State.Denot} {D = g.row.D.Denot}
           g.H.Machine.Machine lock
-          g.D.Dial.left g.D.Dial.is_reliable gathered.failed gathered.wanted) (HasWritten lock) c.args.lines
+          g.D.Dial.left g.D.Dial.is_reliable gathered.failed gathered.wanted)
+          (HasWritten lock (g.C.Clock.may c.args.office.now.clock.now)) c.args.lines
           c.pop.new.self)
           (sym c.gather-gathered.ensures.seats)
-          (worked-teams g.H.Machine.Machine lock g.D.Dial.left g.D.Dial.is_reliable _ gathered.failed gathered.wanted
+          (worked-teams g.H.Machine.Machine lock g.D.Dial.left g.D.Dial.is_reliable g.C.Clock.may
+          c.args.office.now.clock.now _ gathered.failed gathered.wanted
           c.args.lines
           c.pop.new.self c.in_ok-tasks.tasks now c.in_ok-tasks.ensures c.all_at_work-end.ensures.done
           (sym c.gather-gathered.ensures.failed) (sym c.gather-gathered.ensures.wanted));
-      dials = worked-well g.H.Machine.Machine lock g.D.Dial.left g.D.Dial.is_reliable _ gathered.failed gathered.wanted
+      dials = worked-well g.H.Machine.Machine lock g.D.Dial.left g.D.Dial.is_reliable g.C.Clock.may
+          c.args.office.now.clock.now _ gathered.failed gathered.wanted
           c.args.lines
           c.pop.new.self c.in_ok-tasks.tasks now c.in_ok-tasks.ensures c.all_at_work-end.ensures.done
           (sym c.gather-gathered.ensures.failed);

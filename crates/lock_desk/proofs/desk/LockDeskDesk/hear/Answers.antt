@@ -1,7 +1,7 @@
 use Rattle.std.proofs.Common.{sym, subst, ◌∙◌}
 use Rattle.sessions.specs.Posts.{AddsHeard, IsRefusedWhere, message}
 use Rattle.lock_desk.specs.Passes.{HasEnded, own_posts}
-use Rattle.lock_desk.proofs.Posts.{admitted, heard_posts}
+use Rattle.lock_desk.proofs.Posts.{admitted, heard_posts, still_shows}
 use Rattle.lock_desk.proofs.desk.LockDeskDesk.hear.Goals as goal
 
 pub returns-clause-posted : goal.returns-clause-posted
@@ -37,3 +37,13 @@ returns-clause-pass g c =
     c.requires.pass.2
     c.post.ensures.seat c.post.ensures.seen in
     (c.requires.pass.0, a.0, a.1)
+
+pub returns-in_err-receipt-clause-shown : goal.returns-in_err-receipt-clause-shown
+returns-in_err-receipt-clause-shown g c =
+    still_shows g.H.Machine.Machine g.H.Host.is_at g.met.H.Host.stays_told c.args.seat.now.pass
+    c.post.new.seat.pass c.post.ensures.seat.1 c.post.ensures.seen
+
+pub returns-clause-shown : goal.returns-clause-shown
+returns-clause-shown g c =
+    still_shows g.H.Machine.Machine g.H.Host.is_at g.met.H.Host.stays_told c.args.seat.now.pass
+    c.post.new.seat.pass c.post.ensures.seat.1 c.post.ensures.seen

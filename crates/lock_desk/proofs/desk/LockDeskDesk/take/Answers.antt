@@ -1,7 +1,7 @@
 use Rattle.std.proofs.Common.{refl, sym, subst, ◌∙◌}
 use Rattle.sessions.specs.Posts.{AddsTaken, Finds}
 use Rattle.lock_desk.specs.Passes.{HasEnded, Waits, own_posts}
-use Rattle.lock_desk.proofs.Posts.{admitted, taken_posts}
+use Rattle.lock_desk.proofs.Posts.{admitted, still_shows, taken_posts}
 use Rattle.lock_desk.proofs.desk.LockDeskDesk.take.Goals as goal
 
 pub returns-clause-posted : goal.returns-clause-posted
@@ -35,3 +35,13 @@ returns-clause-pass g c =
     c.requires.2
     c.post.ensures.seat c.post.ensures.seen in
     (c.requires.0, a.0, a.1)
+
+pub returns-in_err-receipt-clause-shown : goal.returns-in_err-receipt-clause-shown
+returns-in_err-receipt-clause-shown g c =
+    still_shows g.H.Machine.Machine g.H.Host.is_at g.met.H.Host.stays_told c.args.seat.now.pass
+    c.post.new.seat.pass c.post.ensures.seat.1 c.post.ensures.seen
+
+pub returns-clause-shown : goal.returns-clause-shown
+returns-clause-shown g c =
+    still_shows g.H.Machine.Machine g.H.Host.is_at g.met.H.Host.stays_told c.args.seat.now.pass
+    c.post.new.seat.pass c.post.ensures.seat.1 c.post.ensures.seen

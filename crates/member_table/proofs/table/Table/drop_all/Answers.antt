@@ -10,6 +10,6 @@ invariant_of-self c =
     → Type 0 = λ serials. SameItems (filter (remains serials c.args.place) c.self.inside.ranks.items)
     c.remove_all.new.self.items in
     kept_filter (remains c.args.serials c.args.place) c.self.inside.next c.self.inside.limit c.self.inside.room
-    c.self.inside.order _ c.self.inside.ranks _ c.self.invariant
+    c.self.inside.soonest c.self.inside.order _ c.self.inside.ranks _ c.self.invariant
     c.remove_all-2.ensures.entries c.remove_all-2.ensures.room (subst S c.as_slice.ensures c.remove_all.ensures.items)
     c.remove_all.ensures.room

@@ -15,12 +15,12 @@ invariant_of-self c =
     (sym c.in-Some.ensures.removed)) in
     let S : ℕ → Type 0 = λ s. SameItems (filter (λ r. not (has_id s r)) items) c.remove-in-Some.new.self.items in
     kept_filter (λ r. not (has_id c.args.serial r)) c.self.inside.next c.self.inside.limit c.self.inside.room
-    c.self.inside.order _ c.self.inside.ranks _ c.self.invariant c.remove.ensures.entries c.remove.ensures.room
+    c.self.inside.soonest c.self.inside.order _ c.self.inside.ranks _ c.self.invariant c.remove.ensures.entries c.remove.ensures.room
     (subst S (sym own) c.remove-in-Some.ensures.items) c.remove-in-Some.ensures.room
 
 pub invariant_of-self-in-None : goal.invariant_of-self-in-None
 invariant_of-self-in-None c = kept_none c.args.serial c.self.inside.next c.self.inside.limit c.self.inside.room
-    c.self.inside.order _ c.self.inside.ranks c.self.invariant c.remove.ensures.entries c.remove.ensures.room
+    c.self.inside.soonest c.self.inside.order _ c.self.inside.ranks c.self.invariant c.remove.ensures.entries c.remove.ensures.room
     c.in-None.ensures.removed
 
 pub returns-in-Some-clause-found : goal.returns-in-Some-clause-found

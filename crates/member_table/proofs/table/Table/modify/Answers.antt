@@ -1,6 +1,7 @@
 use Rattle.std.proofs.Common.{refl, if◌then◌else◌}
 use Rattle.member_table.specs.Entries.{identity_of, has_serial}
 use Rattle.member_table.specs.Sound.{IsAsWritten}
+use Rattle.member_table.specs.InsideKept.{IsQuietUntil}
 use Rattle.member_table.specs.declared.entry.Entry.{Entry}
 use Rattle.member_table.proofs.Sounds.{either_has, either_way}
 use Rattle.member_table.proofs.Kept.{kept_map}
@@ -14,5 +15,8 @@ invariant_of-self c =
     (λ e. either_way identity_of (has_serial c.args.modified.serial e) (changed e) e refl)
     (λ e w. either_has IsAsWritten (has_serial c.args.modified.serial e) (changed e) e
     (record { read = w.read; ranked = w.ranked; normal = w.normal; actions = c.requires }) w)
-    c.self.inside.next c.self.inside.limit c.self.inside.room c.self.inside.order _ c.self.inside.ranks c.self.invariant
+    c.self.inside.next c.self.inside.limit c.self.inside.room c.self.inside.soonest c.self.inside.soonest c.self.inside.order _
+    c.self.inside.ranks
+    (λ e q. either_has (IsQuietUntil c.self.inside.soonest) (has_serial c.args.modified.serial e) (changed e) e q q)
+    c.self.invariant
     c.set_actions.ensures.entries c.set_actions.ensures.room

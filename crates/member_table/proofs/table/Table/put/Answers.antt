@@ -1,4 +1,4 @@
-use Rattle.std.proofs.Common.{◌≡◌, ◌<◌, ◌+◌, ◌^◌, ◌∙◌, sym, ap, false, subst, map, Option}
+use Rattle.std.proofs.Common.{arith, ◌≡◌, ◌<◌, ◌+◌, ◌^◌, ◌∙◌, sym, ap, false, subst, map, Option}
 use Rattle.std.specs.List.{list_any}
 use Rattle.match_index.specs.Items.{has_id}
 use Rattle.match_index.specs.declared.item.Item.{Item}
@@ -37,8 +37,9 @@ invariant_of-self c =
     c.exchange.new.self.items in
     let O : Option Entry
     → Type 0 = λ o. Exchanges o (ranked_of c.args.entry) c.self.inside.ranks.items c.exchange.new.self.items in
-    kept_put c.args.entry c.self.inside.next c.self.inside.limit c.self.inside.room c.self.inside.order _
-    c.self.inside.ranks _ c.self.invariant next (subst More (sym c.self.view_is) c.requires.more) c.requires.written
+    kept_put c.args.entry c.self.inside.next c.self.inside.limit c.self.inside.room c.self.inside.soonest c.min-self-inside.result
+    c.self.inside.order _ c.self.inside.ranks _ (omega (arith, c.min-self-inside.ensures))
+    (λ now h. c.soonest.ensures now (omega (arith, c.min-self-inside.ensures))) c.self.invariant next (subst More (sym c.self.view_is) c.requires.more) c.requires.written
     (subst Blocked (sym c.self.view_is) c.requires.apart) (subst Room (sym c.self.view_is) c.requires.room)
     c.put-replaced.ensures.entries c.put-replaced.ensures.room
     (subst O c.put-replaced.ensures.replaced (subst E c.item_of-item.ensures c.exchange.ensures.items))

@@ -1,9 +1,10 @@
-use Rattle.std.proofs.Common.{refl, if◌then◌else◌}
+use Rattle.std.proofs.Common.{arith, refl, if◌then◌else◌}
 use Rattle.member_table.specs.Entries.{identity_of, has_serial}
 use Rattle.member_table.specs.Sound.{IsAsWritten}
+use Rattle.member_table.specs.InsideKept.{IsQuietUntil}
 use Rattle.member_table.specs.declared.entry.Entry.{Entry}
 use Rattle.member_table.proofs.Sounds.{either_has, either_way}
-use Rattle.member_table.proofs.Kept.{kept_map}
+use Rattle.member_table.proofs.Kept.{earlier, kept_map, quiet_touched}
 use Rattle.member_table.proofs.table.Table.touch.Goals as goal
 
 pub invariant_of-self : goal.invariant_of-self
@@ -14,5 +15,9 @@ invariant_of-self c =
     (λ e. either_way identity_of (has_serial c.args.serial e) (changed e) e refl)
     (λ e w. either_has IsAsWritten (has_serial c.args.serial e) (changed e) e
     (record { read = w.read; ranked = w.ranked; normal = w.normal; actions = w.actions }) w)
-    c.self.inside.next c.self.inside.limit c.self.inside.room c.self.inside.order _ c.self.inside.ranks c.self.invariant
+    c.self.inside.next c.self.inside.limit c.self.inside.room c.self.inside.soonest c.min-self-inside.result c.self.inside.order _
+    c.self.inside.ranks
+    (λ e q. either_has (IsQuietUntil c.min-self-inside.result) (has_serial c.args.serial e) (changed e) e
+    (quiet_touched c.self.inside.soonest c.args.now c.min-self-inside.result c.min-self-inside.ensures e q)
+    (earlier c.self.inside.soonest c.min-self-inside.result (omega (arith, c.min-self-inside.ensures)) e q)) c.self.invariant
     c.set_last.ensures.entries c.set_last.ensures.room

@@ -1,0 +1,7 @@
+use Rattle.hyper_core.specs.contracts.machine.HyperMachine.TheImpl.{ghosts as hyper}
+use Rattle.covisor_proxy.proofs.Running.{absent_run}
+use Rattle.covisor_proxy.proofs.laws.seven_is_absent.Goals as goal
+
+pub returns : goal.returns
+returns g c = λ clock before after answer command run e.
+    absent_run hyper (g.C.Clock.may clock) before after answer command run e

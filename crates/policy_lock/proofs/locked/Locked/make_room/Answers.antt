@@ -1,7 +1,0 @@
-use Rattle.std.proofs.Common.{rules}
-use Rattle.policy_lock.proofs.Stand.{restarts}
-use Rattle.policy_lock.proofs.locked.Locked.make_room.Goals as goal
-
-pub returns-clause-same : goal.returns-clause-same
-returns-clause-same g c = restarts g.M.Machine g.row.M-State.coded c.args.self.now _ (search rules) (search rules)
-    (search rules) (search rules)

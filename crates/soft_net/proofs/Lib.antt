@@ -1,0 +1,12 @@
+pub mod Rising
+pub mod Listing
+pub mod Keeping
+pub mod Putting
+pub mod Finding
+pub mod Outcomes
+pub mod Selected
+pub mod Changed
+pub mod Written
+pub mod Alike
+pub mod Netting
+pub mod Onward

@@ -1,0 +1,10 @@
+use Rattle.std.proofs.Common.{◌≡◌, ◌++◌, drop, find}
+use Rattle.std.specs.Prelude.{flat_map}
+use Rattle.soft_net.specs.Entries.{has_serial}
+use Rattle.soft_net.specs.InsideTables.{number_if}
+use Rattle.soft_net.proofs.table.Table.with_output.Given as goal
+
+-- what was told so far, and then what is told of those that are left
+abbrev pub invariant-loop-serial : goal.invariant-loop-serial
+invariant-loop-serial l = l.found ++ flat_map (λ s. number_if l.out_port (find (has_serial s) l.self.entries)) (drop l.serial-index l.serials)
+    ≡ flat_map (λ s. number_if l.out_port (find (has_serial s) l.self.entries)) l.serials

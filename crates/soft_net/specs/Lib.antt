@@ -1,0 +1,10 @@
+pub mod Entries
+pub mod Tables
+pub mod Changes
+pub mod Answers
+pub mod InsideTables
+pub mod Tags
+pub mod Passing
+pub mod Counting
+pub mod Alike
+pub mod Nets

@@ -1,0 +1,4 @@
+pub mod Apart
+pub mod Bounds
+pub mod Crowds
+pub mod Places

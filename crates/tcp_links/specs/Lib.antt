@@ -1,0 +1,4 @@
+pub mod Pauses
+pub mod Settings
+pub mod Sparing
+pub mod Verdicts
